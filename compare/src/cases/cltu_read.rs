@@ -1,0 +1,107 @@
+//! Reading a CLTU.
+
+use super::{Operation, Room, GUARD, ROOMS};
+use crate::check::{agree, show_answers, show_first_difference, show_octets, Tally};
+use crate::inputs;
+use crate::library;
+use crate::random::Random;
+use independent::cltu::{self, Read, START_SEQUENCE, TAIL_SEQUENCE};
+use independent::fault::Fault;
+use independent::refusal::{DONE, LENGTH, NO_BLOCK, NO_END, NO_START, ROOM};
+
+pub const READ: Operation = Operation {
+    name: "cltu_read",
+    share: 45,
+    numbers: &[
+        (DONE, "done"),
+        (NO_START, "no start"),
+        (NO_BLOCK, "no block"),
+        (NO_END, "no end"),
+        (LENGTH, "length"),
+        (ROOM, "room"),
+    ],
+    fixed: read_fixed,
+    random: read_random,
+};
+
+/// Document 01, Limits, Refusals and Codeblock and CLTU.
+fn read_fixed(tally: &mut Tally, fault: Fault) {
+    let codeblock = inputs::with_error_control(&[0; 7]);
+    let start_and_tail = [&START_SEQUENCE[..], &TAIL_SEQUENCE].concat();
+    let one_codeblock = [&START_SEQUENCE[..], &codeblock].concat();
+    let whole = [&one_codeblock[..], &TAIL_SEQUENCE].concat();
+    let longest = [&whole[..], &[0; 4096 - 18]].concat();
+    let too_long = [&longest[..], &[0]].concat();
+
+    let fixed: [(&[u8], usize, u8, u64, u64); 14] = [
+        (&[], 0, NO_START, 0, 0),
+        (&[0xEB], 20, NO_START, 0, 1),
+        (&[0; 4096], 20, NO_START, 0, 4096),
+        (&START_SEQUENCE, 20, NO_END, 0, 2),
+        (&[0xEB, 0xEB, 0x90], 20, NO_END, 0, 3),
+        (&start_and_tail[..9], 20, NO_END, 0, 2),
+        (&start_and_tail, 20, NO_BLOCK, 0, 2),
+        (&one_codeblock, 20, NO_END, 0, 10),
+        (&whole[..17], 0, NO_END, 0, 10),
+        (&whole, 7, DONE, 7, 10),
+        (&whole, 6, ROOM, 0, 0),
+        (&longest, 7, DONE, 7, 10),
+        (&too_long, 7, LENGTH, 0, 0),
+        (&[0; 65_536], 20, LENGTH, 0, 0),
+    ];
+    for (input, lent, number, count, place) in fixed {
+        let buffer = vec![0xA5; lent + GUARD];
+        let paper = Read {
+            number,
+            count,
+            place,
+            corrected: 0,
+        };
+        read(input, buffer, Some(paper), tally, fault);
+    }
+}
+
+fn read_random(random: &mut Random, tally: &mut Tally, fault: Fault) {
+    let input = inputs::for_the_reader(random);
+
+    // The exact need, and where the input is refused more than could be decoded.
+    let answer = cltu::read(&input, &mut vec![0; input.len()], Fault::None);
+    let need = if answer.number == DONE {
+        answer.count as usize
+    } else {
+        input.len()
+    };
+    let room = if random.once_in(2) {
+        Room::Exact
+    } else {
+        *random.pick(&ROOMS)
+    };
+    let lent = room.octets(need, random);
+
+    let buffer = random.octets(lent + GUARD);
+    read(&input, buffer, None, tally, fault);
+}
+
+/// All of the buffer but its guard is lent.
+fn read(input: &[u8], buffer: Vec<u8>, paper: Option<Read>, tally: &mut Tally, fault: Fault) {
+    let lent = buffer.len() - GUARD;
+
+    let mut library_input = input.to_vec();
+    let mut library_buffer = buffer.clone();
+    let library = library::cltu_read(&mut library_input, &mut library_buffer, lent);
+
+    let mut independent_buffer = buffer;
+    let independent = cltu::read(input, &mut independent_buffer[..lent], fault);
+
+    tally.meet(library.number);
+    let same = agree(&library, &independent, &paper)
+        && library_buffer == independent_buffer
+        && library_input == input;
+    tally.compared(same, || {
+        show_octets("input", input)
+            + &format!("  lent output: {lent} octets\n")
+            + &show_answers(&library, &independent, &paper)
+            + &show_first_difference("output", &library_buffer, &independent_buffer)
+            + &show_first_difference("input", &library_input, input)
+    });
+}

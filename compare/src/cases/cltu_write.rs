@@ -1,0 +1,81 @@
+//! Writing a CLTU.
+
+use super::{Operation, GUARD, ROOMS};
+use crate::check::{agree, show_answers, show_first_difference, show_octets, Tally};
+use crate::library;
+use crate::random::Random;
+use independent::cltu::{self, Written};
+use independent::fault::Fault;
+use independent::refusal::{DONE, LENGTH, ROOM};
+
+pub const WRITE: Operation = Operation {
+    name: "cltu_write",
+    share: 20,
+    numbers: &[(DONE, "done"), (LENGTH, "length"), (ROOM, "room")],
+    fixed: write_fixed,
+    random: write_random,
+};
+
+/// Frame length, lent output, number, count: document 01, Limits, Refusals and
+/// Codeblock and CLTU.
+const FIXED: [(usize, usize, u8, u64); 9] = [
+    (8, 26, DONE, 26),
+    (256, 306, DONE, 306),
+    (8, 25, ROOM, 0),
+    (256, 305, ROOM, 0),
+    (0, 400, LENGTH, 0),
+    (7, 0, LENGTH, 0),
+    (257, 400, LENGTH, 0),
+    (256 + 8, 400, LENGTH, 0),
+    (65_536 + 8, 400, LENGTH, 0),
+];
+
+fn write_fixed(tally: &mut Tally, fault: Fault) {
+    for (length, lent, number, count) in FIXED {
+        let buffer = vec![0xA5; lent + GUARD];
+        write(
+            &vec![0; length],
+            buffer,
+            Some(Written { number, count }),
+            tally,
+            fault,
+        );
+    }
+}
+
+/// Every length from 0 to 300 with every kind of room, one after the other.
+fn write_random(random: &mut Random, tally: &mut Tally, fault: Fault) {
+    let turn = tally.inputs as usize;
+    let length = turn % 301;
+    let room = ROOMS[(turn / 301) % ROOMS.len()];
+    let need = 2 + 8 * length.div_ceil(7) + 8;
+    let lent = room.octets(need, random);
+
+    let frame = random.octets(length);
+    let buffer = random.octets(lent + GUARD);
+    write(&frame, buffer, None, tally, fault);
+}
+
+/// All of the buffer but its guard is lent.
+fn write(frame: &[u8], buffer: Vec<u8>, paper: Option<Written>, tally: &mut Tally, fault: Fault) {
+    let lent = buffer.len() - GUARD;
+
+    let mut library_frame = frame.to_vec();
+    let mut library_buffer = buffer.clone();
+    let library = library::cltu_write(&mut library_frame, &mut library_buffer, lent);
+
+    let mut independent_buffer = buffer;
+    let independent = cltu::write(frame, &mut independent_buffer[..lent], fault);
+
+    tally.meet(library.number);
+    let same = agree(&library, &independent, &paper)
+        && library_buffer == independent_buffer
+        && library_frame == frame;
+    tally.compared(same, || {
+        show_octets("frame", frame)
+            + &format!("  lent output: {lent} octets\n")
+            + &show_answers(&library, &independent, &paper)
+            + &show_first_difference("output", &library_buffer, &independent_buffer)
+            + &show_first_difference("frame", &library_frame, frame)
+    });
+}

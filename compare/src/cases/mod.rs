@@ -1,0 +1,64 @@
+//! The operations compared. Each has its module with its fixed cases, which the papers
+//! answer, and its random ones.
+
+use crate::check::Tally;
+use crate::random::Random;
+use independent::fault::Fault;
+
+mod cltu_read;
+mod cltu_write;
+mod codeblock;
+mod randomizer;
+
+pub struct Operation {
+    pub name: &'static str,
+    /// Its share of the random inputs.
+    pub share: usize,
+    /// The numbers that it can answer, by name; none where it answers an octet.
+    pub numbers: &'static [(u8, &'static str)],
+    /// Compares the fixed cases.
+    pub fixed: fn(&mut Tally, Fault),
+    /// Compares one random input.
+    pub random: fn(&mut Random, &mut Tally, Fault),
+}
+
+pub const OPERATIONS: [Operation; 5] = [
+    codeblock::ERROR_CONTROL,
+    codeblock::IS_GOOD,
+    randomizer::OCTET,
+    cltu_write::WRITE,
+    cltu_read::READ,
+];
+
+/// So many octets of an output buffer lie behind the lent part.
+const GUARD: usize = 16;
+
+/// The length of a lent output, against the octets needed.
+#[derive(Clone, Copy)]
+enum Room {
+    Exact,
+    OneLess,
+    Zero,
+    Larger,
+    AnySmaller,
+}
+
+const ROOMS: [Room; 5] = [
+    Room::Exact,
+    Room::OneLess,
+    Room::Zero,
+    Room::Larger,
+    Room::AnySmaller,
+];
+
+impl Room {
+    fn octets(self, need: usize, random: &mut Random) -> usize {
+        match self {
+            Room::Exact => need,
+            Room::OneLess => need.saturating_sub(1),
+            Room::Zero => 0,
+            Room::Larger => need + random.between(1, 20),
+            Room::AnySmaller => random.between(0, need),
+        }
+    }
+}

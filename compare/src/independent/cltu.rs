@@ -1,0 +1,303 @@
+//! The CLTU: start sequence, codeblocks, tail sequence (clause 8.3.1),
+//! written and read by the rules of document 01.
+
+use crate::bits;
+use crate::codeblock::{self, CODEBLOCK_BITS, INFORMATION_BITS};
+use crate::fault::Fault;
+use crate::randomizer;
+use crate::refusal::{DONE, LENGTH, NO_BLOCK, NO_END, NO_START, ROOM};
+
+/// Clause 8.3.2.
+pub const START_SEQUENCE: [u8; 2] = [0xEB, 0x90];
+
+/// Clause 8.3.4.
+pub const TAIL_SEQUENCE: [u8; 8] = [0xC5, 0xC5, 0xC5, 0xC5, 0xC5, 0xC5, 0xC5, 0x79];
+
+/// Alternating ones and zeros, starting with a zero (clause 8.6).
+const FILL: u8 = 0x55;
+
+/// Limits of a frame and of the reader's input, in octets (document 01, Limits).
+const FRAME_LEAST: usize = 8;
+const FRAME_MOST: usize = 256;
+const INPUT_MOST: usize = 4096;
+
+/// The answer of writing.
+#[derive(Clone, Copy, PartialEq, Eq, Debug)]
+pub struct Written {
+    /// The number of document 01, Refusals.
+    pub number: u8,
+    /// The octets written.
+    pub count: u64,
+}
+
+/// The answer of reading.
+#[derive(Clone, Copy, PartialEq, Eq, Debug)]
+pub struct Read {
+    /// The number of document 01, Refusals.
+    pub number: u8,
+    /// The octets handed out.
+    pub count: u64,
+    /// The place in the input, in octets.
+    pub place: u64,
+    /// The bits corrected: none, since error correction is out (document 01, Extent).
+    pub corrected: u64,
+}
+
+/// The CLTU of a frame of any length.
+pub fn encode(frame: &[u8], fault: Fault) -> Vec<u8> {
+    // Fill completes the last codeblock (clause 8.6).
+    let mut data = bits::from_octets(frame);
+    let fill = if fault == Fault::FillZero { 0 } else { FILL };
+    while data.len() % INFORMATION_BITS != 0 {
+        data.extend(bits::from_octets(&[fill]));
+    }
+
+    // Data and fill are randomized before they are encoded (clauses 8.4.2 and 8.4.4).
+    let randomized = randomizer::apply(&data, fault);
+
+    let mut cltu = bits::from_octets(&START_SEQUENCE);
+    for information in randomized.chunks(INFORMATION_BITS) {
+        cltu.extend(information);
+        cltu.extend(codeblock::error_control(information, fault));
+    }
+    cltu.extend(bits::from_octets(&TAIL_SEQUENCE));
+    bits::to_octets(&cltu)
+}
+
+/// Writes a frame as a CLTU (document 01, Refusals: 10, then 11).
+pub fn write(frame: &[u8], output: &mut [u8], fault: Fault) -> Written {
+    if frame.len() < FRAME_LEAST || frame.len() > FRAME_MOST {
+        return Written {
+            number: LENGTH,
+            count: 0,
+        };
+    }
+    let cltu = encode(frame, fault);
+    if output.len() < cltu.len() {
+        return Written {
+            number: ROOM,
+            count: 0,
+        };
+    }
+    hand_out(&cltu, output, fault);
+    Written {
+        number: DONE,
+        count: cltu.len() as u64,
+    }
+}
+
+/// Reads a CLTU (document 01, Refusals: 10, 1, then 2 or 3, then 11).
+pub fn read(input: &[u8], output: &mut [u8], fault: Fault) -> Read {
+    if input.len() > INPUT_MOST {
+        return refuse(LENGTH, 0);
+    }
+
+    // Search (clause 8.7, state S2).
+    let received = bits::from_octets(input);
+    let Some(start) = find_start_sequence(&received, fault) else {
+        return refuse(NO_START, received.len());
+    };
+
+    // Decode (clause 8.7, state S3), until a codeblock is rejected (event E4).
+    let mut next = start + 8 * START_SEQUENCE.len();
+    let mut data = Vec::new();
+    loop {
+        if received.len() - next < CODEBLOCK_BITS {
+            return refuse(NO_END, next);
+        }
+        let block = &received[next..next + CODEBLOCK_BITS];
+        if !codeblock::is_good(block, fault) {
+            break;
+        }
+        data.extend(&block[..INFORMATION_BITS]);
+        next += CODEBLOCK_BITS;
+    }
+    if data.is_empty() {
+        return refuse(NO_BLOCK, next);
+    }
+
+    // The decoded data are derandomized, fill included (clauses 8.4.4 and 8.6).
+    let decoded = bits::to_octets(&randomizer::apply(&data, fault));
+    if output.len() < decoded.len() {
+        return refuse(ROOM, 0);
+    }
+    hand_out(&decoded, output, fault);
+    if fault == Fault::PlaceOffByEight {
+        next += CODEBLOCK_BITS;
+    }
+    Read {
+        number: DONE,
+        count: decoded.len() as u64,
+        place: next as u64 / 8,
+        corrected: 0,
+    }
+}
+
+/// The bit at which the first start sequence begins: sixteen bits equal to it, at an
+/// octet boundary (document 01, Codeblock and CLTU).
+fn find_start_sequence(received: &[bool], fault: Fault) -> Option<usize> {
+    if fault == Fault::RefusesAll {
+        return None;
+    }
+    let pattern = bits::from_octets(&START_SEQUENCE);
+    let mut first = 0;
+    while first + pattern.len() <= received.len() {
+        let sixteen = &received[first..first + pattern.len()];
+        if sixteen == pattern {
+            return Some(first);
+        }
+        if fault == Fault::StartOneError {
+            let errors = sixteen
+                .iter()
+                .zip(&pattern)
+                .filter(|(one, other)| one != other)
+                .count();
+            if errors == 1 {
+                return Some(first);
+            }
+        }
+        first += 8;
+    }
+    None
+}
+
+/// A refusal, with its place given in bits.
+fn refuse(number: u8, place: usize) -> Read {
+    Read {
+        number,
+        count: 0,
+        place: place as u64 / 8,
+        corrected: 0,
+    }
+}
+
+/// Only the octets handed out are touched (document 01, Refusals).
+fn hand_out(octets: &[u8], output: &mut [u8], fault: Fault) {
+    if fault == Fault::TouchesAll {
+        output.fill(0);
+    }
+    output[..octets.len()].copy_from_slice(octets);
+}
+
+#[cfg(test)]
+mod tests {
+    use super::*;
+
+    fn frame(length: usize) -> Vec<u8> {
+        (0..length).map(|n| (37 * n + 11) as u8).collect()
+    }
+
+    fn written(length: usize) -> Vec<u8> {
+        let mut output = vec![0; 400];
+        let answer = write(&frame(length), &mut output, Fault::None);
+        assert_eq!(answer.number, DONE);
+        output.truncate(answer.count as usize);
+        output
+    }
+
+    fn read_into(input: &[u8], room: usize) -> (Read, Vec<u8>) {
+        let mut output = vec![0xAA; room];
+        let answer = read(input, &mut output, Fault::None);
+        (answer, output)
+    }
+
+    // Document 01, Codeblock and CLTU: 26 for n = 8, 306 for n = 256.
+    #[test]
+    fn lengths() {
+        assert_eq!(written(8).len(), 26);
+        assert_eq!(written(256).len(), 306);
+        for length in 8..=256 {
+            assert_eq!(written(length).len(), 2 + 8 * length.div_ceil(7) + 8);
+        }
+    }
+
+    #[test]
+    fn zeros_show_the_random_sequence_and_the_fill() {
+        let mut output = [0; 26];
+        write(&[0; 8], &mut output, Fault::None);
+        assert_eq!(output[..7], [0xEB, 0x90, 0xFF, 0x39, 0x9E, 0x5A, 0x68]);
+        for k in 8..14 {
+            assert_eq!(
+                output[2 + 1 + k],
+                0x55 ^ randomizer::octet(k as u64, Fault::None)
+            );
+        }
+        assert_eq!(output[18..], TAIL_SEQUENCE);
+    }
+
+    #[test]
+    fn writing_refuses() {
+        for (length, room, number) in [
+            (0, 400, LENGTH),
+            (7, 0, LENGTH),
+            (257, 400, LENGTH),
+            (8, 25, ROOM),
+            (256, 305, ROOM),
+            (8, 26, DONE),
+        ] {
+            let mut output = vec![0xAA; room];
+            let answer = write(&frame(length), &mut output, Fault::None);
+            assert_eq!(answer.number, number);
+            if number != DONE {
+                assert_eq!(answer.count, 0);
+                assert_eq!(output, vec![0xAA; room]);
+            }
+        }
+    }
+
+    #[test]
+    fn what_is_written_is_read() {
+        for length in 8..=256usize {
+            let decoded = 7 * length.div_ceil(7);
+            let mut filled = frame(length);
+            filled.resize(decoded, FILL);
+            filled.push(0xAA);
+
+            let mut input = vec![0xEB];
+            input.extend(written(length));
+            let (answer, output) = read_into(&input, decoded + 1);
+            let place = 1 + 2 + 8 * length.div_ceil(7) as u64;
+            assert_eq!(
+                answer,
+                Read {
+                    number: DONE,
+                    count: decoded as u64,
+                    place,
+                    corrected: 0
+                }
+            );
+            assert_eq!(output, filled);
+
+            let (answer, output) = read_into(&input, decoded - 1);
+            assert_eq!(answer, refuse(ROOM, 0));
+            assert_eq!(output, vec![0xAA; decoded - 1]);
+        }
+    }
+
+    #[test]
+    fn reading_refuses() {
+        let whole = written(8);
+        let mut bad = whole.clone();
+        bad[5] ^= 1;
+        let mut long = whole.clone();
+        long.resize(4097, 0);
+        for (input, number, place) in [
+            (&long[..], LENGTH, 0),
+            (&[], NO_START, 0),
+            (&[0x90, 0xEB], NO_START, 2),
+            (&[0xEB, 0xEB, 0x90], NO_END, 3),
+            (&whole[..2], NO_END, 2),
+            (&whole[..9], NO_END, 2),
+            (&whole[..10], NO_END, 10),
+            (&whole[..18], NO_END, 18),
+            (&whole[..25], NO_END, 18),
+            (&bad[..], NO_BLOCK, 2),
+        ] {
+            let (answer, output) = read_into(input, 20);
+            assert_eq!(answer, refuse(number, 8 * place));
+            assert_eq!(output, [0xAA; 20]);
+        }
+        let (answer, _) = read_into(&long[..4096], 20);
+        assert_eq!((answer.number, answer.place), (DONE, 18));
+    }
+}

@@ -1,0 +1,126 @@
+//! Compares the proved library with the independent side on fixed and random inputs.
+//!
+//!   compare [COUNT] [--seed N] [--fault NAME]
+//!   compare --faults
+//!
+//! COUNT is the number of inputs, the fixed ones included, which are always compared.
+//! Exit status: 0 no difference; 1 differences; 2 bad usage; 3 no difference, but a
+//! number that an operation can answer was never met.
+
+mod cases;
+mod check;
+mod inputs;
+mod library;
+mod random;
+
+use cases::OPERATIONS;
+use check::Tally;
+use independent::fault::{Fault, FAULTS};
+use random::Random;
+use std::process::ExitCode;
+
+/// From so many inputs on, each number must be met.
+const ENOUGH_TO_MEET_ALL: u64 = 10_000;
+
+struct Settings {
+    count: u64,
+    seed: u64,
+    fault: Fault,
+}
+
+fn main() -> ExitCode {
+    let words: Vec<String> = std::env::args().skip(1).collect();
+    if words == ["--faults"] {
+        for (name, _) in FAULTS {
+            println!("{name}");
+        }
+        return ExitCode::from(0);
+    }
+    let Some(settings) = read_settings(&words) else {
+        eprintln!("usage: compare [COUNT] [--seed N] [--fault NAME]\n       compare --faults");
+        return ExitCode::from(2);
+    };
+    println!(
+        "{} inputs, seed {}, fault {:?}",
+        settings.count, settings.seed, settings.fault
+    );
+    let tallies = compare(&settings);
+    report(&settings, &tallies)
+}
+
+fn read_settings(words: &[String]) -> Option<Settings> {
+    let mut settings = Settings {
+        count: 200_000,
+        seed: 1,
+        fault: Fault::None,
+    };
+    let mut words = words.iter();
+    while let Some(word) = words.next() {
+        match word.as_str() {
+            "--seed" => settings.seed = words.next()?.parse().ok()?,
+            "--fault" => {
+                let name = words.next()?;
+                settings.fault = FAULTS.iter().find(|fault| fault.0 == name)?.1;
+            }
+            count => settings.count = count.parse().ok()?,
+        }
+    }
+    Some(settings)
+}
+
+/// A tally for each operation.
+fn compare(settings: &Settings) -> Vec<Tally> {
+    let mut random = Random::new(settings.seed);
+    let mut tallies = Vec::new();
+    let mut compared = 0;
+    for operation in &OPERATIONS {
+        let mut tally = Tally::new();
+        (operation.fixed)(&mut tally, settings.fault);
+        compared += tally.inputs;
+        tallies.push(tally);
+    }
+    let turns: Vec<usize> = (0..OPERATIONS.len()).collect();
+    while compared < settings.count {
+        let turn = *random.pick_by_share(&turns, |turn| OPERATIONS[*turn].share);
+        (OPERATIONS[turn].random)(&mut random, &mut tallies[turn], settings.fault);
+        compared += 1;
+    }
+    tallies
+}
+
+fn report(settings: &Settings, tallies: &[Tally]) -> ExitCode {
+    let mut inputs = 0;
+    let mut differences = 0;
+    let mut never_met = 0;
+    for (operation, tally) in OPERATIONS.iter().zip(tallies) {
+        for shown in &tally.shown {
+            print!("difference: {}\n{shown}", operation.name);
+        }
+    }
+    for (operation, tally) in OPERATIONS.iter().zip(tallies) {
+        print!(
+            "{}: {} inputs, {} differences",
+            operation.name, tally.inputs, tally.differences
+        );
+        for (number, name) in operation.numbers {
+            let met = tally.met[*number as usize];
+            print!("; {number} {name} {met}");
+            if met == 0 {
+                never_met += 1;
+            }
+        }
+        println!();
+        inputs += tally.inputs;
+        differences += tally.differences;
+    }
+    if differences > 0 {
+        println!("compared {inputs} inputs, {differences} differences");
+        return ExitCode::from(1);
+    }
+    if never_met > 0 && settings.count >= ENOUGH_TO_MEET_ALL {
+        println!("compared {inputs} inputs, 0 differences, but {never_met} numbers never met");
+        return ExitCode::from(3);
+    }
+    println!("compared {inputs} inputs, 0 differences");
+    ExitCode::from(0)
+}

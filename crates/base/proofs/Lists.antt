@@ -1,0 +1,70 @@
+-- Laws of lists for the two kinds of loop: one that fills the front of lent output place by place (`store`, `stored`), and
+-- one that scans its input (`next`, `rest`).
+use mathlib.Core.Path.{_≡_, refl, sym, ap, _∙_}
+use mathlib.Core.Bool.{true}
+use mathlib.Core.List.{List, [], _∷_, _++_}
+use Prim.Native.Nat.{ℕ, zero, suc, _+_, _-_, _<_, _≤_}
+use native.Mathlib.Nat.{le-of-suc-le-suc, not-suc-le-zero, le-refl}
+use native.Mathlib.Numerals.{add-one}
+use native.Mathlib.Omega.{arith}
+use borrow.Author.Tests.{eqb-true, eq-eqb}
+use lib.Dec.{eqb}
+use lib.ListN.{length, take, drop, getD, set, length-append, length-take, length-drop}
+use lib.Seq.{drop-cons, take-all, take-length}
+use Rattle.base.specs.Octets.{Below, same}
+use Rattle.base.proofs.Tests.{apart, both-left, both-right, both-true}
+
+-- a store takes the list that is c's up to i, and d's from there, one place on
+pub store : (c d : List ℕ) (i : ℕ) → i < length c → i < length d → set (take i c ++ drop i d) i (getD c i 0) ≡ take (i + 1) c ++ drop (i + 1) d
+store c d i h k = rw add-one (go c d i h k)
+  where
+    go : (c d : List ℕ) (i : ℕ) → i < length c → i < length d → set (take i c ++ drop i d) i (getD c i 0) ≡ take (suc i) c ++ drop (suc i) d
+    go [] d i h k = absurd (not-suc-le-zero h)
+    go (x ∷ xs) [] i h k = absurd (not-suc-le-zero k)
+    go (x ∷ xs) (y ∷ ys) zero h k = refl
+    go (x ∷ xs) (y ∷ ys) (suc i) h k = ap (λ (l : List ℕ). x ∷ l) (go xs ys i (le-of-suc-le-suc h) (le-of-suc-le-suc k))
+
+-- the same where the list and the number stored are known by equations
+pub store-by : (c d o : List ℕ) (i v : ℕ) → o ≡ take i c ++ drop i d → v ≡ getD c i 0 → i < length c → i < length d
+    → set o i v ≡ take (i + 1) c ++ drop (i + 1) d
+store-by c d o i v eo ev h k = ap (λ (l : List ℕ). set l i v) eo ∙ ap (set (take i c ++ drop i d) i) ev ∙ store c d i h k
+
+-- with all of c it is c, and d from there
+pub stored : (c d : List ℕ) (i : ℕ) → i ≡ length c → take i c ++ drop i d ≡ c ++ drop (length c) d
+stored c d i e = rw (e, take-length)
+
+-- such a list is as long as d
+pub length-stored : (c d : List ℕ) (i : ℕ) → i ≤ length c → length c ≤ length d → length (take i c ++ drop i d) ≡ length d
+length-stored c d i h k = simp (length-append, length-take, length-drop) (omega arith)
+
+-- the rest of a list, as a loop that counts up by one meets it
+pub next : (s : List ℕ) (i : ℕ) → i < length s → drop i s ≡ getD s i 0 ∷ drop (i + 1) s
+next s i h = rw add-one (drop-cons s i 0 h)
+
+-- a part `&s[a..]` is the rest of the list
+pub rest : (s : List ℕ) (a : ℕ) → take (length s - a) (drop a s) ≡ drop a s
+rest s a = take-all (length s - a) (drop a s) (simp length-drop (le-refl (length s - a)))
+
+-- the test whether two lists are the same, and their equality
+pub same-equal : (xs ys : List ℕ) → same xs ys ≡ true → xs ≡ ys
+same-equal [] [] e = refl
+same-equal [] (y ∷ ys) e = absurd (apart e)
+same-equal (x ∷ xs) [] e = absurd (apart e)
+same-equal (x ∷ xs) (y ∷ ys) e =
+    let h : x ≡ y = eqb-true x y (both-left (eqb x y) (same xs ys) e) in
+    let t : xs ≡ ys = same-equal xs ys (both-right (eqb x y) (same xs ys) e) in
+    cc
+
+pub same-self : (xs : List ℕ) → same xs xs ≡ true
+same-self [] = refl
+same-self (x ∷ xs) = rw (eq-eqb x x refl, same-self xs)
+
+-- lists that differ in their last number at the most
+pub same-last : (xs : List ℕ) (a b : ℕ) → same (xs ++ (a ∷ [])) (xs ++ (b ∷ [])) ≡ eqb a b
+same-last [] a b = both-true (eqb a b)
+same-last (x ∷ xs) a b = rw (eq-eqb x x refl, same-last xs a b)
+
+-- numbers below a bound: at each place, and from each place
+pub below-at : (bound : ℕ) (s : List ℕ) → ((i : ℕ) → i < length s → getD s i 0 < bound) → Below bound s
+below-at bound [] h = tt
+below-at bound (x ∷ s) h = (h 0 (omega arith), below-at bound s (λ i k. h (suc i) (omega arith)))

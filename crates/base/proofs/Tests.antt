@@ -1,0 +1,42 @@
+-- The tests on the way to a `return`, as rules that decide a definition's choices; and what an outcome promises.
+use mathlib.Core.Path.{_≡_, refl, sym, ap, _∙_}
+use mathlib.Core.Bool.{Bool, true, false}
+use mathlib.Core.List.{List}
+use Prim.Native.Nat.{ℕ}
+use native.Mathlib.Omega.{arith}
+use borrow.Author.Tests.{lt-ltb, le-ltb, le-leb, lt-leb, eq-eqb, ne-eqb}
+use Rattle.base.specs.Choice.{pick, both}
+use Rattle.base.specs.Outcome.{Outcome, answer, after}
+
+pub ruleset tests = (lt-ltb, le-ltb, le-leb, lt-leb, eq-eqb, ne-eqb)
+
+pub both-false : (b : Bool) → both b false ≡ false
+both-false true = refl
+both-false false = refl
+
+pub both-left : (a b : Bool) → both a b ≡ true → a ≡ true
+both-left true b e = refl
+both-left false b e = e
+
+-- false is not true
+pub apart : false ≡ true → ⊥
+apart e =
+    let z : _≡_ {A = ℕ} 0 1 = cc in
+    omega arith
+
+pub both-right : (a b : Bool) → both a b ≡ true → b ≡ true
+both-right true b e = e
+both-right false b e = absurd (apart e)
+
+pub both-true : (b : Bool) → both b true ≡ b
+both-true true = refl
+both-true false = refl
+
+-- a test that cannot hold
+pub not-so : (b : Bool) → (b ≡ true → ⊥) → b ≡ false
+not-so true h = absurd (h refl)
+not-so false h = refl
+
+-- an equation of outcomes says what the caller is told, and what the lent output holds
+pub told : {A : Type 0} {o p : Outcome A} → o ≡ p → (old : List ℕ) → (answer p ≡ answer o) × (after p old ≡ after o old)
+told e old = (ap answer (sym e), ap (λ x. after x old) (sym e))

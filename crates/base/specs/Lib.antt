@@ -1,0 +1,7 @@
+pub mod Choice
+pub mod Limits
+pub mod Outcome
+pub mod Octets
+pub mod Polynomial
+pub mod Register
+pub mod Modulo

@@ -1,0 +1,9 @@
+// Definitions and laws that every crate shares, and document 01's limits by name. No function.
+
+// Document 01, "Limits": a transfer frame with its FECF has 8 to 256 octets.
+pub const SMALLEST_FRAME: usize = 8;
+
+pub const LARGEST_FRAME: usize = 256;
+
+// Document 01, "Limits": what is lent to the CLTU reader.
+pub const LARGEST_INPUT: usize = 4096;

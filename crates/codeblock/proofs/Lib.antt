@@ -1,0 +1,2 @@
+pub mod Codeblock
+pub mod Parity
