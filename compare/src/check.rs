@@ -13,6 +13,8 @@ pub struct Tally {
     pub differences: u64,
     /// How often the library answered each number.
     pub met: [u64; 256],
+    /// How often it did so in the fixed cases.
+    pub met_in_fixed: [u64; 256],
     /// The first differences, as text.
     pub shown: Vec<String>,
 }
@@ -23,6 +25,7 @@ impl Tally {
             inputs: 0,
             differences: 0,
             met: [0; 256],
+            met_in_fixed: [0; 256],
             shown: Vec::new(),
         }
     }

@@ -2,7 +2,7 @@
 use mathlib.Core.Path.{_≡_, refl, sym, ap, _∙_}
 use mathlib.Core.List.{List, [], _∷_}
 use Prim.Native.Nat.{ℕ, zero, suc, _+_, _*_, _/_, _%_, _<_}
-use native.Mathlib.Nat.{add-zero, suc-add, add-suc, mul-suc, suc-mul, le-of-suc-le-suc, not-suc-le-zero}
+use native.Mathlib.Nat.{zero-add, add-zero, suc-add, add-suc, mul-suc, suc-mul, le-of-suc-le-suc, not-suc-le-zero}
 use native.Mathlib.Numerals.{add-one}
 use native.Mathlib.Omega.{arith}
 use lib.Bits.{bitXor, xor-lt}
@@ -48,6 +48,10 @@ unfolding sequenceOf
 sequence-at zero k i h = absurd (not-suc-le-zero h)
 sequence-at (suc n) k zero h = ap octet (sym (add-zero k))
 sequence-at (suc n) k (suc i) h = sequence-at n (suc k) i (le-of-suc-le-suc h) ∙ ap octet (suc-add k i ∙ sym (add-suc k i))
+
+-- its first 255 octets tell every octet
+pub sequence-tells : (k : ℕ) → getD (sequenceOf 255 0) (k % 255) 0 ≡ octet k
+sequence-tells k = sequence-at 255 0 (k % 255) (omega arith) ∙ ap octet (zero-add (k % 255)) ∙ octet-period k
 
 -- randomizing is undone by doing it again, and goes octet by octet
 pub randomized-twice : (k : ℕ) (xs : List ℕ) → randomized k (randomized k xs) ≡ xs

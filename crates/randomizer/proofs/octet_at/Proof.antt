@@ -3,10 +3,8 @@ use borrow.Author.Needs.{needs}
 use mathlib.Core.Path.{ap, _∙_}
 use mathlib.Core.List.{List}
 use Prim.Native.Nat.{ℕ, _%_}
-use native.Mathlib.Nat.{zero-add}
 use lib.ListN.{getD}
-use Rattle.randomizer.specs.Randomizer.{octet}
-use Rattle.randomizer.proofs.Randomized.{sequence-at, octet-period}
+use Rattle.randomizer.proofs.Randomized.{sequence-tells}
 use Rattle.randomizer.proofs.octet_at.Statement.{statement}
 use Rattle.randomizer.proofs.octet_at.Tie as tie
 
@@ -22,10 +20,7 @@ array-read-result c = search needs
 returns : tie.Need-returns
 returns c =
     let k = c .before .before .before .args .place % 255 in
-    ap (λ (l : List ℕ). getD l k 0) (c .before .sequence .ensures)
-    ∙ sequence-at 255 0 k (search needs)
-    ∙ ap octet (zero-add k)
-    ∙ octet-period (c .before .before .before .args .place)
+    ap (λ (l : List ℕ). getD l k 0) (c .before .sequence .ensures) ∙ sequence-tells (c .before .before .before .args .place)
 
 pub octet-at-spec : {M : Type 1} → statement M
 octet-at-spec =

@@ -1,0 +1,73 @@
+-- What writing and reading come to, a law for each of their checks.
+use mathlib.Core.Path.{_≡_, sym, ap, _∙_}
+use mathlib.Core.List.{List}
+use Prim.Native.Nat.{ℕ, zero, suc, _+_, _-_, _*_, _/_, _<_, _≤_}
+use native.Mathlib.Omega.{arith}
+use borrow.Author.Tests.{lt-ltb, le-ltb, le-leb, lt-leb}
+use lib.ListN.{length, take, drop}
+use Rattle.base.specs.Outcome.{Outcome, Outcome.done, Outcome.refused}
+use Rattle.base.proofs.Lists.{rest}
+use Rattle.randomizer.specs.Randomizer.{randomized}
+use Rattle.cltu.specs.Cltu.{need, cltuOf, writing, startOf, goodRun, informationIn, correctedIn, Found, readingRun, readingAfter, reading}
+use Rattle.cltu.proofs.Scan.{corrected-none, run-le}
+
+module _ (frame : List ℕ) (room : ℕ) where
+  pub writing-short : length frame < 8 → writing frame room ≡ refused 10 0
+  unfolding writing
+  writing-short h = simp (lt-leb 8 (length frame) h)
+
+  pub writing-long : 8 ≤ length frame → 256 < length frame → writing frame room ≡ refused 10 0
+  unfolding writing
+  writing-long l h = simp (le-leb 8 (length frame) l, lt-leb (length frame) 256 h)
+
+  pub writing-room : 8 ≤ length frame → length frame ≤ 256 → room < need (length frame) → writing frame room ≡ refused 11 0
+  unfolding writing
+  writing-room l h r = simp (le-leb 8 (length frame) l, le-leb (length frame) 256 h, lt-leb (need (length frame)) room r)
+
+  pub writing-done : 8 ≤ length frame → length frame ≤ 256 → need (length frame) ≤ room → writing frame room ≡ done (cltuOf frame) tt
+  unfolding writing
+  writing-done l h r = simp (le-leb 8 (length frame) l, le-leb (length frame) 256 h, le-leb (need (length frame)) room r)
+
+module _ (s : List ℕ) (room : ℕ) where
+  pub reading-long : 4096 < length s → reading s room ≡ refused 10 0
+  unfolding reading
+  reading-long h = simp (lt-leb (length s) 4096 h)
+
+  pub reading-none : length s ≤ 4096 → length s ≤ startOf s → reading s room ≡ refused 1 (length s)
+  unfolding reading
+  reading-none h l = simp (le-leb (length s) 4096 h, le-ltb (startOf s) (length s) l)
+
+  -- past the start sequence, with its offset and the part as the code has them
+  pub reading-found : (first : ℕ) → length s ≤ 4096 → first < length s → first ≡ startOf s
+      → reading s room ≡ readingAfter (first + 2) (take (length s - (first + 2)) (drop (first + 2) s)) room
+  unfolding reading
+  reading-found first h l e =
+      let b : startOf s < length s = omega arith in
+      simp (le-leb (length s) 4096 h, lt-ltb (startOf s) (length s) b)
+      (ap (λ (k : ℕ). readingAfter (k + 2) (drop (k + 2) s) room) (sym e)
+      ∙ ap (λ (l : List ℕ). readingAfter (first + 2) l room) (sym (rest s (first + 2))))
+
+-- after the start sequence, with the run of good codeblocks as the code has it
+module _ (offset : ℕ) (s : List ℕ) (room n : ℕ) (e : n ≡ goodRun (length s / 8) s) where
+  run-is : readingAfter offset s room ≡ readingRun offset s room n
+  run-is = ap (readingRun offset s room) (sym e)
+
+  pub after-end : length s / 8 ≤ n → readingAfter offset s room ≡ refused 3 (offset + 8 * n)
+  unfolding readingRun
+  after-end h = run-is ∙ simp (le-ltb n (length s / 8) h)
+
+  pub after-none : n < length s / 8 → n ≡ 0 → readingAfter offset s room ≡ refused 2 offset
+  unfolding readingRun
+  after-none h z = run-is ∙ simp (lt-ltb n (length s / 8) h, le-ltb 0 n (omega arith))
+
+  pub after-room : n < length s / 8 → 0 < n → room < 7 * n → readingAfter offset s room ≡ refused 11 0
+  unfolding readingRun
+  after-room h z r = run-is ∙ simp (lt-ltb n (length s / 8) h, lt-ltb 0 n z, lt-leb (7 * n) room r)
+
+  pub after-done : n < length s / 8 → 0 < n → 7 * n ≤ room
+      → readingAfter offset s room ≡ done (randomized 0 (informationIn n s)) (record { place = offset + 8 * n; corrected = 0 })
+  unfolding readingRun
+  after-done h z r =
+      run-is
+      ∙ simp (lt-ltb n (length s / 8) h, lt-ltb 0 n z, le-leb (7 * n) room r)
+      (ap (λ (c : ℕ). done (randomized 0 (informationIn n s)) (record { place = offset + 8 * n; corrected = c })) (corrected-none (length s / 8) n s (omega arith)))

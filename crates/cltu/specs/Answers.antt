@@ -1,0 +1,20 @@
+-- Document 01's number and values for each case of the answers.
+use Rattle.base.specs.Outcome.{Answer, Answer.done, Answer.refused}
+use Rattle.cltu.specs.Cltu.{Found}
+use Rattle.cltu.specs.declared.writer.Written.{Written}
+use Rattle.cltu.specs.declared.writer.Written.the-variants.{Done as WrittenDone, Length as WrittenLength, Room as WrittenRoom}
+use Rattle.cltu.specs.declared.reader.Reading.{Reading}
+use Rattle.cltu.specs.declared.reader.Reading.the-variants.{Done, NoStart, NoBlock, NoEnd, Length, Room}
+
+abbrev pub writtenAnswer : Written → Answer (Unit {0})
+writtenAnswer (WrittenDone count) = done count tt
+writtenAnswer WrittenLength = refused 10 0
+writtenAnswer WrittenRoom = refused 11 0
+
+abbrev pub readAnswer : Reading → Answer Found
+readAnswer (Done count place corrected) = done count (record { place = place; corrected = corrected })
+readAnswer (NoStart place) = refused 1 place
+readAnswer (NoBlock place) = refused 2 place
+readAnswer (NoEnd place) = refused 3 place
+readAnswer Length = refused 10 0
+readAnswer Room = refused 11 0

@@ -1,0 +1,2 @@
+pub mod Cltu
+pub mod Answers
