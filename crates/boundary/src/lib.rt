@@ -1,0 +1,99 @@
+// What C and Rust call: numbers, and octets as a pointer and a length. Each function passes its arguments on and puts the
+// answer into numbers.
+use cltu::reader::Reading;
+use cltu::writer::Written;
+ghost use mathlib.Core.Path.{_≡_};
+ghost use lib.ListN.{length};
+ghost use Rattle.base.specs.Outcome.{answer, after};
+ghost use Rattle.codeblock.specs.Codeblock.{errorControl, judged, isGood};
+ghost use Rattle.randomizer.specs.Randomizer.{octet};
+ghost use Rattle.cltu.specs.Cltu.{writing, reading};
+ghost use Rattle.boundary.specs.Numbers.{numberOf, countOf, placeOf, correctedOf, truth};
+
+#[no_mangle]
+pub extern "C" fn codeblock_error_control(information: &[u8]) -> u8
+    ensures { λ r. ⌜ r ≡ errorControl (now (information .entry)) ⌝ }
+{
+    codeblock::error_control(information)
+}
+
+#[no_mangle]
+pub extern "C" fn codeblock_is_good(block: &[u8]) -> u8
+    ensures { λ r. ⌜ r ≡ truth (isGood (judged (now (block .entry)))) ⌝ }
+{
+    if codeblock::is_good(block) {
+        return 1;
+    }
+    0
+}
+
+#[no_mangle]
+pub extern "C" fn randomizer_octet(place: u64) -> u8
+    ensures { λ r. ⌜ r ≡ octet place ⌝ }
+{
+    randomizer::octet_at(place)
+}
+
+#[no_mangle]
+pub extern "C" fn cltu_write(frame: &[u8], output: &mut [u8], count: &mut u64) -> u8
+    ensures number { λ r. ⌜ r ≡ numberOf (answer (writing (now (frame .entry)) (length (now (output .entry))))) ⌝ }
+    ensures memory { λ r. ⌜ now (output .exit) ≡ after (writing (now (frame .entry)) (length (now (output .entry)))) (now (output .entry)) ⌝ }
+    ensures told { λ r. ⌜ now (count .exit) ≡ countOf (answer (writing (now (frame .entry)) (length (now (output .entry))))) ⌝ }
+{
+    *count = 0;
+    let written = cltu::writer::write(frame, output);
+    match written {
+        Written::Done(n) => {
+            *count = n as u64;
+            0
+        }
+        Written::Length => 10,
+        Written::Room => 11,
+    }
+}
+
+#[no_mangle]
+pub extern "C" fn cltu_read(
+    input: &[u8],
+    output: &mut [u8],
+    count: &mut u64,
+    place: &mut u64,
+    corrected: &mut u64,
+) -> u8
+    ensures number { λ r. ⌜ r ≡ numberOf (answer (reading (now (input .entry)) (length (now (output .entry))))) ⌝ }
+    ensures memory { λ r. ⌜ now (output .exit) ≡ after (reading (now (input .entry)) (length (now (output .entry)))) (now (output .entry)) ⌝ }
+    ensures counted { λ r. ⌜ now (count .exit) ≡ countOf (answer (reading (now (input .entry)) (length (now (output .entry))))) ⌝ }
+    ensures placed { λ r. ⌜ now (place .exit) ≡ placeOf (answer (reading (now (input .entry)) (length (now (output .entry))))) ⌝ }
+    ensures mended { λ r. ⌜ now (corrected .exit) ≡ correctedOf (answer (reading (now (input .entry)) (length (now (output .entry))))) ⌝ }
+{
+    *count = 0;
+    *place = 0;
+    *corrected = 0;
+    let reading = cltu::reader::read(input, output);
+    match reading {
+        Reading::Done {
+            count: n,
+            place: p,
+            corrected: c,
+        } => {
+            *count = n as u64;
+            *place = p as u64;
+            *corrected = c as u64;
+            0
+        }
+        Reading::NoStart(p) => {
+            *place = p as u64;
+            1
+        }
+        Reading::NoBlock(p) => {
+            *place = p as u64;
+            2
+        }
+        Reading::NoEnd(p) => {
+            *place = p as u64;
+            3
+        }
+        Reading::Length => 10,
+        Reading::Room => 11,
+    }
+}
