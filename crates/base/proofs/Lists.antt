@@ -1,7 +1,7 @@
 -- Laws of lists for the two kinds of loop: one that fills the front of lent output place by place (`store`, `stored`), and
 -- one that scans its input (`next`, `rest`).
 use mathlib.Core.Path.{_≡_, refl, sym, ap, _∙_}
-use mathlib.Core.Bool.{true}
+use mathlib.Core.Bool.{true, false}
 use mathlib.Core.List.{List, [], _∷_, _++_}
 use Prim.Native.Nat.{ℕ, zero, suc, _+_, _-_, _<_, _≤_}
 use native.Mathlib.Nat.{le-of-suc-le-suc, not-suc-le-zero, le-refl}
@@ -58,6 +58,9 @@ same-equal (x ∷ xs) (y ∷ ys) e =
 pub same-self : (xs : List ℕ) → same xs xs ≡ true
 same-self [] = refl
 same-self (x ∷ xs) = rw (eq-eqb x x refl, same-self xs)
+
+pub same-not : (xs ys : List ℕ) → same xs ys ≡ false → xs ≡ ys → ⊥
+same-not xs ys d e = apart (sym d ∙ ap (same xs) (sym e) ∙ same-self xs)
 
 -- lists that differ in their last number at the most
 pub same-last : (xs : List ℕ) (a b : ℕ) → same (xs ++ (a ∷ [])) (xs ++ (b ∷ [])) ≡ eqb a b

@@ -23,3 +23,12 @@ answer (Outcome.refused number place) = Answer.refused number place
 abbrev pub after : {A : Type 0} → Outcome A → List ℕ → List ℕ
 after (Outcome.done octets more) old = octets ++ drop (length octets) old
 after (Outcome.refused number place) old = old
+
+-- the answer by document 01's number, 0 where the operation is done, and the count of octets handed out
+abbrev pub numberOf : {A : Type 0} → Answer A → ℕ
+numberOf (Answer.done count more) = 0
+numberOf (Answer.refused number place) = number
+
+abbrev pub countOf : {A : Type 0} → Answer A → ℕ
+countOf (Answer.done count more) = count
+countOf (Answer.refused number place) = 0

@@ -1,18 +1,8 @@
--- How an answer crosses the boundary to C and Rust: by numbers. The number is document 01's, 0 where the operation is done;
--- what an answer does not have is 0.
+-- How an answer crosses the boundary to C and Rust: by numbers. What an answer does not have is 0.
 use Prim.Native.Nat.{ℕ}
 use mathlib.Core.Bool.{Bool, true, false}
 use Rattle.base.specs.Outcome.{Answer, Answer.done, Answer.refused}
 use Rattle.cltu.specs.Cltu.{Found}
-
-abbrev pub numberOf : {A : Type 0} → Answer A → ℕ
-numberOf (done count more) = 0
-numberOf (refused number place) = number
-
--- the octets handed out
-abbrev pub countOf : {A : Type 0} → Answer A → ℕ
-countOf (done count more) = count
-countOf (refused number place) = 0
 
 -- the place and the count of corrected codeblocks of a CLTU reading
 abbrev pub placeOf : Answer Found → ℕ

@@ -4,11 +4,11 @@ use cltu::reader::Reading;
 use cltu::writer::Written;
 ghost use mathlib.Core.Path.{_≡_};
 ghost use lib.ListN.{length};
-ghost use Rattle.base.specs.Outcome.{answer, after};
+ghost use Rattle.base.specs.Outcome.{answer, after, numberOf, countOf};
 ghost use Rattle.codeblock.specs.Codeblock.{errorControl, judged, isGood};
 ghost use Rattle.randomizer.specs.Randomizer.{octet};
 ghost use Rattle.cltu.specs.Cltu.{writing, reading};
-ghost use Rattle.boundary.specs.Numbers.{numberOf, countOf, placeOf, correctedOf, truth};
+ghost use Rattle.boundary.specs.Numbers.{placeOf, correctedOf, truth};
 
 #[no_mangle]
 pub extern "C" fn codeblock_error_control(information: &[u8]) -> u8

@@ -1,3 +1,7 @@
 pub mod Places
 pub mod Scan
 pub mod Outcomes
+pub mod RoundTrip
+pub mod Sound
+pub mod Examples
+pub mod Refuted

@@ -1,7 +1,8 @@
 -- Each arm of the match: what `read` answered, put into numbers.
 use borrow.Author.Needs.{needs}
 use mathlib.Core.Path.{_≡_, sym, ap, _∙_}
-use Rattle.boundary.specs.Numbers.{numberOf, countOf, placeOf, correctedOf}
+use Rattle.base.specs.Outcome.{numberOf, countOf}
+use Rattle.boundary.specs.Numbers.{placeOf, correctedOf}
 use Rattle.cltu.specs.Answers.{readAnswer}
 use Rattle.boundary.proofs.cltu_read.Statement.{statement}
 use Rattle.boundary.proofs.cltu_read.Tie as tie

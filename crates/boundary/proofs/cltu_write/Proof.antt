@@ -1,7 +1,7 @@
 -- Each arm of the match: what `write` answered, put into numbers.
 use borrow.Author.Needs.{needs}
 use mathlib.Core.Path.{_≡_, sym, ap, _∙_}
-use Rattle.boundary.specs.Numbers.{numberOf, countOf}
+use Rattle.base.specs.Outcome.{numberOf, countOf}
 use Rattle.cltu.specs.Answers.{writtenAnswer}
 use Rattle.boundary.proofs.cltu_write.Statement.{statement}
 use Rattle.boundary.proofs.cltu_write.Tie as tie

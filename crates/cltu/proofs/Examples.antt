@@ -1,0 +1,42 @@
+-- A computed example of each outcome of reading and writing, and the exact needs 26 and 306.
+use mathlib.Core.Path.{_≡_, refl}
+use mathlib.Core.List.{List, [], _∷_, _++_, map}
+use Prim.Native.Nat.{ℕ}
+use lib.ListN.{length, replicate}
+use Rattle.base.specs.Outcome.{answer, numberOf}
+use Rattle.base.specs.Register.{shiftBit, shiftBits, register}
+use Rattle.codeblock.specs.Codeblock.{parity, errorControl, codeblockOf, judged}
+use Rattle.randomizer.specs.Randomizer.{nextBit, later, octet, randomized}
+use Rattle.cltu.specs.Cltu.{filled, encoded, informationFor, cltuOf, need, writing, starts, startOf, goodRun, informationIn, correctedIn, readingRun, reading, startSequence}
+
+-- a frame of eight octets
+abbrev pub frame : List ℕ
+frame = 0x30 ∷ 0x01 ∷ 0x00 ∷ 0x07 ∷ 0x00 ∷ 0x00 ∷ 0x12 ∷ 0x34 ∷ []
+
+abbrev pub readNumber : List ℕ → ℕ → ℕ
+readNumber input room = numberOf (answer (reading input room))
+
+abbrev pub writtenNumber : List ℕ → ℕ → ℕ
+writtenNumber octets room = numberOf (answer (writing octets room))
+
+-- done; no start; no block: eight octets 00 are no codeblock; no end; length; room
+pub readings :
+    (readNumber (cltuOf frame) 14 ≡ 0)
+    × (readNumber [] 14 ≡ 1)
+    × (readNumber (startSequence ++ replicate 8 0) 14 ≡ 2)
+    × (readNumber startSequence 14 ≡ 3)
+    × (readNumber (replicate 4097 0) 14 ≡ 10)
+    × (readNumber (cltuOf frame) 13 ≡ 11)
+unfolding reading readingRun correctedIn informationIn goodRun startOf starts cltuOf informationFor encoded filled randomized octet later nextBit judged codeblockOf errorControl parity register shiftBits shiftBit
+readings = (refl, refl, refl, refl, refl, refl)
+
+pub writings :
+    (writtenNumber frame 26 ≡ 0)
+    × (writtenNumber (replicate 7 0) 306 ≡ 10)
+    × (writtenNumber (replicate 257 0) 400 ≡ 10)
+    × (writtenNumber frame 25 ≡ 11)
+unfolding writing
+writings = (refl, refl, refl, refl)
+
+pub needs : (need 8 ≡ 26) × (need 256 ≡ 306)
+needs = (refl, refl)
