@@ -1,6 +1,6 @@
 -- A rule at every number below a bound, by one computed test; and a list that a function tabulates.
 use mathlib.Core.Path.{_≡_, refl, _∙_, subst, sym}
-use mathlib.Core.Bool.{Bool, true, false}
+use mathlib.Core.Bool.{Bool, true, false, not}
 use mathlib.Core.List.{List, [], _∷_}
 use Prim.Native.Nat.{ℕ, zero, suc, _+_, _<_}
 use native.Mathlib.Nat.{add-zero, zero-add, add-suc, suc-add, le-of-suc-le-suc, not-suc-le-zero}
@@ -42,3 +42,22 @@ getD-tabulate f (suc n) i zero h = subst (λ (m : ℕ). f i ≡ f m) (sym (add-z
 getD-tabulate f (suc n) i (suc k) h =
     getD-tabulate f n (suc i) k (le-of-suc-le-suc h)
     ∙ subst (λ (m : ℕ). f (suc i + k) ≡ f m) (suc-add i k ∙ sym (add-suc i k)) refl
+
+-- a computed test as an equation
+pub is-true : (b : Bool) → T b → b ≡ true
+is-true true t = refl
+is-true false t = absurd t
+
+-- two tests that agree below a bound
+abbrev pub alike : Bool → Bool → Bool
+alike true b = b
+alike false b = not b
+
+alike-equal : (a b : Bool) → T (alike a b) → a ≡ b
+alike-equal true true t = refl
+alike-equal true false t = absurd t
+alike-equal false true t = absurd t
+alike-equal false false t = refl
+
+pub agree : (f g : ℕ → Bool) (n : ℕ) → T (all (λ x. alike (f x) (g x)) n 0) → (x : ℕ) → x < n → f x ≡ g x
+agree f g n t x h = alike-equal (f x) (g x) (below (λ y. alike (f y) (g y)) n t x h)

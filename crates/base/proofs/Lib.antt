@@ -1,6 +1,7 @@
 pub mod Computed
 pub mod Tests
 pub mod Lists
+pub mod Fields
 pub mod Modulo
 pub mod Xor
 pub mod Register

@@ -12,7 +12,7 @@ use lib.Dec.{eqb}
 use lib.ListN.{length, take, drop, getD, set, length-append, length-take, length-drop}
 use lib.Seq.{drop-cons, take-all, take-length}
 use Rattle.base.specs.Octets.{Below, same}
-use Rattle.base.proofs.Tests.{apart, both-left, both-right, both-true}
+use Rattle.base.proofs.Tests.{apart, not-so, both-left, both-right, both-true}
 
 -- a store takes the list that is c's up to i, and d's from there, one place on
 pub store : (c d : List ℕ) (i : ℕ) → i < length c → i < length d → set (take i c ++ drop i d) i (getD c i 0) ≡ take (i + 1) c ++ drop (i + 1) d
@@ -61,6 +61,13 @@ same-self (x ∷ xs) = rw (eq-eqb x x refl, same-self xs)
 
 pub same-not : (xs ys : List ℕ) → same xs ys ≡ false → xs ≡ ys → ⊥
 same-not xs ys d e = apart (sym d ∙ ap (same xs) (sym e) ∙ same-self xs)
+
+pub same-length-not : (xs ys : List ℕ) → (length xs ≡ length ys → ⊥) → same xs ys ≡ false
+same-length-not xs ys h = not-so (same xs ys) (λ e. h (ap length (same-equal xs ys e)))
+
+-- n elements from place k on, one by one
+pub take-next : (s : List ℕ) (n k : ℕ) → k < length s → take (suc n) (drop k s) ≡ getD s k 0 ∷ take n (drop (suc k) s)
+take-next s n k h = ap (take (suc n)) (drop-cons s k 0 h)
 
 -- lists that differ in their last number at the most
 pub same-last : (xs : List ℕ) (a b : ℕ) → same (xs ++ (a ∷ [])) (xs ++ (b ∷ [])) ≡ eqb a b

@@ -5,7 +5,7 @@ use mathlib.Core.List.{List}
 use Prim.Native.Nat.{ℕ}
 use native.Mathlib.Omega.{arith}
 use borrow.Author.Tests.{lt-ltb, le-ltb, le-leb, lt-leb, eq-eqb, ne-eqb}
-use Rattle.base.specs.Choice.{pick, both}
+use Rattle.base.specs.Choice.{pick, must, both}
 use Rattle.base.specs.Outcome.{Outcome, answer, after}
 
 pub ruleset tests = (lt-ltb, le-ltb, le-leb, lt-leb, eq-eqb, ne-eqb)
@@ -36,6 +36,11 @@ both-true false = refl
 pub not-so : (b : Bool) → (b ≡ true → ⊥) → b ≡ false
 not-so true h = absurd (h refl)
 not-so false h = refl
+
+-- a chain of checks that gives no refusal: this check held, and the rest gives none
+pub must-on : (t : Bool) (refusal on : ℕ) → (refusal ≡ 0 → ⊥) → must t refusal on ≡ 0 → (t ≡ true) × (on ≡ 0)
+must-on true refusal on n e = (refl, e)
+must-on false refusal on n e = absurd (n e)
 
 -- an equation of outcomes says what the caller is told, and what the lent output holds
 pub told : {A : Type 0} {o p : Outcome A} → o ≡ p → (old : List ℕ) → (answer p ≡ answer o) × (after p old ≡ after o old)

@@ -11,3 +11,14 @@ largestFrame = 256
 -- what is lent to the CLTU reader, in octets
 abbrev pub largestInput : ℕ
 largestInput = 4096
+
+-- document 01: a unit (FDU), so that its frame stays within its limits: header 5 octets, FECF 2
+abbrev pub largestUnit : ℕ
+largestUnit = 249
+
+-- document 01: spacecraft and channel
+abbrev pub largestSpacecraft : ℕ
+largestSpacecraft = 1023
+
+abbrev pub largestChannel : ℕ
+largestChannel = 63

@@ -7,3 +7,11 @@ pub const LARGEST_FRAME: usize = 256;
 
 // Document 01, "Limits": what is lent to the CLTU reader.
 pub const LARGEST_INPUT: usize = 4096;
+
+// Document 01, "Limits": a unit (FDU), the data field of a frame.
+pub const LARGEST_UNIT: usize = 249;
+
+// Document 01, "Limits": spacecraft and virtual channel.
+pub const LARGEST_SPACECRAFT: u16 = 1023;
+
+pub const LARGEST_CHANNEL: u8 = 63;

@@ -1,0 +1,56 @@
+-- What writing and reading come to, a law for each of their checks; and the four stores that write a word.
+use mathlib.Core.Path.{_≡_, _∙_}
+use mathlib.Core.Bool.{true, false}
+use mathlib.Core.List.{List, [], _∷_, _++_}
+use Prim.Native.Nat.{ℕ, _<_, _≤_}
+use native.Mathlib.Omega.{arith}
+use borrow.Author.Tests.{le-leb, lt-leb, eq-eqb, ne-eqb}
+use lib.ListN.{length, drop, getD, set}
+use lib.Seq.{sets-eq}
+use Rattle.base.specs.Fields.{fieldAt, octetsOf}
+use Rattle.base.specs.Outcome.{Outcome.done, Outcome.refused}
+use Rattle.clcw.specs.declared.Clcw.{Clcw}
+use Rattle.clcw.specs.declared.Reading.the-variants.{Word, Invalid, Address, Length as NotFour}
+use Rattle.clcw.specs.Clcw.{virtualChannel, clcwOf, writing, isValid}
+use Rattle.clcw.specs.Answers.{receivedOf, readingOf}
+
+module _ (word : Clcw) (room : ℕ) where
+  pub writing-channel : 63 < word .channel → writing word room ≡ refused 12 0
+  unfolding writing
+  writing-channel h = simp (lt-leb (word .channel) 63 h)
+
+  pub writing-counter : word .channel ≤ 63 → 3 < word .counter → writing word room ≡ refused 12 0
+  unfolding writing
+  writing-counter h k = simp (le-leb (word .channel) 63 h, lt-leb (word .counter) 3 k)
+
+  pub writing-room : word .channel ≤ 63 → word .counter ≤ 3 → room < 4 → writing word room ≡ refused 11 0
+  unfolding writing
+  writing-room h k r = simp (le-leb (word .channel) 63 h, le-leb (word .counter) 3 k, lt-leb 4 room r)
+
+  pub writing-done : word .channel ≤ 63 → word .counter ≤ 3 → 4 ≤ room → writing word room ≡ done (clcwOf word) tt
+  unfolding writing
+  writing-done h k r = simp (le-leb (word .channel) 63 h, le-leb (word .counter) 3 k, le-leb 4 room r)
+
+module _ (octets : List ℕ) (channel : ℕ) where
+  pub reading-length : (length octets ≡ 4 → ⊥) → readingOf octets channel ≡ NotFour
+  unfolding readingOf
+  reading-length h = simp (ne-eqb (length octets) 4 h)
+
+  module _ (four : length octets ≡ 4) where
+    pub reading-invalid : isValid octets ≡ false → readingOf octets channel ≡ Invalid
+    unfolding readingOf
+    reading-invalid v = simp (eq-eqb (length octets) 4 four, v)
+
+    pub reading-address : isValid octets ≡ true → (fieldAt virtualChannel octets ≡ channel → ⊥) → readingOf octets channel ≡ Address
+    unfolding readingOf
+    reading-address v h = simp (eq-eqb (length octets) 4 four, v, ne-eqb (fieldAt virtualChannel octets) channel h)
+
+    pub reading-word : isValid octets ≡ true → fieldAt virtualChannel octets ≡ channel → readingOf octets channel ≡ Word (receivedOf octets)
+    unfolding readingOf
+    reading-word v h = simp (eq-eqb (length octets) 4 four, v, eq-eqb (fieldAt virtualChannel octets) channel h)
+
+-- octet by octet
+pub stored : (word : Clcw) (octets out : List ℕ) → octets ≡ clcwOf word → 4 ≤ length out
+    → set (set (set (set out 0 (getD octets 0 0)) 1 (getD octets 1 0)) 2 (getD octets 2 0)) 3 (getD octets 3 0) ≡ clcwOf word ++ drop 4 out
+unfolding clcwOf octetsOf
+stored word octets out e h = sets-eq (getD octets 0 0 ∷ getD octets 1 0 ∷ getD octets 2 0 ∷ getD octets 3 0 ∷ []) out 0 (omega arith) ∙ rw e

@@ -1,0 +1,43 @@
+-- Document 01's number and values for each case of the answers.
+use Prim.Native.Nat.{ℕ}
+use mathlib.Core.List.{List}
+use lib.Dec.{eqb}
+use lib.ListN.{length}
+use Rattle.base.specs.Choice.{pick, must}
+use Rattle.base.specs.Fields.{fieldAt}
+use Rattle.base.specs.Outcome.{Answer, Answer.done, Answer.refused}
+use Rattle.clcw.specs.Clcw.{statusField, noRfAvailable, noBitLock, virtualChannel, isValid, wordOf}
+use Rattle.clcw.specs.declared.Received.{Received}
+use Rattle.clcw.specs.declared.Reading.{Reading}
+use Rattle.clcw.specs.declared.Reading.the-variants.{Word, Invalid, Address, Length as NotFour}
+use Rattle.clcw.specs.declared.Written.{Written}
+use Rattle.clcw.specs.declared.Written.the-variants.{Done, Setting, Room}
+
+abbrev pub writtenAnswer : Written → Answer (Unit {0})
+writtenAnswer (Done count) = done count tt
+writtenAnswer Setting = refused 12 0
+writtenAnswer Room = refused 11 0
+
+-- all fields, status and the two RF flags too, read and not judged
+unfoldable pub receivedOf : List ℕ → Received
+receivedOf octets = record {
+  word = wordOf octets;
+  status = fieldAt statusField octets;
+  «no_rf» = eqb (fieldAt noRfAvailable octets) 1;
+  «no_bit_lock» = eqb (fieldAt noBitLock octets) 1;
+}
+
+-- what reading answers to a channel: 10 where not four octets; an invalid CLCW, which is no refusal; 7; the word
+unfoldable pub readingOf : List ℕ → ℕ → Reading
+readingOf octets channel =
+    must (eqb (length octets) 4) NotFour
+    (must (isValid octets) Invalid
+    (must (eqb (fieldAt virtualChannel octets) channel) Address
+    (Word (receivedOf octets))))
+
+-- document 01's number of a reading, 0 where it is no refusal
+abbrev pub readingNumber : Reading → ℕ
+readingNumber (Word received) = 0
+readingNumber Invalid = 0
+readingNumber Address = 7
+readingNumber NotFour = 10

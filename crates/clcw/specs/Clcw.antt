@@ -1,0 +1,115 @@
+-- Clause 6.3, table 6-4, and document 01, "CLCW": the communications link control word.
+use Prim.Native.Nat.{ℕ}
+use mathlib.Core.Bool.{Bool, true, false}
+use mathlib.Core.List.{List, [], _∷_}
+use lib.Dec.{leb, eqb}
+use lib.ListN.{length}
+use Rattle.base.specs.Choice.{pick, must, both}
+use Rattle.base.specs.Fields.{Location, Field, packed, octetsOf, fieldAt}
+use Rattle.base.specs.Limits.{largestChannel}
+use Rattle.base.specs.Outcome.{Outcome, Outcome.done, Outcome.refused}
+use Rattle.clcw.specs.declared.Clcw.{Clcw}
+
+abbrev pub at : ℕ → ℕ → Location
+at first width = record { first = first; width = width }
+
+-- table 6-4: each field with its location and its length in bits
+abbrev pub controlWordType : Location
+controlWordType = at 0 1
+
+abbrev pub versionNumber : Location
+versionNumber = at 1 2
+
+abbrev pub statusField : Location
+statusField = at 3 3
+
+abbrev pub copInEffect : Location
+copInEffect = at 6 2
+
+abbrev pub virtualChannel : Location
+virtualChannel = at 8 6
+
+abbrev pub firstSpare : Location
+firstSpare = at 14 2
+
+abbrev pub noRfAvailable : Location
+noRfAvailable = at 16 1
+
+abbrev pub noBitLock : Location
+noBitLock = at 17 1
+
+abbrev pub lockoutFlag : Location
+lockoutFlag = at 18 1
+
+abbrev pub waitFlag : Location
+waitFlag = at 19 1
+
+abbrev pub retransmitFlag : Location
+retransmitFlag = at 20 1
+
+abbrev pub farmBCounter : Location
+farmBCounter = at 21 2
+
+abbrev pub secondSpare : Location
+secondSpare = at 23 1
+
+abbrev pub reportValue : Location
+reportValue = at 24 8
+
+abbrev pub holds : Location → ℕ → Field
+holds location value = record { location = location; value = value }
+
+-- a flag as a bit
+abbrev pub bitOf : Bool → ℕ
+bitOf true = 1
+bitOf false = 0
+
+-- document 01: status, no RF and no bit lock are written zero
+unfoldable pub wordFields : Clcw → List Field
+wordFields word =
+    holds controlWordType 0
+    ∷ holds versionNumber 0b00
+    ∷ holds statusField 0b000
+    ∷ holds copInEffect 0b01
+    ∷ holds virtualChannel (word .channel)
+    ∷ holds firstSpare 0b00
+    ∷ holds noRfAvailable 0
+    ∷ holds noBitLock 0
+    ∷ holds lockoutFlag (bitOf (word .lockout))
+    ∷ holds waitFlag (bitOf (word .wait))
+    ∷ holds retransmitFlag (bitOf (word .retransmit))
+    ∷ holds farmBCounter (word .counter)
+    ∷ holds secondSpare 0
+    ∷ holds reportValue (word .report)
+    ∷ []
+
+-- clause 6.3.1: the four octets
+unfoldable pub clcwOf : Clcw → List ℕ
+clcwOf word = octetsOf 4 (packed (wordFields word))
+
+-- document 01: a channel or counter that its field cannot hold is 12, then 11
+unfoldable pub writing : Clcw → ℕ → Outcome (Unit {0})
+writing word room =
+    must (leb (word .channel) largestChannel) (refused 12 0)
+    (must (leb (word .counter) 3) (refused 12 0)
+    (must (leb 4 room) (refused 11 0)
+    (done (clcwOf word) tt)))
+
+-- document 01: wrong type, version, COP or spare make it an invalid CLCW
+unfoldable pub isValid : List ℕ → Bool
+isValid octets =
+    both (eqb (fieldAt controlWordType octets) 0)
+    (both (eqb (fieldAt versionNumber octets) 0b00)
+    (both (eqb (fieldAt copInEffect octets) 0b01)
+    (both (eqb (fieldAt firstSpare octets) 0b00) (eqb (fieldAt secondSpare octets) 0))))
+
+-- the fields of a control word that has a meaning to FOP-1
+unfoldable pub wordOf : List ℕ → Clcw
+wordOf octets = record {
+  channel = fieldAt virtualChannel octets;
+  lockout = eqb (fieldAt lockoutFlag octets) 1;
+  wait = eqb (fieldAt waitFlag octets) 1;
+  retransmit = eqb (fieldAt retransmitFlag octets) 1;
+  counter = fieldAt farmBCounter octets;
+  report = fieldAt reportValue octets;
+}

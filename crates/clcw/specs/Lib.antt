@@ -1,0 +1,2 @@
+pub mod Clcw
+pub mod Answers

@@ -1,0 +1,97 @@
+// Writes the CLTU of a small frame, reads it back, damages it and reads it again, and prints what each reading found.
+use cltu::reader::Reading;
+use cltu::writer::Written;
+
+fn main() {
+    // Unlock, to spacecraft 1 on virtual channel 0, with its FECF.
+    let frame: [u8; 8] = [0x30, 0x01, 0x00, 0x07, 0x00, 0x00, 0x0E, 0x5D];
+    octets(b"frame               ", &frame);
+    let mut sent = [0u8; 26];
+    write(b"written             ", &frame, &mut sent);
+    octets(b"CLTU                ", &sent);
+    let mut back = [0u8; 14];
+    read(b"read back           ", &sent, &mut back);
+    octets(b"octets              ", &back);
+    damage(sent);
+}
+
+// The same CLTU with one bit of its first codeblock flipped, cut before its tail sequence, and with its start sequence
+// broken; then whole, but read into too short an output.
+fn damage(sent: [u8; 26]) {
+    let mut back = [0u8; 14];
+    let mut flipped = sent;
+    flipped[2] ^= 0x01;
+    read(b"one bit flipped     ", &flipped, &mut back);
+    read(b"cut before the tail ", &sent[0..18], &mut back);
+    let mut broken = sent;
+    broken[0] ^= 0x01;
+    read(b"start broken        ", &broken, &mut back);
+    let mut short = [0u8; 13];
+    read(b"room for 13 octets  ", &sent, &mut short);
+}
+
+// Writes the CLTU of the frame and prints the answer.
+fn write(label: &[u8], frame: &[u8], output: &mut [u8]) {
+    io::write_all(1, label);
+    let written = cltu::writer::write(frame, output);
+    match written {
+        Written::Done(count) => done(count),
+        Written::Length => refusal(10, b"length"),
+        Written::Room => refusal(11, b"room"),
+    }
+    io::write_all(1, b"\n");
+}
+
+// Reads the first CLTU of the input and prints the answer.
+fn read(label: &[u8], input: &[u8], output: &mut [u8]) {
+    io::write_all(1, label);
+    let found = cltu::reader::read(input, output);
+    match found {
+        Reading::Done { count, place, .. } => {
+            done(count);
+            io::write_all(1, b", bad codeblock (the tail) at ");
+            io::print_decimal(1, place as u64);
+        }
+        Reading::NoStart(place) => refusal_at(1, b"no start", place),
+        Reading::NoBlock(place) => refusal_at(2, b"no block", place),
+        Reading::NoEnd(place) => refusal_at(3, b"no end", place),
+        Reading::Length => refusal(10, b"length"),
+        Reading::Room => refusal(11, b"room"),
+    }
+    io::write_all(1, b"\n");
+}
+
+fn done(count: usize) {
+    io::write_all(1, b" done: ");
+    io::print_decimal(1, count as u64);
+    io::write_all(1, b" octets");
+}
+
+fn refusal(number: u64, name: &[u8]) {
+    io::write_all(1, b" refusal ");
+    io::print_decimal(1, number);
+    io::write_all(1, b", ");
+    io::write_all(1, name);
+}
+
+fn refusal_at(number: u64, name: &[u8], place: usize) {
+    refusal(number, name);
+    io::write_all(1, b", at ");
+    io::print_decimal(1, place as u64);
+}
+
+// A line of octets in hexadecimal digits.
+fn octets(label: &[u8], s: &[u8]) {
+    io::write_all(1, label);
+    let mut i = 0;
+    while i < s.len() {
+        io::write_all(1, b" ");
+        io::print_hex(1, wide(s[i]), 2);
+        i += 1;
+    }
+    io::write_all(1, b"\n");
+}
+
+fn wide(x: u8) -> u64 {
+    x as u64
+}
