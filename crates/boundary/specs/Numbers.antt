@@ -1,8 +1,17 @@
 -- How an answer crosses the boundary to C and Rust: by numbers. What an answer does not have is 0.
-use Prim.Native.Nat.{ℕ}
-use mathlib.Core.Bool.{Bool, true, false}
+use Prim.Native.Nat.{ℕ, _+_, _*_}
+use mathlib.Core.Bool.{Bool, true, false, not}
+use lib.Dec.{eqb}
 use Rattle.base.specs.Outcome.{Answer, Answer.done, Answer.refused}
 use Rattle.cltu.specs.Cltu.{Found}
+use Rattle.frame.specs.declared.Kind.{Kind}
+use Rattle.frame.specs.declared.Kind.the-variants.{Ad, Bd, Unlock, SetVr}
+use Rattle.frame.specs.declared.Reading.{Reading}
+use Rattle.frame.specs.declared.Reading.the-variants.{Frame, Refused}
+use Rattle.clcw.specs.declared.Clcw.{Clcw}
+use Rattle.clcw.specs.declared.Received.{Received}
+use Rattle.clcw.specs.declared.Reading.{Reading as WordReading}
+use Rattle.clcw.specs.declared.Reading.the-variants.{Word, Invalid, Address, Length as NotFour}
 
 -- the place and the count of corrected codeblocks of a CLTU reading
 abbrev pub placeOf : Answer Found → ℕ
@@ -17,3 +26,74 @@ correctedOf (refused number place) = 0
 abbrev pub truth : Bool → ℕ
 truth true = 1
 truth false = 0
+
+-- the kind of a frame: 0 AD, 1 BD, 2 Unlock, 3 Set V(R); and what it carries, N(S) or the value
+abbrev pub kindNumber : Kind → ℕ
+kindNumber (Ad number) = 0
+kindNumber Bd = 1
+kindNumber Unlock = 2
+kindNumber (SetVr value) = 3
+
+abbrev pub kindValue : Kind → ℕ
+kindValue (Ad number) = number
+kindValue Bd = 0
+kindValue Unlock = 0
+kindValue (SetVr value) = value
+
+-- the fields of a frame reading
+abbrev pub frameKind : Reading → ℕ
+frameKind (Frame fields) = kindNumber (fields .kind)
+frameKind (Refused number) = 0
+
+abbrev pub frameValue : Reading → ℕ
+frameValue (Frame fields) = kindValue (fields .kind)
+frameValue (Refused number) = 0
+
+abbrev pub frameTotal : Reading → ℕ
+frameTotal (Frame fields) = fields .total
+frameTotal (Refused number) = 0
+
+abbrev pub frameField : Reading → ℕ
+frameField (Frame fields) = fields .field
+frameField (Refused number) = 0
+
+-- the fields of a control word reading: 1 where it is a word, 0 where it is invalid or refused
+abbrev pub wordValid : WordReading → ℕ
+wordValid (Word received) = 1
+wordValid Invalid = 0
+wordValid Address = 0
+wordValid NotFour = 0
+
+-- a field of the word that was read, 0 where there is none
+abbrev pub wordField : (Received → ℕ) → WordReading → ℕ
+wordField f (Word received) = f received
+wordField f Invalid = 0
+wordField f Address = 0
+wordField f NotFour = 0
+
+abbrev pub statusTold : Received → ℕ
+statusTold received = received .status
+
+-- no RF and no bit lock, the three flags: as one number, the first the highest bit
+abbrev pub rfTold : Received → ℕ
+rfTold received = truth (received .«no_rf») * 2 + truth (received .«no_bit_lock»)
+
+abbrev pub flagsTold : Received → ℕ
+flagsTold received = truth (received .word .lockout) * 4 + truth (received .word .wait) * 2 + truth (received .word .retransmit)
+
+abbrev pub counterTold : Received → ℕ
+counterTold received = received .word .counter
+
+abbrev pub reportTold : Received → ℕ
+reportTold received = received .word .report
+
+-- the word that numbers give: a flag is set where its number is not 0
+abbrev pub wordGiven : ℕ → ℕ → ℕ → ℕ → ℕ → ℕ → Clcw
+wordGiven channel lockout wait retransmit counter report = record {
+  channel = channel;
+  lockout = not (eqb lockout 0);
+  wait = not (eqb wait 0);
+  retransmit = not (eqb retransmit 0);
+  counter = counter;
+  report = report;
+}

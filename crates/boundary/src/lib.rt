@@ -1,5 +1,8 @@
 // What C and Rust call: numbers, and octets as a pointer and a length. Each function passes its arguments on and puts the
-// answer into numbers.
+// answer into numbers. This file: channel coding (clause 8); the modules: frames and control words (clause 6).
+pub mod frames;
+pub mod words;
+
 use cltu::reader::Reading;
 use cltu::writer::Written;
 ghost use mathlib.Core.Path.{_≡_};

@@ -3,3 +3,9 @@ pub mod Content
 pub mod Accepted
 pub mod Packed
 pub mod Emitted
+pub mod Written
+pub mod Back
+pub mod Again
+pub mod Detects
+pub mod Examples
+pub mod Refuted

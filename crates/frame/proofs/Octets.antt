@@ -32,10 +32,10 @@ checks s n spacecraft channel =
 
 -- the fields of octets s, of which eight are there and each is below 256
 module _ (s : List ℕ) (octets : (i : ℕ) → getD s i 0 < 256) (enough : 8 ≤ length s) where
-  version-is : fieldAt version s ≡ o s 0 / 64
+  pub version-is : fieldAt version s ≡ o s 0 / 64
   version-is = field-in-octet s 0 0 2 6 refl (omega arith) (octets 0) ∙ omega (arith, octets 0)
 
-  spare-is : fieldAt reservedSpare s ≡ o s 0 / 4 % 4
+  pub spare-is : fieldAt reservedSpare s ≡ o s 0 / 4 % 4
   spare-is = field-in-octet s 0 4 2 2 refl (omega arith) (octets 0)
 
   pub bypass-is : fieldAt bypassFlag s ≡ o s 0 / 32 % 2

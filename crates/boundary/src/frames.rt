@@ -1,0 +1,159 @@
+// FECF and transfer frames (clauses 6.2 and 6.4 to 6.8).
+use frame::Kind;
+use frame::Reading;
+use frame::writer::Written;
+ghost use mathlib.Core.Path.{_≡_};
+ghost use mathlib.Core.List.{[]};
+ghost use lib.ListN.{length};
+ghost use Rattle.base.specs.Outcome.{answer, after, numberOf, countOf};
+ghost use Rattle.fecf.specs.Fecf.{fecfOf};
+ghost use Rattle.frame.specs.declared.Kind.the-variants.{Ad, Bd, Unlock, SetVr};
+ghost use Rattle.frame.specs.Frame.{writing};
+ghost use Rattle.frame.specs.Answers.{writtenAnswer, readingOf, readingNumber};
+ghost use Rattle.boundary.specs.Numbers.{kindNumber, kindValue, frameKind, frameValue, frameTotal, frameField};
+
+#[no_mangle]
+pub extern "C" fn fecf(message: &[u8]) -> u16
+    ensures { λ r. ⌜ r ≡ fecfOf (now (message .entry)) ⌝ }
+{
+    fecf::fecf(message)
+}
+
+// What a writer answered, by its number and the count of octets written.
+fn told(written: Written, count: &mut u64) -> u8
+    ensures number { λ r. ⌜ r ≡ numberOf (writtenAnswer written) ⌝ }
+    ensures counted { λ r. ⌜ now (count .exit) ≡ countOf (writtenAnswer written) ⌝ }
+{
+    *count = 0;
+    match written {
+        Written::Done(n) => {
+            *count = n as u64;
+            0
+        }
+        Written::Length => 10,
+        Written::Setting => 12,
+        Written::Room => 11,
+    }
+}
+
+#[no_mangle]
+pub extern "C" fn frame_write_ad(
+    spacecraft: u16,
+    channel: u8,
+    number: u8,
+    unit: &[u8],
+    output: &mut [u8],
+    count: &mut u64,
+) -> u8
+    ensures number { λ r. ⌜ r ≡ numberOf (answer (writing spacecraft channel (Ad number) (now (unit .entry)) (length (now (output .entry))))) ⌝ }
+    ensures memory { λ r. ⌜ now (output .exit) ≡ after (writing spacecraft channel (Ad number) (now (unit .entry)) (length (now (output .entry)))) (now (output .entry)) ⌝ }
+    ensures counted { λ r. ⌜ now (count .exit) ≡ countOf (answer (writing spacecraft channel (Ad number) (now (unit .entry)) (length (now (output .entry))))) ⌝ }
+{
+    let written = frame::writer::write_ad(spacecraft, channel, number, unit, output);
+    told(written, count)
+}
+
+#[no_mangle]
+pub extern "C" fn frame_write_bd(
+    spacecraft: u16,
+    channel: u8,
+    unit: &[u8],
+    output: &mut [u8],
+    count: &mut u64,
+) -> u8
+    ensures number { λ r. ⌜ r ≡ numberOf (answer (writing spacecraft channel Bd (now (unit .entry)) (length (now (output .entry))))) ⌝ }
+    ensures memory { λ r. ⌜ now (output .exit) ≡ after (writing spacecraft channel Bd (now (unit .entry)) (length (now (output .entry)))) (now (output .entry)) ⌝ }
+    ensures counted { λ r. ⌜ now (count .exit) ≡ countOf (answer (writing spacecraft channel Bd (now (unit .entry)) (length (now (output .entry))))) ⌝ }
+{
+    let written = frame::writer::write_bd(spacecraft, channel, unit, output);
+    told(written, count)
+}
+
+#[no_mangle]
+pub extern "C" fn frame_write_unlock(
+    spacecraft: u16,
+    channel: u8,
+    output: &mut [u8],
+    count: &mut u64,
+) -> u8
+    ensures number { λ r. ⌜ r ≡ numberOf (answer (writing spacecraft channel Unlock [] (length (now (output .entry))))) ⌝ }
+    ensures memory { λ r. ⌜ now (output .exit) ≡ after (writing spacecraft channel Unlock [] (length (now (output .entry)))) (now (output .entry)) ⌝ }
+    ensures counted { λ r. ⌜ now (count .exit) ≡ countOf (answer (writing spacecraft channel Unlock [] (length (now (output .entry))))) ⌝ }
+{
+    let written = frame::writer::write_unlock(spacecraft, channel, output);
+    told(written, count)
+}
+
+#[no_mangle]
+pub extern "C" fn frame_write_set_vr(
+    spacecraft: u16,
+    channel: u8,
+    value: u8,
+    output: &mut [u8],
+    count: &mut u64,
+) -> u8
+    ensures number { λ r. ⌜ r ≡ numberOf (answer (writing spacecraft channel (SetVr value) [] (length (now (output .entry))))) ⌝ }
+    ensures memory { λ r. ⌜ now (output .exit) ≡ after (writing spacecraft channel (SetVr value) [] (length (now (output .entry)))) (now (output .entry)) ⌝ }
+    ensures counted { λ r. ⌜ now (count .exit) ≡ countOf (answer (writing spacecraft channel (SetVr value) [] (length (now (output .entry))))) ⌝ }
+{
+    let written = frame::writer::write_set_vr(spacecraft, channel, value, output);
+    told(written, count)
+}
+
+// The kind of a frame as a number, and what it carries.
+fn kind_number(kind: Kind) -> u8
+    ensures { λ r. ⌜ r ≡ kindNumber kind ⌝ }
+{
+    match kind {
+        Kind::Ad(_) => 0,
+        Kind::Bd => 1,
+        Kind::Unlock => 2,
+        Kind::SetVr(_) => 3,
+    }
+}
+
+fn kind_value(kind: Kind) -> u8
+    ensures { λ r. ⌜ r ≡ kindValue kind ⌝ }
+{
+    match kind {
+        Kind::Ad(number) => number,
+        Kind::Bd => 0,
+        Kind::Unlock => 0,
+        Kind::SetVr(value) => value,
+    }
+}
+
+// The data field of a frame that is not refused begins at its octet 5 and has `field` octets.
+#[no_mangle]
+pub extern "C" fn frame_read(
+    octets: &[u8],
+    spacecraft: u16,
+    channel: u8,
+    kind: &mut u8,
+    value: &mut u8,
+    total: &mut u16,
+    field: &mut u16,
+) -> u8
+    ensures number { λ r. ⌜ r ≡ readingNumber (readingOf (now (octets .entry)) spacecraft channel) ⌝ }
+    ensures kinds { λ r. ⌜ now (kind .exit) ≡ frameKind (readingOf (now (octets .entry)) spacecraft channel) ⌝ }
+    ensures values { λ r. ⌜ now (value .exit) ≡ frameValue (readingOf (now (octets .entry)) spacecraft channel) ⌝ }
+    ensures totals { λ r. ⌜ now (total .exit) ≡ frameTotal (readingOf (now (octets .entry)) spacecraft channel) ⌝ }
+    ensures fields { λ r. ⌜ now (field .exit) ≡ frameField (readingOf (now (octets .entry)) spacecraft channel) ⌝ }
+{
+    *kind = 0;
+    *value = 0;
+    *total = 0;
+    *field = 0;
+    let reading = frame::read(octets, spacecraft, channel);
+    match reading {
+        Reading::Frame(fields) => {
+            let found = fields.kind;
+            *kind = kind_number(found);
+            *value = kind_value(found);
+            *total = fields.total;
+            *field = fields.field;
+            0
+        }
+        Reading::Refused(number) => number,
+    }
+}

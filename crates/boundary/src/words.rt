@@ -1,0 +1,104 @@
+// Control words (clause 6.3). Flags cross as 1 or 0; any number but 0 given for a flag is taken as set.
+use clcw::Clcw;
+use clcw::Reading;
+use clcw::Written;
+ghost use mathlib.Core.Path.{_≡_};
+ghost use Prim.Native.Nat.{_≤_};
+ghost use lib.ListN.{length};
+ghost use Rattle.base.specs.Outcome.{answer, after, numberOf, countOf};
+ghost use Rattle.clcw.specs.Clcw.{writing};
+ghost use Rattle.clcw.specs.Answers.{writtenAnswer, readingOf, readingNumber};
+ghost use Rattle.boundary.specs.Numbers.{wordGiven, truth, wordValid, wordField, statusTold, rfTold, flagsTold, counterTold, reportTold};
+
+// What the writer answered, by its number and the count of octets written.
+fn told(written: Written, count: &mut u64) -> u8
+    ensures number { λ r. ⌜ r ≡ numberOf (writtenAnswer written) ⌝ }
+    ensures counted { λ r. ⌜ now (count .exit) ≡ countOf (writtenAnswer written) ⌝ }
+{
+    *count = 0;
+    match written {
+        Written::Done(n) => {
+            *count = n as u64;
+            0
+        }
+        Written::Setting => 12,
+        Written::Room => 11,
+    }
+}
+
+#[no_mangle]
+pub extern "C" fn clcw_write(
+    channel: u8,
+    lockout: u8,
+    wait: u8,
+    retransmit: u8,
+    counter: u8,
+    report: u8,
+    output: &mut [u8],
+    count: &mut u64,
+) -> u8
+    ensures number { λ r. ⌜ r ≡ numberOf (answer (writing (wordGiven channel lockout wait retransmit counter report) (length (now (output .entry))))) ⌝ }
+    ensures memory { λ r. ⌜ now (output .exit) ≡ after (writing (wordGiven channel lockout wait retransmit counter report) (length (now (output .entry)))) (now (output .entry)) ⌝ }
+    ensures counted { λ r. ⌜ now (count .exit) ≡ countOf (answer (writing (wordGiven channel lockout wait retransmit counter report) (length (now (output .entry))))) ⌝ }
+{
+    let word = Clcw {
+        channel: channel,
+        lockout: lockout != 0,
+        wait: wait != 0,
+        retransmit: retransmit != 0,
+        counter: counter,
+        report: report,
+    };
+    let written = word.write(output);
+    told(written, count)
+}
+
+fn flag(set: bool) -> u8
+    ensures number { λ r. ⌜ r ≡ truth set ⌝ }
+    ensures small { λ r. ⌜ r ≤ 1 ⌝ }
+{
+    if set { 1 } else { 0 }
+}
+
+#[no_mangle]
+pub extern "C" fn clcw_read(
+    octets: &[u8],
+    channel: u8,
+    valid: &mut u8,
+    status: &mut u8,
+    rf: &mut u8,
+    flags: &mut u8,
+    counter: &mut u8,
+    report: &mut u8,
+) -> u8
+    ensures number { λ r. ⌜ r ≡ readingNumber (readingOf (now (octets .entry)) channel) ⌝ }
+    ensures validity { λ r. ⌜ now (valid .exit) ≡ wordValid (readingOf (now (octets .entry)) channel) ⌝ }
+    ensures statuses { λ r. ⌜ now (status .exit) ≡ wordField statusTold (readingOf (now (octets .entry)) channel) ⌝ }
+    ensures radio { λ r. ⌜ now (rf .exit) ≡ wordField rfTold (readingOf (now (octets .entry)) channel) ⌝ }
+    ensures flagged { λ r. ⌜ now (flags .exit) ≡ wordField flagsTold (readingOf (now (octets .entry)) channel) ⌝ }
+    ensures counters { λ r. ⌜ now (counter .exit) ≡ wordField counterTold (readingOf (now (octets .entry)) channel) ⌝ }
+    ensures reports { λ r. ⌜ now (report .exit) ≡ wordField reportTold (readingOf (now (octets .entry)) channel) ⌝ }
+{
+    *valid = 0;
+    *status = 0;
+    *rf = 0;
+    *flags = 0;
+    *counter = 0;
+    *report = 0;
+    let reading = Clcw::read(octets, channel);
+    match reading {
+        Reading::Word(received) => {
+            let word = received.word;
+            *valid = 1;
+            *status = received.status;
+            *rf = flag(received.no_rf) * 2 + flag(received.no_bit_lock);
+            *flags = flag(word.lockout) * 4 + flag(word.wait) * 2 + flag(word.retransmit);
+            *counter = word.counter;
+            *report = word.report;
+            0
+        }
+        Reading::Invalid => 0,
+        Reading::Address => 7,
+        Reading::Length => 10,
+    }
+}

@@ -1,0 +1,234 @@
+-- The other way: a frame that was read, written again from what was read, is the frame that was lent without its fill. So it is for an
+-- AD frame (`again-ad`), and for any frame whose octet 4 is zero (`again-zero`). A type-B frame's N(S) is not looked at, and is
+-- written as zero: in general the two agree at every place before the FECF other than 4 (`again-others`).
+use mathlib.Core.Path.{_≡_, refl, sym, ap, _∙_}
+use mathlib.Core.Bool.{Bool, true, false}
+use mathlib.Core.List.{List, _∷_, _++_}
+use Prim.Native.Nat.{ℕ, zero, suc, _+_, _-_, _*_, _/_, _%_, _<_, _≤_}
+use native.Mathlib.Omega.{arith}
+use borrow.Author.Tests.{eq-eqb, eqb-true}
+use lib.Dec.{eqb}
+use lib.ListN.{length, take, drop, getD, set, length-drop, length-set, List·getD-append}
+use lib.Seq.{take-add, getD-take, getD-drop, getD-set-other, length-take-le}
+use Rattle.base.specs.Choice.{pick, both}
+use Rattle.base.specs.Fields.{fieldAt}
+use Rattle.base.specs.Octets.{Octets, same}
+use Rattle.base.proofs.Lists.{same-equal, take-next}
+use Rattle.base.proofs.Tests.{apart}
+use Rattle.fecf.specs.Fecf.{fecfOf, syndromeOf, fieldOctets}
+use Rattle.frame.specs.Header.{bypassFlag, controlCommandFlag, frameSequenceNumber}
+use Rattle.frame.specs.Frame.{bypassOf, controlOf, numberOf, unlockCommand, setVrCommand, dataOf, bodyOf, rawFrame, frameOf, totalOf, dataField, isCommand, commandHeld, refusalOf, kindOf}
+use Rattle.frame.specs.declared.Kind.{Kind}
+use Rattle.frame.specs.declared.Kind.the-variants.{Ad, Bd, Unlock, SetVr}
+use Rattle.frame.proofs.Octets.{o, version-is, spare-is, bypass-is, control-is, spacecraft-is, channel-is, number-is, total-is, length-data}
+use Rattle.frame.proofs.Content.{octets-take, take-frame, content-test}
+use Rattle.frame.proofs.Accepted.{Accepted, accepted}
+use Rattle.frame.proofs.Written.{octets-at, Fits, body-is}
+
+-- a kind gives the flags and the data back, and the number of a type-A frame
+record Told (kind : Kind) (bypass control number : ℕ) (data′ : List ℕ) : Type 0 where
+  bypassed : bypassOf kind ≡ bypass
+  controlled : controlOf kind ≡ control
+  ordered : control ≤ bypass
+  kept : dataOf kind data′ ≡ data′
+  numbered : (k : ℕ) → kind ≡ Ad k → numberOf kind ≡ number
+  zeroed : number ≡ 0 → numberOf kind ≡ number
+  small : number < 256 → numberOf kind < 256
+
+abbrev kindFor : ℕ → ℕ → ℕ → List ℕ → Kind
+kindFor bypass control number data′ =
+    pick (eqb control 1) (pick (same data′ unlockCommand) Unlock (SetVr (getD data′ 2 0))) (pick (eqb bypass 1) Bd (Ad number))
+
+told : (bypass control number : ℕ) (data′ : List ℕ) → bypass ≤ 1 → control ≤ 1 → both (eqb bypass 0) (eqb control 1) ≡ false
+    → pick (eqb control 1) (isCommand data′) true ≡ true → Told (kindFor bypass control number data′) bypass control number data′
+unfolding isCommand
+told zero zero number data′ hb hc type held = record {
+  bypassed = refl;
+  controlled = refl;
+  ordered = omega arith;
+  kept = refl;
+  numbered = λ k e. refl;
+  zeroed = λ z. refl;
+  small = λ l. l;
+}
+told (suc zero) zero number data′ hb hc type held = record {
+  bypassed = refl;
+  controlled = refl;
+  ordered = omega arith;
+  kept = refl;
+  numbered = λ k e. absurd (let z : _≡_ {A = ℕ} 0 1 = cc in omega arith);
+  zeroed = λ z. sym z;
+  small = λ l. omega arith;
+}
+told zero (suc zero) number data′ hb hc type held = absurd (apart (sym type))
+told (suc zero) (suc zero) number data′ hb hc type held = go (same data′ unlockCommand) refl held
+  where
+    go : (b : Bool) → same data′ unlockCommand ≡ b → pick b true (same data′ (setVrCommand (getD data′ 2 0))) ≡ true
+        → Told (pick b Unlock (SetVr (getD data′ 2 0))) 1 1 number data′
+    go true e t = record {
+      bypassed = refl;
+      controlled = refl;
+      ordered = omega arith;
+      kept = sym (same-equal data′ unlockCommand e);
+      numbered = λ k d. absurd (let z : _≡_ {A = ℕ} 0 1 = cc in omega arith);
+      zeroed = λ z. sym z;
+      small = λ l. omega arith;
+    }
+    go false e t = record {
+      bypassed = refl;
+      controlled = refl;
+      ordered = omega arith;
+      kept = sym (same-equal data′ (setVrCommand (getD data′ 2 0)) t);
+      numbered = λ k d. absurd (let z : _≡_ {A = ℕ} 0 1 = cc in omega arith);
+      zeroed = λ z. sym z;
+      small = λ l. omega arith;
+    }
+told zero (suc (suc control)) number data′ hb hc type held = absurd (omega arith)
+told (suc zero) (suc (suc control)) number data′ hb hc type held = absurd (omega arith)
+told (suc (suc bypass)) control number data′ hb hc type held = absurd (omega arith)
+
+-- the first two octets of a header with version and spare zero, by its fields
+high-octet : (x z b c spacecraft : ℕ) → z < 256 → x / 64 ≡ 0 → x / 4 % 4 ≡ 0 → b ≡ x / 32 % 2 → c ≡ x / 16 % 2 → x % 4 * 256 + z ≡ spacecraft
+    → b * 32 + c * 16 + spacecraft / 256 ≡ x
+high-octet x z b c spacecraft hz version spare eb ec es =
+    let q : spacecraft / 256 ≡ x % 4 = omega arith in
+    let r : x ≡ (x / 32 % 2) * 32 + (x / 16 % 2) * 16 + x % 4 = parts x version spare in
+    omega (arith, q, r, eb, ec)
+  where
+    parts : (x : ℕ) → x / 64 ≡ 0 → x / 4 % 4 ≡ 0 → x ≡ (x / 32 % 2) * 32 + (x / 16 % 2) * 16 + x % 4
+    parts x a b =
+        let u : x / 4 ≡ x / 16 * 4 = omega arith in
+        let v : x / 16 ≡ x / 32 * 2 + x / 16 % 2 = omega arith in
+        let w : x / 32 % 2 ≡ x / 32 = omega arith in
+        omega (arith, u, v, w)
+
+low-octet : (x z spacecraft : ℕ) → z < 256 → x % 4 * 256 + z ≡ spacecraft → spacecraft % 256 ≡ z
+low-octet x z spacecraft hz e = omega arith
+
+module _ (octets : List ℕ) (spacecraft channel : ℕ) (h : Octets octets) (e : refusalOf octets spacecraft channel ≡ 0) where
+  y : Accepted octets spacecraft channel
+  y = accepted octets spacecraft channel e
+
+  at : (i : ℕ) → getD octets i 0 < 256
+  at = octets-at octets h
+
+  bypass-here : fieldAt bypassFlag octets ≡ o octets 0 / 32 % 2
+  bypass-here = bypass-is octets at (y .lent)
+
+  control-here : fieldAt controlCommandFlag octets ≡ o octets 0 / 16 % 2
+  control-here = control-is octets at (y .lent)
+
+  told-here : Told (kindOf octets) (fieldAt bypassFlag octets) (fieldAt controlCommandFlag octets) (fieldAt frameSequenceNumber octets) (dataField octets (totalOf octets))
+  unfolding kindOf commandHeld
+  told-here =
+      told (fieldAt bypassFlag octets) (fieldAt controlCommandFlag octets) (fieldAt frameSequenceNumber octets) (dataField octets (totalOf octets))
+      (omega (arith, bypass-here)) (omega (arith, control-here)) (y .type) (y .held)
+
+  length-unit : length (dataField octets (totalOf octets)) ≡ totalOf octets - 7
+  length-unit = length-data octets (totalOf octets) (y .low) (y .whole)
+
+  -- header and data, as they were lent
+  lent-body : take (totalOf octets - 2) octets
+      ≡ o octets 0 ∷ o octets 1 ∷ o octets 2 ∷ o octets 3 ∷ o octets 4 ∷ dataField octets (totalOf octets)
+  unfolding dataField
+  lent-body =
+      let k : 8 ≤ length octets = y .lent in
+      let l : 8 ≤ totalOf octets = y .low in
+      let n : totalOf octets - 2 ≡ 5 + (totalOf octets - 7) = omega arith in
+      ap (λ (j : ℕ). take j octets) n
+      ∙ take-add 5 (totalOf octets - 7) octets
+      ∙ ap (λ (x : List ℕ). x ++ take (totalOf octets - 7) (drop 5 octets))
+      (take-next octets 4 0 (omega arith)
+      ∙ ap (λ (x : List ℕ). o octets 0 ∷ x) (take-next octets 3 1 (omega arith)
+      ∙ ap (λ (x : List ℕ). o octets 1 ∷ x) (take-next octets 2 2 (omega arith)
+      ∙ ap (λ (x : List ℕ). o octets 2 ∷ x) (take-next octets 1 3 (omega arith)
+      ∙ ap (λ (x : List ℕ). o octets 3 ∷ x) (take-next octets 0 4 (omega arith))))))
+
+  fits : (number : ℕ) → number < 256
+      → Fits (fieldAt bypassFlag octets) (fieldAt controlCommandFlag octets) number spacecraft channel (dataField octets (totalOf octets))
+  unfolding dataField
+  fits number hn =
+      let l : 8 ≤ totalOf octets = y .low in
+      let m : totalOf octets ≤ 256 = y .high in
+      record {
+        flag = omega (arith, bypass-here);
+        type = told-here .ordered;
+        ns = hn;
+        address = omega (arith, spacecraft-is octets at (y .lent), y .ourSpacecraft, at 1);
+        virtual = omega (arith, channel-is octets at (y .lent), y .ourChannel, at 2);
+        low = omega (arith, length-unit);
+        high = omega (arith, length-unit);
+        octets = octets-part;
+      }
+    where
+      octets-part : Octets (take (totalOf octets - 7) (drop 5 octets))
+      octets-part =
+          octets-take (drop 5 octets) (totalOf octets - 7) (λ i. omega (arith, getD-drop 5 octets i 0, at (5 + i))) (omega (arith, length-drop 5 octets, y .whole))
+
+  -- and as they are written again
+  written-body : (number : ℕ) → number < 256
+      → bodyOf (bypassOf (kindOf octets)) (controlOf (kindOf octets)) number spacecraft channel (dataOf (kindOf octets) (dataField octets (totalOf octets)))
+      ≡ set (take (totalOf octets - 2) octets) 4 number
+  written-body number hn =
+      let unit = dataField octets (totalOf octets) in
+      let l : 8 ≤ totalOf octets = y .low in
+      let m : totalOf octets ≤ 256 = y .high in
+      let v : o octets 0 / 64 ≡ 0 = sym (version-is octets at (y .lent)) ∙ y .versionZero in
+      let r : o octets 0 / 4 % 4 ≡ 0 = sym (spare-is octets at (y .lent)) ∙ y .spareZero in
+      let s : o octets 0 % 4 * 256 + o octets 1 ≡ spacecraft = sym (spacecraft-is octets at (y .lent)) ∙ y .ourSpacecraft in
+      let c : o octets 2 / 4 ≡ channel = sym (channel-is octets at (y .lent)) ∙ y .ourChannel in
+      let n = total-is octets at (y .lent) in
+      let p : fieldAt bypassFlag octets * 32 + fieldAt controlCommandFlag octets * 16 + spacecraft / 256 ≡ o octets 0 =
+      high-octet (o octets 0) (o octets 1) (fieldAt bypassFlag octets) (fieldAt controlCommandFlag octets) spacecraft (at 1) v r bypass-here control-here s in
+      let q : spacecraft % 256 ≡ o octets 1 = low-octet (o octets 0) (o octets 1) spacecraft (at 1) s in
+      let w : channel * 4 + (length unit + 7 - 1) / 256 ≡ o octets 2 = omega (arith, length-unit, at 3) in
+      let x : (length unit + 7 - 1) % 256 ≡ o octets 3 = omega (arith, length-unit, at 3) in
+      let g : _≡_ {A = List ℕ}
+      ((fieldAt bypassFlag octets * 32 + fieldAt controlCommandFlag octets * 16 + spacecraft / 256) ∷ (spacecraft % 256) ∷ (channel * 4 + (length unit + 7 - 1) / 256) ∷ ((length unit + 7 - 1) % 256) ∷ number ∷ unit)
+      (o octets 0 ∷ o octets 1 ∷ o octets 2 ∷ o octets 3 ∷ number ∷ unit) = cc in
+      rw (told-here .bypassed, told-here .controlled, told-here .kept)
+      (body-is (fieldAt bypassFlag octets) (fieldAt controlCommandFlag octets) number spacecraft channel unit (fits number hn)
+      ∙ g
+      ∙ ap (λ (b : List ℕ). set b 4 number) (sym lent-body))
+
+  -- N(S) of a frame that was read
+  number-here : fieldAt frameSequenceNumber octets ≡ o octets 4
+  number-here = number-is octets at (y .lent)
+
+  small : numberOf (kindOf octets) < 256
+  small = told-here .small (omega (arith, number-here, at 4))
+
+  again : numberOf (kindOf octets) ≡ o octets 4
+      → frameOf spacecraft channel (kindOf octets) (dataField octets (totalOf octets)) ≡ take (totalOf octets) octets
+  unfolding rawFrame
+  again n =
+      let t = take (totalOf octets - 2) octets in
+      let f : o octets (totalOf octets - 2) * 256 + o octets (totalOf octets - 1) ≡ fecfOf t =
+      eqb-true (o octets (totalOf octets - 2) * 256 + o octets (totalOf octets - 1)) (fecfOf t)
+      (sym (content-test octets (totalOf octets) at (y .low) (y .whole)) ∙ eq-eqb (syndromeOf (take (totalOf octets) octets)) 0 (y .syndrome)) in
+      let b : bodyOf (bypassOf (kindOf octets)) (controlOf (kindOf octets)) (numberOf (kindOf octets)) spacecraft channel (dataOf (kindOf octets) (dataField octets (totalOf octets))) ≡ t =
+      written-body (numberOf (kindOf octets)) small ∙ ap (set t 4) n ∙ set-own in
+      ap (λ (x : List ℕ). x ++ fieldOctets (fecfOf x)) b ∙ ap (λ (x : ℕ). t ++ fieldOctets x) (sym f) ∙ sym (take-frame octets (totalOf octets) at (y .low) (y .whole))
+    where
+      set-own : set (take (totalOf octets - 2) octets) 4 (o octets 4) ≡ take (totalOf octets - 2) octets
+      set-own = ap (λ (x : List ℕ). set x 4 (o octets 4)) lent-body ∙ sym lent-body
+
+  pub again-ad : (number : ℕ) → kindOf octets ≡ Ad number
+      → frameOf spacecraft channel (kindOf octets) (dataField octets (totalOf octets)) ≡ take (totalOf octets) octets
+  again-ad number k = again (told-here .numbered number k ∙ number-here)
+
+  pub again-zero : getD octets 4 0 ≡ 0 → frameOf spacecraft channel (kindOf octets) (dataField octets (totalOf octets)) ≡ take (totalOf octets) octets
+  again-zero z = again (told-here .zeroed (number-here ∙ z) ∙ number-here)
+
+  pub again-others : (i : ℕ) → i < totalOf octets - 2 → (i ≡ 4 → ⊥)
+      → getD (frameOf spacecraft channel (kindOf octets) (dataField octets (totalOf octets))) i 0 ≡ getD octets i 0
+  unfolding rawFrame
+  again-others i l d =
+      let t = take (totalOf octets - 2) octets in
+      let b = bodyOf (bypassOf (kindOf octets)) (controlOf (kindOf octets)) (numberOf (kindOf octets)) spacecraft channel (dataOf (kindOf octets) (dataField octets (totalOf octets))) in
+      let w = written-body (numberOf (kindOf octets)) small in
+      let k : length b ≡ totalOf octets - 2 = ap length w ∙ length-set t 4 (numberOf (kindOf octets)) ∙ length-take-le (totalOf octets - 2) octets (omega (arith, y .whole)) in
+      List·getD-append b (fieldOctets (fecfOf b)) 0 i (omega arith)
+      ∙ ap (λ (x : List ℕ). getD x i 0) w
+      ∙ getD-set-other t 4 i (numberOf (kindOf octets)) 0 d
+      ∙ getD-take (totalOf octets - 2) octets i 0 l
