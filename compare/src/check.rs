@@ -8,13 +8,25 @@ const SHOWN_DIFFERENCES: usize = 3;
 /// So many octets of an input are shown.
 const SHOWN_OCTETS: usize = 64;
 
+/// How often each number was answered, and each kind with number 0.
+#[derive(Clone, Copy)]
+pub struct Met {
+    pub numbers: [u64; 256],
+    pub kinds: [u64; 256],
+}
+
+const NOTHING_MET: Met = Met {
+    numbers: [0; 256],
+    kinds: [0; 256],
+};
+
 pub struct Tally {
     pub inputs: u64,
     pub differences: u64,
-    /// How often the library answered each number.
-    pub met: [u64; 256],
-    /// How often it did so in the fixed cases.
-    pub met_in_fixed: [u64; 256],
+    /// What the library answered.
+    pub met: Met,
+    /// What it answered in the fixed cases.
+    pub met_in_fixed: Met,
     /// The first differences, as text.
     pub shown: Vec<String>,
 }
@@ -24,15 +36,20 @@ impl Tally {
         Tally {
             inputs: 0,
             differences: 0,
-            met: [0; 256],
-            met_in_fixed: [0; 256],
+            met: NOTHING_MET,
+            met_in_fixed: NOTHING_MET,
             shown: Vec::new(),
         }
     }
 
     /// The library answered this number.
     pub fn meet(&mut self, number: u8) {
-        self.met[number as usize] += 1;
+        self.met.numbers[number as usize] += 1;
+    }
+
+    /// The library answered number 0 with this kind.
+    pub fn meet_kind(&mut self, kind: u8) {
+        self.met.kinds[kind as usize] += 1;
     }
 
     /// One input is compared.
@@ -54,6 +71,16 @@ pub struct Octet(pub u8);
 impl Debug for Octet {
     fn fmt(&self, f: &mut fmt::Formatter) -> fmt::Result {
         write!(f, "{:02X}", self.0)
+    }
+}
+
+/// An answer of two octets, shown in hexadecimal.
+#[derive(PartialEq)]
+pub struct TwoOctets(pub u16);
+
+impl Debug for TwoOctets {
+    fn fmt(&self, f: &mut fmt::Formatter) -> fmt::Result {
+        write!(f, "{:04X}", self.0)
     }
 }
 

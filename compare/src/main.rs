@@ -5,7 +5,7 @@
 //!
 //! COUNT is the number of inputs, the fixed ones included, which are always compared.
 //! Exit status: 0 no difference; 1 differences; 2 bad usage; 3 no difference, but no
-//! random input met a number that the operation can answer.
+//! random input met a number, or a kind, that the operation can answer.
 
 mod cases;
 mod check;
@@ -19,8 +19,8 @@ use independent::fault::{Fault, FAULTS};
 use random::Random;
 use std::process::ExitCode;
 
-/// From so many inputs on, random ones must meet each number.
-const ENOUGH_TO_MEET_ALL: u64 = 10_000;
+/// From so many inputs on, random ones must meet each number and each kind.
+const ENOUGH_TO_MEET_ALL: u64 = 20_000;
 
 struct Settings {
     count: u64,
@@ -104,9 +104,16 @@ fn report(settings: &Settings, tallies: &[Tally]) -> ExitCode {
             operation.name, tally.inputs, tally.differences
         );
         for (number, name) in operation.numbers {
-            let met = tally.met[*number as usize];
+            let met = tally.met.numbers[*number as usize];
             print!("; {number} {name} {met}");
-            if met == tally.met_in_fixed[*number as usize] {
+            if met == tally.met_in_fixed.numbers[*number as usize] {
+                never_met += 1;
+            }
+        }
+        for (kind, name) in operation.kinds.iter().enumerate() {
+            let met = tally.met.kinds[kind];
+            print!("; {name} {met}");
+            if met == tally.met_in_fixed.kinds[kind] {
                 never_met += 1;
             }
         }
@@ -120,7 +127,7 @@ fn report(settings: &Settings, tallies: &[Tally]) -> ExitCode {
     }
     if never_met > 0 && settings.count >= ENOUGH_TO_MEET_ALL {
         println!(
-            "compared {inputs} inputs, 0 differences, but {never_met} numbers never met at random"
+            "compared {inputs} inputs, 0 differences, but {never_met} answers never met at random"
         );
         return ExitCode::from(3);
     }

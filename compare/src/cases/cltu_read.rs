@@ -20,13 +20,14 @@ pub const READ: Operation = Operation {
         (LENGTH, "length"),
         (ROOM, "room"),
     ],
+    kinds: &[],
     fixed: read_fixed,
     random: read_random,
 };
 
 /// Document 01, Limits, Refusals and Codeblock and CLTU.
 fn read_fixed(tally: &mut Tally, fault: Fault) {
-    let codeblock = inputs::with_error_control(&[0; 7]);
+    let codeblock = inputs::cltu::with_error_control(&[0; 7]);
     let start_and_tail = [&START_SEQUENCE[..], &TAIL_SEQUENCE].concat();
     let one_codeblock = [&START_SEQUENCE[..], &codeblock].concat();
     let whole = [&one_codeblock[..], &TAIL_SEQUENCE].concat();
@@ -62,7 +63,7 @@ fn read_fixed(tally: &mut Tally, fault: Fault) {
 }
 
 fn read_random(random: &mut Random, tally: &mut Tally, fault: Fault) {
-    let input = inputs::for_the_reader(random);
+    let input = inputs::cltu::for_the_reader(random);
 
     // The exact need, and where the input is refused more than could be decoded.
     let answer = cltu::read(&input, &mut vec![0; input.len()], Fault::None);

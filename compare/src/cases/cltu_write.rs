@@ -4,14 +4,16 @@ use super::{Operation, GUARD, ROOMS};
 use crate::check::{agree, show_answers, show_first_difference, show_octets, Tally};
 use crate::library;
 use crate::random::Random;
-use independent::cltu::{self, Written};
+use independent::cltu;
 use independent::fault::Fault;
+use independent::output::Written;
 use independent::refusal::{DONE, LENGTH, ROOM};
 
 pub const WRITE: Operation = Operation {
     name: "cltu_write",
     share: 20,
     numbers: &[(DONE, "done"), (LENGTH, "length"), (ROOM, "room")],
+    kinds: &[],
     fixed: write_fixed,
     random: write_random,
 };

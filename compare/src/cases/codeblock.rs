@@ -2,7 +2,7 @@
 
 use super::Operation;
 use crate::check::{agree, show_answers, show_octets, Octet, Tally};
-use crate::inputs::with_error_control;
+use crate::inputs::cltu::with_error_control;
 use crate::library;
 use crate::random::Random;
 use independent::bits;
@@ -14,6 +14,7 @@ pub const ERROR_CONTROL: Operation = Operation {
     name: "codeblock_error_control",
     share: 10,
     numbers: &[],
+    kinds: &[],
     fixed: error_control_fixed,
     random: error_control_random,
 };
@@ -22,6 +23,7 @@ pub const IS_GOOD: Operation = Operation {
     name: "codeblock_is_good",
     share: 15,
     numbers: &[(0, "bad"), (1, "good")],
+    kinds: &[],
     fixed: is_good_fixed,
     random: is_good_random,
 };

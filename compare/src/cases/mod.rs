@@ -5,29 +5,45 @@ use crate::check::Tally;
 use crate::random::Random;
 use independent::fault::Fault;
 
+mod clcw_read;
+mod clcw_write;
 mod cltu_read;
 mod cltu_write;
 mod codeblock;
+mod fecf;
+mod frame_read;
+mod frame_write;
 mod randomizer;
 
 pub struct Operation {
     pub name: &'static str,
     /// Its share of the random inputs.
     pub share: usize,
-    /// The numbers that it can answer, by name; none where it answers an octet.
+    /// The numbers that it can answer, by name; none where it answers octets.
     pub numbers: &'static [(u8, &'static str)],
+    /// The kinds of what it answers with number 0, by name, from kind 0 on; none where
+    /// there is one only.
+    pub kinds: &'static [&'static str],
     /// Compares the fixed cases.
     pub fixed: fn(&mut Tally, Fault),
     /// Compares one random input.
     pub random: fn(&mut Random, &mut Tally, Fault),
 }
 
-pub const OPERATIONS: [Operation; 5] = [
+pub const OPERATIONS: [Operation; 13] = [
     codeblock::ERROR_CONTROL,
     codeblock::IS_GOOD,
     randomizer::OCTET,
     cltu_write::WRITE,
     cltu_read::READ,
+    fecf::FECF,
+    frame_write::WRITE_AD,
+    frame_write::WRITE_BD,
+    frame_write::WRITE_UNLOCK,
+    frame_write::WRITE_SET_VR,
+    frame_read::READ,
+    clcw_write::WRITE,
+    clcw_read::READ,
 ];
 
 /// So many octets of an output buffer lie behind the lent part.

@@ -11,6 +11,7 @@ pub const OCTET: Operation = Operation {
     name: "randomizer_octet",
     share: 10,
     numbers: &[],
+    kinds: &[],
     fixed: octet_fixed,
     random: octet_random,
 };

@@ -1,6 +1,11 @@
 //! Octets as vectors of bits. Bit 0 is the most significant bit of the first
 //! octet, the one that is transmitted first.
 
+use std::ops::RangeInclusive;
+
+/// A field: its first and its last bit.
+pub type Field = RangeInclusive<usize>;
+
 pub fn from_octets(octets: &[u8]) -> Vec<bool> {
     let mut bits = Vec::with_capacity(8 * octets.len());
     for octet in octets {
@@ -25,6 +30,25 @@ pub fn to_octets(bits: &[bool]) -> Vec<u8> {
     octets
 }
 
+/// The number that a field holds, its most significant bit first.
+pub fn get(bits: &[bool], field: Field) -> usize {
+    let mut value = 0;
+    for &bit in &bits[field] {
+        value = 2 * value + bit as usize;
+    }
+    value
+}
+
+/// Lays a number out in a field, which is wide enough for it.
+pub fn put(bits: &mut [bool], field: Field, value: usize) {
+    let mut rest = value;
+    for bit in bits[field].iter_mut().rev() {
+        *bit = rest % 2 == 1;
+        rest /= 2;
+    }
+    assert!(rest == 0);
+}
+
 #[cfg(test)]
 mod tests {
     use super::*;
@@ -42,5 +66,14 @@ mod tests {
     fn there_and_back() {
         let octets: Vec<u8> = (0..=255).collect();
         assert_eq!(to_octets(&from_octets(&octets)), octets);
+    }
+    #[test]
+    fn a_field_is_laid_out_and_taken() {
+        let mut bits = vec![true; 16];
+        put(&mut bits, 6..=15, 0x2A5);
+        assert_eq!(to_octets(&bits), [0xFE, 0xA5]);
+        assert_eq!(get(&bits, 6..=15), 0x2A5);
+        assert_eq!(get(&bits, 6..=6), 1);
+        assert_eq!(get(&bits, 7..=7), 0);
     }
 }

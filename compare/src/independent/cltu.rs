@@ -4,6 +4,7 @@
 use crate::bits;
 use crate::codeblock::{self, CODEBLOCK_BITS, INFORMATION_BITS};
 use crate::fault::Fault;
+use crate::output::{self, Written};
 use crate::randomizer;
 use crate::refusal::{DONE, LENGTH, NO_BLOCK, NO_END, NO_START, ROOM};
 
@@ -20,15 +21,6 @@ const FILL: u8 = 0x55;
 const FRAME_LEAST: usize = 8;
 const FRAME_MOST: usize = 256;
 const INPUT_MOST: usize = 4096;
-
-/// The answer of writing.
-#[derive(Clone, Copy, PartialEq, Eq, Debug)]
-pub struct Written {
-    /// The number of document 01, Refusals.
-    pub number: u8,
-    /// The octets written.
-    pub count: u64,
-}
 
 /// The answer of reading.
 #[derive(Clone, Copy, PartialEq, Eq, Debug)]
@@ -67,23 +59,9 @@ pub fn encode(frame: &[u8], fault: Fault) -> Vec<u8> {
 /// Writes a frame as a CLTU (document 01, Refusals: 10, then 11).
 pub fn write(frame: &[u8], output: &mut [u8], fault: Fault) -> Written {
     if frame.len() < FRAME_LEAST || frame.len() > FRAME_MOST {
-        return Written {
-            number: LENGTH,
-            count: 0,
-        };
+        return Written::refused(LENGTH);
     }
-    let cltu = encode(frame, fault);
-    if output.len() < cltu.len() {
-        return Written {
-            number: ROOM,
-            count: 0,
-        };
-    }
-    hand_out(&cltu, output, fault);
-    Written {
-        number: DONE,
-        count: cltu.len() as u64,
-    }
+    output::write(&encode(frame, fault), output, fault)
 }
 
 /// Reads a CLTU (document 01, Refusals: 10, 1, then 2 or 3, then 11).
@@ -121,7 +99,7 @@ pub fn read(input: &[u8], output: &mut [u8], fault: Fault) -> Read {
     if output.len() < decoded.len() {
         return refuse(ROOM, 0);
     }
-    hand_out(&decoded, output, fault);
+    output::hand_out(&decoded, output, fault);
     if fault == Fault::PlaceOffByEight {
         next += CODEBLOCK_BITS;
     }
@@ -169,14 +147,6 @@ fn refuse(number: u8, place: usize) -> Read {
         place: place as u64 / 8,
         corrected: 0,
     }
-}
-
-/// Only the octets handed out are touched (document 01, Refusals).
-fn hand_out(octets: &[u8], output: &mut [u8], fault: Fault) {
-    if fault == Fault::TouchesAll {
-        output.fill(0);
-    }
-    output[..octets.len()].copy_from_slice(octets);
 }
 
 #[cfg(test)]

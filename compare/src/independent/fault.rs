@@ -22,10 +22,25 @@ pub enum Fault {
     PlaceOffByEight,
     /// A success clears the whole lent output first.
     TouchesAll,
+    /// The frame reader refuses a type-B frame whose N(S) is not zero: clause 6.2.2.9,
+    /// not document 01.
+    FrameNSOfTypeB,
+    /// The frame reader judges the address before the FECF.
+    FrameAddressBeforeCheck,
+    /// The frame reader refuses every frame.
+    FrameRefusesAll,
+    /// Seven octets after the frame are taken for fill.
+    FrameFillSeven,
+    /// The FECF is the remainder without the presetting polynomial (clause 6.2.4.2).
+    FecfPresetZero,
+    /// A CLCW with spare bits that are not zero is valid (clauses 6.3.7 and 6.3.14).
+    ClcwSpareTaken,
+    /// The Lockout Flag stands in the neighbouring bit 17 (clause 6.3.1).
+    ClcwFlagAtNeighbour,
 }
 
 /// The faults by name.
-pub const FAULTS: [(&str, Fault); 9] = [
+pub const FAULTS: [(&str, Fault); 16] = [
     ("fill_zero", Fault::FillZero),
     ("randomizer_through", Fault::RandomizerThrough),
     ("randomizer_late", Fault::RandomizerLate),
@@ -35,4 +50,11 @@ pub const FAULTS: [(&str, Fault); 9] = [
     ("start_one_error", Fault::StartOneError),
     ("place_off_by_eight", Fault::PlaceOffByEight),
     ("touches_all", Fault::TouchesAll),
+    ("frame_n_s_of_type_b", Fault::FrameNSOfTypeB),
+    ("frame_address_before_check", Fault::FrameAddressBeforeCheck),
+    ("frame_refuses_all", Fault::FrameRefusesAll),
+    ("frame_fill_seven", Fault::FrameFillSeven),
+    ("fecf_preset_zero", Fault::FecfPresetZero),
+    ("clcw_spare_taken", Fault::ClcwSpareTaken),
+    ("clcw_flag_at_neighbour", Fault::ClcwFlagAtNeighbour),
 ];

@@ -3,8 +3,12 @@
 //! bit by bit.
 
 pub mod bits;
+pub mod clcw;
 pub mod cltu;
 pub mod codeblock;
 pub mod fault;
+pub mod fecf;
+pub mod frame;
+pub mod output;
 pub mod randomizer;
 pub mod refusal;

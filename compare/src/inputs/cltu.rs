@@ -1,5 +1,6 @@
-//! Inputs made by the independent side, always without a fault.
+//! Inputs to the CLTU reader.
 
+use super::{any_of, noise, Kind};
 use crate::random::Random;
 use independent::bits;
 use independent::cltu::{self, START_SEQUENCE, TAIL_SEQUENCE};
@@ -27,11 +28,6 @@ fn whole_cltu(random: &mut Random) -> Vec<u8> {
     cltu::encode(&frame(random), Fault::None)
 }
 
-fn noise(random: &mut Random, most: usize) -> Vec<u8> {
-    let length = random.between(0, most);
-    random.octets(length)
-}
-
 /// A good codeblock; now and then one that holds a start sequence.
 fn good_codeblock(random: &mut Random) -> Vec<u8> {
     let mut information = random.octets(7);
@@ -42,13 +38,7 @@ fn good_codeblock(random: &mut Random) -> Vec<u8> {
     with_error_control(&information)
 }
 
-/// A kind of input to the CLTU reader, and its share of these inputs.
-struct Kind {
-    share: usize,
-    make: fn(&mut Random) -> Vec<u8>,
-}
-
-const KINDS: [Kind; 14] = [
+const KINDS: [Kind<Vec<u8>>; 14] = [
     Kind {
         share: 14,
         make: surrounded,
@@ -109,8 +99,7 @@ const KINDS: [Kind; 14] = [
 
 /// An input to the CLTU reader.
 pub fn for_the_reader(random: &mut Random) -> Vec<u8> {
-    let kind = random.pick_by_share(&KINDS, |kind| kind.share);
-    (kind.make)(random)
+    any_of(&KINDS, random)
 }
 
 /// A whole CLTU, with random octets before and after it.

@@ -1,0 +1,388 @@
+//! The TC Transfer Frame: primary header, data field, FECF (clause 6.2.1), written and
+//! read by the rules of document 01.
+
+use crate::bits::{self, Field};
+use crate::fault::Fault;
+use crate::fecf::{self, FECF_BITS};
+use crate::output::{self, Written};
+use crate::refusal::{ADDRESS, CHECK, COMMAND, DONE, FILL, HEADER, LENGTH, SETTING, SHORT};
+
+/// The fields of the primary header (clauses 6.2.2.2 to 6.2.2.9).
+pub const VERSION_NUMBER: Field = 0..=1;
+pub const BYPASS_FLAG: Field = 2..=2;
+pub const CONTROL_COMMAND_FLAG: Field = 3..=3;
+pub const RESERVED_SPARE: Field = 4..=5;
+pub const SPACECRAFT_IDENTIFIER: Field = 6..=15;
+pub const VIRTUAL_CHANNEL_IDENTIFIER: Field = 16..=21;
+pub const FRAME_LENGTH: Field = 22..=31;
+pub const FRAME_SEQUENCE_NUMBER: Field = 32..=39;
+
+const HEADER_BITS: usize = 40;
+
+/// Clause 7.8.
+const UNLOCK: [u8; 1] = [0b0000_0000];
+const SET_VR: [u8; 2] = [0b1000_0010, 0b0000_0000];
+
+/// Limits of a frame and of a unit, in octets, and of an address (document 01, Limits).
+const FRAME_LEAST: usize = 8;
+const FRAME_MOST: usize = 256;
+const UNIT_LEAST: usize = 1;
+const UNIT_MOST: usize = 249;
+const SPACECRAFT_MOST: u16 = 1023;
+const CHANNEL_MOST: u8 = 63;
+
+/// So many octets may follow the frame (document 01, Refusals).
+const FILL_MOST: usize = 6;
+
+/// What a frame carries.
+#[derive(Clone, PartialEq, Eq, Debug)]
+pub enum Content {
+    Ad { number: u8, unit: Vec<u8> },
+    Bd { unit: Vec<u8> },
+    Unlock,
+    SetVr { value: u8 },
+}
+
+impl Content {
+    /// The Transfer Frame Data Field (clause 6.2.3).
+    pub fn data(&self) -> Vec<u8> {
+        match self {
+            Content::Ad { unit, .. } | Content::Bd { unit } => unit.clone(),
+            Content::Unlock => UNLOCK.to_vec(),
+            Content::SetVr { value } => [&SET_VR[..], &[*value]].concat(),
+        }
+    }
+
+    /// The Bypass Flag, the Control Command Flag (Table 6-3) and N(S), which is zero in
+    /// type-B frames (clause 6.2.2.9).
+    fn flags_and_number(&self) -> (usize, usize, u8) {
+        match self {
+            Content::Ad { number, .. } => (0, 0, *number),
+            Content::Bd { .. } => (1, 0, 0),
+            Content::Unlock | Content::SetVr { .. } => (1, 1, 0),
+        }
+    }
+}
+
+/// The kinds of a frame that is read.
+pub const AD: u8 = 0;
+pub const BD: u8 = 1;
+pub const BC_UNLOCK: u8 = 2;
+pub const BC_SET_VR: u8 = 3;
+
+/// The answer of reading. All but the number are zero after a refusal.
+#[derive(Clone, Copy, PartialEq, Eq, Debug)]
+pub struct Read {
+    /// The number of document 01, Refusals.
+    pub number: u8,
+    /// AD, BD, Unlock or Set V(R).
+    pub kind: u8,
+    /// N(S) of an AD frame, the value of Set V(R), otherwise zero.
+    pub value: u8,
+    /// The octets of the frame.
+    pub total: u16,
+    /// The octets of its data field.
+    pub field: u16,
+}
+
+impl Read {
+    pub fn refused(number: u8) -> Read {
+        Read {
+            number,
+            kind: 0,
+            value: 0,
+            total: 0,
+            field: 0,
+        }
+    }
+}
+
+/// The frame, whatever its length, as long as each number has room in its field.
+pub fn encode(spacecraft: u16, channel: u8, content: &Content, fault: Fault) -> Vec<u8> {
+    let data = bits::from_octets(&content.data());
+    let all_bits = HEADER_BITS + data.len() + FECF_BITS;
+    let (bypass, control_command, number) = content.flags_and_number();
+
+    let mut frame = vec![false; HEADER_BITS];
+    bits::put(&mut frame, VERSION_NUMBER, 0b00);
+    bits::put(&mut frame, BYPASS_FLAG, bypass);
+    bits::put(&mut frame, CONTROL_COMMAND_FLAG, control_command);
+    bits::put(&mut frame, RESERVED_SPARE, 0b00);
+    bits::put(&mut frame, SPACECRAFT_IDENTIFIER, spacecraft as usize);
+    bits::put(&mut frame, VIRTUAL_CHANNEL_IDENTIFIER, channel as usize);
+    bits::put(&mut frame, FRAME_LENGTH, all_bits / 8 - 1);
+    bits::put(&mut frame, FRAME_SEQUENCE_NUMBER, number as usize);
+    frame.extend(data);
+    frame.extend(fecf::field(&frame, fault));
+    bits::to_octets(&frame)
+}
+
+/// Writes a frame (document 01, Refusals: 10, 12, 11).
+pub fn write(
+    spacecraft: u16,
+    channel: u8,
+    content: &Content,
+    output: &mut [u8],
+    fault: Fault,
+) -> Written {
+    let unit = content.data().len();
+    if !(UNIT_LEAST..=UNIT_MOST).contains(&unit) {
+        return Written::refused(LENGTH);
+    }
+    if spacecraft > SPACECRAFT_MOST || channel > CHANNEL_MOST {
+        return Written::refused(SETTING);
+    }
+    let frame = encode(spacecraft, channel, content, fault);
+    output::write(&frame, output, fault)
+}
+
+/// Reads a frame (document 01, Refusals: 4, 4, 10, 4, 5, 8, 6, 7, 9).
+pub fn read(octets: &[u8], spacecraft: u16, channel: u8, fault: Fault) -> Read {
+    // Frame delimiting and fill removal (clause 6.6).
+    if octets.len() < FRAME_LEAST || fault == Fault::FrameRefusesAll {
+        return Read::refused(SHORT);
+    }
+    let candidate = bits::from_octets(octets);
+    let total = bits::get(&candidate, FRAME_LENGTH) + 1;
+    if total < FRAME_LEAST {
+        return Read::refused(SHORT);
+    }
+    if total > FRAME_MOST {
+        return Read::refused(LENGTH);
+    }
+    if total > octets.len() {
+        return Read::refused(SHORT);
+    }
+    let fill_most = match fault {
+        Fault::FrameFillSeven => 7,
+        _ => FILL_MOST,
+    };
+    if octets.len() - total > fill_most {
+        return Read::refused(FILL);
+    }
+    let frame = &candidate[..8 * total];
+
+    let ours = bits::get(frame, SPACECRAFT_IDENTIFIER) == spacecraft as usize
+        && bits::get(frame, VIRTUAL_CHANNEL_IDENTIFIER) == channel as usize;
+    if fault == Fault::FrameAddressBeforeCheck && !ours {
+        return Read::refused(ADDRESS);
+    }
+
+    // Frame error control (clause 6.7).
+    if !fecf::is_right(frame, fault) {
+        return Read::refused(CHECK);
+    }
+
+    // Frame header validation (clause 6.8).
+    let version = bits::get(frame, VERSION_NUMBER);
+    let spare = bits::get(frame, RESERVED_SPARE);
+    if version != 0 || spare != 0 {
+        return Read::refused(HEADER);
+    }
+    let bypass = bits::get(frame, BYPASS_FLAG);
+    let control_command = bits::get(frame, CONTROL_COMMAND_FLAG);
+    if (bypass, control_command) == (0, 1) {
+        return Read::refused(HEADER);
+    }
+    let number = bits::get(frame, FRAME_SEQUENCE_NUMBER) as u8;
+    if fault == Fault::FrameNSOfTypeB && bypass == 1 && number != 0 {
+        return Read::refused(HEADER);
+    }
+    if !ours {
+        return Read::refused(ADDRESS);
+    }
+
+    // The data field, which is a control command in BC frames (clause 7.8).
+    let data = bits::to_octets(&frame[HEADER_BITS..frame.len() - FECF_BITS]);
+    let (kind, value) = match (bypass, control_command) {
+        (0, 0) => (AD, number),
+        (1, 0) => (BD, 0),
+        _ if data == UNLOCK => (BC_UNLOCK, 0),
+        _ if data.len() == 3 && data[..2] == SET_VR => (BC_SET_VR, data[2]),
+        _ => return Read::refused(COMMAND),
+    };
+    Read {
+        number: DONE,
+        kind,
+        value,
+        total: total as u16,
+        field: data.len() as u16,
+    }
+}
+
+#[cfg(test)]
+mod tests {
+    use super::*;
+    use crate::refusal::ROOM;
+
+    fn unit(length: usize) -> Vec<u8> {
+        (0..length).map(|n| (37 * n + 11) as u8).collect()
+    }
+
+    /// A frame from its octets without FECF.
+    fn with_fecf(octets: &[u8]) -> Vec<u8> {
+        let message = bits::from_octets(octets);
+        let field = fecf::field(&message, Fault::None);
+        [octets, &bits::to_octets(&field)].concat()
+    }
+
+    fn done(kind: u8, value: u8, total: u16, field: u16) -> Read {
+        Read {
+            number: DONE,
+            kind,
+            value,
+            total,
+            field,
+        }
+    }
+
+    // Document 01, Frame.
+    #[test]
+    fn three_frames() {
+        let ad = Content::Ad {
+            number: 255,
+            unit: vec![0xAB],
+        };
+        let three: [(u16, u8, Content, &[u8], Read); 3] = [
+            (
+                1,
+                0,
+                Content::Unlock,
+                &[0x30, 0x01, 0x00, 0x07, 0x00, 0x00],
+                done(BC_UNLOCK, 0, 8, 1),
+            ),
+            (
+                1,
+                0,
+                Content::SetVr { value: 5 },
+                &[0x30, 0x01, 0x00, 0x09, 0x00, 0x82, 0x00, 0x05],
+                done(BC_SET_VR, 5, 10, 3),
+            ),
+            (
+                0x2A5,
+                3,
+                ad,
+                &[0x02, 0xA5, 0x0C, 0x07, 0xFF, 0xAB],
+                done(AD, 255, 8, 1),
+            ),
+        ];
+        for (spacecraft, channel, content, octets, answer) in three {
+            let frame = encode(spacecraft, channel, &content, Fault::None);
+            assert_eq!(frame, with_fecf(octets));
+            assert_eq!(read(&frame, spacecraft, channel, Fault::None), answer);
+        }
+    }
+
+    #[test]
+    fn what_is_written_is_read() {
+        for length in 1..=249 {
+            for (content, kind, value) in [
+                (
+                    Content::Ad {
+                        number: length as u8,
+                        unit: unit(length),
+                    },
+                    AD,
+                    length as u8,
+                ),
+                (Content::Bd { unit: unit(length) }, BD, 0),
+            ] {
+                let mut output = vec![0xAA; length + 8];
+                let answer = write(1023, 63, &content, &mut output, Fault::None);
+                let count = length as u64 + 7;
+                assert_eq!(
+                    answer,
+                    Written {
+                        number: DONE,
+                        count
+                    }
+                );
+                assert_eq!(output.pop(), Some(0xAA));
+                assert_eq!(output[5..5 + length], unit(length));
+                for fill in 0..=7 {
+                    let answer = read(&output, 1023, 63, Fault::None);
+                    if fill <= 6 {
+                        assert_eq!(answer, done(kind, value, count as u16, length as u16));
+                    } else {
+                        assert_eq!(answer, Read::refused(FILL));
+                    }
+                    output.push(0x55);
+                }
+            }
+        }
+    }
+
+    #[test]
+    fn writing_refuses() {
+        for (spacecraft, channel, length, room, number) in [
+            (1023, 63, 1, 8, DONE),
+            (1023, 63, 249, 256, DONE),
+            (1023, 63, 249, 255, ROOM),
+            (1024, 63, 1, 7, SETTING),
+            (1023, 64, 1, 7, SETTING),
+            (1024, 64, 0, 0, LENGTH),
+            (0, 0, 250, 400, LENGTH),
+        ] {
+            let content = Content::Bd { unit: unit(length) };
+            let mut output = vec![0xAA; room];
+            let answer = write(spacecraft, channel, &content, &mut output, Fault::None);
+            assert_eq!(answer.number, number);
+            if number != DONE {
+                assert_eq!(answer.count, 0);
+                assert_eq!(output, vec![0xAA; room]);
+            }
+        }
+    }
+
+    // Each of these breaks one more rule than the one before it, an earlier one, with
+    // the FECF right as long as it is not itself the one broken.
+    #[test]
+    fn the_order_of_the_checks() {
+        let no_command = [0x30, 0x01, 0x00, 0x08, 0x00, 0x82, 0x00];
+        let frame = with_fecf(&no_command);
+        assert_eq!(read(&frame, 1, 0, Fault::None).number, COMMAND);
+        assert_eq!(read(&frame, 2, 0, Fault::None).number, ADDRESS);
+        assert_eq!(read(&frame, 1, 1, Fault::None).number, ADDRESS);
+
+        for header in [0x70, 0xB0, 0xF0, 0x34, 0x38, 0x3C, 0x10] {
+            let mut no_header = no_command;
+            no_header[0] = header;
+            let mut frame = with_fecf(&no_header);
+            assert_eq!(read(&frame, 2, 0, Fault::None).number, HEADER);
+            frame[8] ^= 1;
+            assert_eq!(read(&frame, 2, 0, Fault::None).number, CHECK);
+            frame.extend([0x55; 7]);
+            assert_eq!(read(&frame, 2, 0, Fault::None).number, FILL);
+            frame[3] = 0x10;
+            assert_eq!(read(&frame, 2, 0, Fault::None).number, SHORT);
+            frame[2] = 0x03;
+            assert_eq!(read(&frame, 2, 0, Fault::None).number, LENGTH);
+            assert_eq!(read(&frame[..7], 2, 0, Fault::None).number, SHORT);
+            frame[2] = 0;
+            frame[3] = 0x06;
+            assert_eq!(read(&frame, 2, 0, Fault::None).number, SHORT);
+        }
+    }
+
+    // Document 01, Limits: an own address beyond the limits matches no frame.
+    #[test]
+    fn own_address_beyond_the_limits() {
+        let frame = with_fecf(&[0x30, 0x01, 0x00, 0x07, 0x00, 0x00]);
+        for spacecraft in (0..=u16::MAX).step_by(1024) {
+            for channel in (0..=u8::MAX).step_by(64) {
+                let answer = read(&frame, spacecraft + 1, channel, Fault::None);
+                let ours = (spacecraft, channel) == (0, 0);
+                assert_eq!(answer.number, if ours { DONE } else { ADDRESS });
+            }
+        }
+    }
+
+    // Document 01, Frame: on reading, N(S) of type-B frames isn't looked at.
+    #[test]
+    fn number_of_type_b_is_not_judged() {
+        let bd = with_fecf(&[0x20, 0x01, 0x00, 0x07, 0x09, 0x01]);
+        let unlock = with_fecf(&[0x30, 0x01, 0x00, 0x07, 0xFF, 0x00]);
+        assert_eq!(read(&bd, 1, 0, Fault::None), done(BD, 0, 8, 1));
+        assert_eq!(read(&unlock, 1, 0, Fault::None), done(BC_UNLOCK, 0, 8, 1));
+    }
+}

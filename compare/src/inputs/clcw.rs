@@ -1,0 +1,190 @@
+//! Inputs to the CLCW reader.
+
+use super::{any_of, noise, Kind};
+use crate::random::Random;
+use independent::bits::{self, Field};
+use independent::clcw::{
+    self, Report, CONTROL_WORD_TYPE, COP_IN_EFFECT, FARM_B_COUNTER, LOCKOUT_FLAG, NO_BIT_LOCK_FLAG,
+    NO_RF_AVAILABLE_FLAG, REPORT_VALUE, RESERVED_SPARE_OF_ONE, RESERVED_SPARE_OF_TWO,
+    RETRANSMIT_FLAG, STATUS_FIELD, VERSION_NUMBER, VIRTUAL_CHANNEL_IDENTIFICATION, WAIT_FLAG,
+};
+use independent::fault::Fault;
+
+/// What is lent to the reader, and its own channel.
+pub struct Input {
+    pub octets: Vec<u8>,
+    pub channel: u8,
+}
+
+const ALL_FIELDS: [Field; 14] = [
+    CONTROL_WORD_TYPE,
+    VERSION_NUMBER,
+    STATUS_FIELD,
+    COP_IN_EFFECT,
+    VIRTUAL_CHANNEL_IDENTIFICATION,
+    RESERVED_SPARE_OF_TWO,
+    NO_RF_AVAILABLE_FLAG,
+    NO_BIT_LOCK_FLAG,
+    LOCKOUT_FLAG,
+    WAIT_FLAG,
+    RETRANSMIT_FLAG,
+    FARM_B_COUNTER,
+    RESERVED_SPARE_OF_ONE,
+    REPORT_VALUE,
+];
+
+/// The fields of which all values are valid.
+const FREE_FIELDS: [Field; 9] = [
+    STATUS_FIELD,
+    VIRTUAL_CHANNEL_IDENTIFICATION,
+    NO_RF_AVAILABLE_FLAG,
+    NO_BIT_LOCK_FLAG,
+    LOCKOUT_FLAG,
+    WAIT_FLAG,
+    RETRANSMIT_FLAG,
+    FARM_B_COUNTER,
+    REPORT_VALUE,
+];
+
+/// A report within the limits: document 01, Limits.
+pub fn report(random: &mut Random) -> Report {
+    let mut flag = || *random.pick(&[0, 0, 0, 1, 2, 128, 255]);
+    let (lockout, wait, retransmit) = (flag(), flag(), flag());
+    Report {
+        channel: random.between(0, 63) as u8,
+        lockout,
+        wait,
+        retransmit,
+        counter: random.between(0, 3) as u8,
+        value: random.number() as u8,
+    }
+}
+
+/// A valid word with any value in each field where any is valid.
+fn valid_word(random: &mut Random) -> Vec<bool> {
+    let mut word = clcw::encode(&report(random), Fault::None);
+    for field in FREE_FIELDS {
+        if random.once_in(2) {
+            put_any(&mut word, field, random);
+        }
+    }
+    word
+}
+
+fn put_any(word: &mut [bool], field: Field, random: &mut Random) {
+    for bit in &mut word[field] {
+        *bit = random.once_in(2);
+    }
+}
+
+/// The word with its own channel.
+fn sent(word: &[bool]) -> Input {
+    Input {
+        octets: bits::to_octets(word),
+        channel: bits::get(word, VIRTUAL_CHANNEL_IDENTIFICATION) as u8,
+    }
+}
+
+const KINDS: [Kind<Input>; 7] = [
+    Kind {
+        share: 25,
+        make: valid,
+    },
+    Kind {
+        share: 15,
+        make: other_channel,
+    },
+    Kind {
+        share: 20,
+        make: one_field,
+    },
+    Kind {
+        share: 20,
+        make: damaged,
+    },
+    Kind {
+        share: 10,
+        make: several_rules_broken,
+    },
+    Kind {
+        share: 10,
+        make: other_length,
+    },
+    Kind {
+        share: 10,
+        make: only_noise,
+    },
+];
+
+/// An input to the CLCW reader.
+pub fn for_the_reader(random: &mut Random) -> Input {
+    any_of(&KINDS, random)
+}
+
+fn valid(random: &mut Random) -> Input {
+    sent(&valid_word(random))
+}
+
+/// Another channel, or one beyond the limit; the bits within it may be equal.
+fn other_channel(random: &mut Random) -> Input {
+    let mut input = valid(random);
+    break_channel(&mut input, random);
+    input
+}
+
+fn break_channel(input: &mut Input, random: &mut Random) {
+    match random.below(4) {
+        0 => input.channel ^= 1 << random.below(6),
+        1 => input.channel += 64 * random.between(1, 3) as u8,
+        2 => input.channel = *random.pick(&[0, 63, 64, 255]),
+        _ => input.channel = random.number() as u8,
+    }
+}
+
+/// A valid word with any value in one field, which may make it invalid.
+fn one_field(random: &mut Random) -> Input {
+    let mut word = valid_word(random);
+    let field = random.pick(&ALL_FIELDS).clone();
+    put_any(&mut word, field, random);
+    sent(&word)
+}
+
+/// One or several bits flipped, those of the channel too.
+fn damaged(random: &mut Random) -> Input {
+    let mut input = valid(random);
+    for _ in 0..*random.pick(&[1, 1, 1, 2, 3]) {
+        random.flip_a_bit(&mut input.octets);
+    }
+    input
+}
+
+/// An invalid word of another channel, or one of another length too.
+fn several_rules_broken(random: &mut Random) -> Input {
+    let mut input = one_field(random);
+    break_channel(&mut input, random);
+    if random.once_in(4) {
+        let length = random.between(0, 8);
+        input.octets.resize(length, 0);
+    }
+    input
+}
+
+/// A word of none to eight octets.
+fn other_length(random: &mut Random) -> Input {
+    let mut input = valid(random);
+    input.octets.extend(random.octets(4));
+    let length = random.between(0, 8);
+    input.octets.truncate(length);
+    input
+}
+
+/// Noise of any length, or of four octets with the reader's own channel.
+fn only_noise(random: &mut Random) -> Input {
+    if random.once_in(4) {
+        return Input {
+            octets: noise(random, 8),
+            channel: random.number() as u8,
+        };
+    }
+    sent(&bits::from_octets(&random.octets(4)))
+}
