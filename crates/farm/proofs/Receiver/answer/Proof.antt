@@ -1,0 +1,45 @@
+-- A buffer is taken where the unit is an AD unit, which is E1 with a free buffer.
+use borrow.Author.Needs.{needs}
+use mathlib.Core.Path.{_≡_, sym, ap, _∙_}
+use mathlib.Core.Logic.{⊎-elim}
+use Prim.Native.Nat.{_+_, _<_}
+use native.Mathlib.Omega.{arith}
+use Rattle.farm.specs.Receiver.{takes}
+use Rattle.farm.proofs.Told.{ad-unit, answer-of}
+use Rattle.farm.proofs.Receiver.answer.Statement.{statement}
+use Rattle.farm.proofs.Receiver.answer.Tie as tie
+
+unit-of-requires : tie.Need-unit-of-requires
+unit-of-requires c κs = search needs
+
+enum-told : tie.Need-enum-told
+enum-told c = search needs
+
+enum-told-2 : tie.Need-enum-told-2
+enum-told-2 c = search needs
+
+add-taken : tie.Need-add-taken
+add-taken c =
+    let a = c .before .before .before .before .before .args in
+    let e = ad-unit (a .event) (a .self .variables .state) (sym (c .before .before .before .unit-of .ensures) ∙ c .before .enum-told2 .given .1) in
+    let h : a .self .taken < a .self .buffers = c .before .before .before .before .before .pre e in
+    search needs
+
+enum-told-3 : tie.Need-enum-told-3
+enum-told-3 c = search needs
+
+step-requires : tie.Need-step-requires
+step-requires c κs = search needs
+
+returns : tie.Need-returns
+returns c =
+    let a = c .before .before .before .before .args in
+    let u = c .before .before .unit-of .result in
+    let t : c .before .match .taken ≡ a .self .taken + takes u =
+    ⊎-elim (λ w. omega (arith, ap takes (w .1 .given .1))) (⊎-elim (λ w. omega (arith, ap takes (w .1 .given .1))) (λ w. omega (arith, ap takes (w .1 .given .1)))) (c .before .match .came) in
+    answer-of (a .refusal) (a .event) (a .star) (a .self) u (c .before .match .taken) (c .step .result) (c .before .before .unit-of .ensures) t (c .step .ensures)
+
+pub answer-spec : {M : Type 1} → statement M
+answer-spec =
+    tie.close
+    (tie.spec unit-of-requires enum-told enum-told-2 add-taken enum-told-3 step-requires returns)

@@ -1,0 +1,159 @@
+-- Document 01, "FARM-1": the receiver's record, and what each of its functions answers.
+use Prim.Native.Nat.{ℕ, _+_, _-_, _%_}
+use mathlib.Core.Bool.{Bool, true, false}
+use mathlib.Core.List.{List, []}
+use lib.Dec.{leb, ltb, eqb}
+use Rattle.base.specs.Choice.{pick, must}
+use Rattle.base.specs.Limits.{largestSpacecraft, largestChannel}
+use Rattle.base.specs.Modulo.{offset}
+use Rattle.frame.specs.Answers.{readingOf, partOf}
+use Rattle.frame.specs.declared.Kind.{Kind}
+use Rattle.frame.specs.declared.Kind.the-variants.{Ad, Bd, Unlock, SetVr}
+use Rattle.frame.specs.declared.Fields.{Fields}
+use Rattle.frame.specs.declared.Reading.{Reading}
+use Rattle.frame.specs.declared.Reading.the-variants.{Frame, Refused as RefusedFrame}
+use Rattle.clcw.specs.declared.Clcw.{Clcw}
+use Rattle.farm.specs.Table.{stepOf, accepts}
+use Rattle.farm.specs.Window.{adEvent}
+use Rattle.farm.specs.declared.State.{State}
+use Rattle.farm.specs.declared.State.the-variants.{Open, Wait, Lockout}
+use Rattle.farm.specs.declared.Event.{Event}
+use Rattle.farm.specs.declared.Event.the-variants.{E1, E2, E3, E4, E5, E6, E7, E8, E9, E10, E11}
+use Rattle.farm.specs.declared.Variables.{Variables}
+use Rattle.farm.specs.declared.Receiver.{Receiver}
+use Rattle.farm.specs.declared.Unit.{Unit as AcceptedUnit}
+use Rattle.farm.specs.declared.Unit.the-variants.{None, AdUnit, BdUnit}
+use Rattle.farm.specs.declared.Received.{Received}
+use Rattle.farm.specs.declared.Start.{Start}
+use Rattle.farm.specs.declared.Start.the-variants.{Ready, Setting}
+use Rattle.farm.specs.declared.Released.{Released}
+use Rattle.farm.specs.declared.Released.the-variants.{Done, NoneTaken}
+
+-- document 01, "Limits": AD buffers 1 to 8, the window even, 2 to 254
+abbrev pub largestBuffers : ℕ
+largestBuffers = 8
+
+-- document 01, "Start: Open, flags and counter zero, V(R) and buffer count as set"
+abbrev pub atStart : ℕ → ℕ → ℕ → ℕ → ℕ → Receiver
+atStart spacecraft channel window vr buffers = record {
+  spacecraft = spacecraft;
+  channel = channel;
+  window = window;
+  buffers = buffers;
+  taken = 0;
+  variables = record { state = Open; vr = vr; lockout = false; wait = false; retransmit = false; counter = 0 };
+}
+
+-- a new receiver, or 12 where a setting is outside its limit
+unfoldable pub startOf : ℕ → ℕ → ℕ → ℕ → ℕ → Start
+startOf spacecraft channel window vr buffers =
+    must (leb spacecraft largestSpacecraft) Setting
+    (must (leb channel largestChannel) Setting
+    (must (eqb (window % 2) 0) Setting
+    (must (leb 2 window) Setting
+    (must (leb window 254) Setting
+    (must (leb 1 buffers) Setting
+    (must (leb buffers largestBuffers) Setting
+    (Ready (atStart spacecraft channel window vr buffers))))))))
+
+-- the receiver with other variables and another count of buffers taken
+abbrev pub become : ℕ → Variables → Receiver → Receiver
+become taken variables r = record {
+  spacecraft = r .spacecraft;
+  channel = r .channel;
+  window = r .window;
+  buffers = r .buffers;
+  taken = taken;
+  variables = variables;
+}
+
+-- a buffer is free for an AD unit
+abbrev pub hasRoom : Receiver → Bool
+hasRoom r = ltb (r .taken) (r .buffers)
+
+-- the event of a frame by its kind, and the value V*(R) that it carries
+unfoldable pub eventOf : Receiver → Kind → Event
+eventOf r (Ad number) = adEvent (r .window) (r .variables .state) (hasRoom r) (offset number (r .variables .vr))
+eventOf r Bd = E6
+eventOf r Unlock = E7
+eventOf r (SetVr value) = E8
+
+abbrev pub starOf : Kind → ℕ
+starOf (Ad number) = 0
+starOf Bd = 0
+starOf Unlock = 0
+starOf (SetVr value) = value
+
+-- the unit that an event accepts: a type-D frame's, by its type
+abbrev pub unitOf : Event → State → AcceptedUnit
+unitOf E6 s = pick (accepts E6 s) BdUnit None
+unitOf E1 s = pick (accepts E1 s) AdUnit None
+unitOf E2 s = None
+unitOf E3 s = None
+unitOf E4 s = None
+unitOf E5 s = None
+unitOf E7 s = None
+unitOf E8 s = None
+unitOf E9 s = None
+unitOf E10 s = None
+unitOf E11 s = None
+
+-- document 01: "E1 takes a buffer" (in Open, where its unit is accepted)
+abbrev pub takes : AcceptedUnit → ℕ
+takes None = 0
+takes AdUnit = 1
+takes BdUnit = 0
+
+-- an event by the table: the receiver after it, and its answer, which carries the number of the refusal where there was one
+unfoldable pub answered : ℕ → Event → ℕ → Receiver → Received
+answered refusal e star r = record {
+  refusal = refusal;
+  event = e;
+  unit = unitOf e (r .variables .state);
+  next = become (r .taken + takes (unitOf e (r .variables .state))) (stepOf e star (r .variables)) r;
+}
+
+-- a valid frame of a kind
+unfoldable pub arrived : Receiver → Kind → Received
+arrived r kind = answered 0 (eventOf r kind) (starOf kind) r
+
+-- document 01: "A frame that is refused is event E9 to the receiver"
+unfoldable pub byReading : Receiver → Reading → Received
+byReading r (Frame fields) = arrived r (fields .kind)
+byReading r (RefusedFrame number) = answered number E9 0 r
+
+unfoldable pub receiveOf : Receiver → List ℕ → Received
+receiveOf r octets = byReading r (readingOf octets (r .spacecraft) (r .channel))
+
+-- the unit that a frame brings: its data part where it is accepted, else empty
+abbrev pub partFor : AcceptedUnit → List ℕ → List ℕ
+partFor None part = []
+partFor AdUnit part = part
+partFor BdUnit part = part
+
+unfoldable pub unitPart : Receiver → List ℕ → List ℕ
+unitPart r octets = partFor (receiveOf r octets .unit) (partOf octets (r .spacecraft) (r .channel))
+
+-- document 01: "a release gives one back and is E10"; 13 where none is taken
+unfoldable pub releaseOf : Receiver → Released
+releaseOf r = must (ltb 0 (r .taken)) NoneTaken (Done (answered 0 E10 0 (become (r .taken - 1) (r .variables) r)))
+
+-- E11: the control word, with V(R), flags and counter as they are
+unfoldable pub wordOf : Receiver → Clcw
+wordOf r = record {
+  channel = r .channel;
+  lockout = r .variables .lockout;
+  wait = r .variables .wait;
+  retransmit = r .variables .retransmit;
+  counter = r .variables .counter;
+  report = r .variables .vr;
+}
+
+-- document 01's number of an answer
+abbrev pub startNumber : Start → ℕ
+startNumber (Ready r) = 0
+startNumber Setting = 12
+
+abbrev pub releasedNumber : Released → ℕ
+releasedNumber (Done received) = 0
+releasedNumber NoneTaken = 13
