@@ -12,6 +12,7 @@ use lib.Pow.{pow-pos}
 use Rattle.base.specs.Register.{shiftBit, shiftBits, register}
 use Rattle.base.specs.Octets.{Below, Bits, Octets, bitsOf, octetBits}
 use Rattle.base.specs.Polynomial.{horner, times, Remainder}
+use Rattle.base.proofs.Lists.{below-append}
 use Rattle.base.proofs.Xor.{xor-assoc, xor-undo, xor-equal, across, scale, swap, four, double, bit-times}
 use Rattle.base.proofs.Register.{top, leaves, shiftBit-lt, register-lt}
 
@@ -105,14 +106,10 @@ module _ (k g : ℕ) (hg : g < 2 ^ k * 2) where
   bits-of zero o h = tt
   bits-of (suc n) o h = (omega arith, bits-of n (o % 128 * 2) (omega arith))
 
-  bits-append : (xs ys : List ℕ) → Bits xs → Bits ys → Bits (xs ++ ys)
-  bits-append [] ys h k = k
-  bits-append (x ∷ xs) ys h k = (h .0, bits-append xs ys (h .1) k)
-
   bits-octets : (s : List ℕ) → Octets s → Bits (octetBits s)
   unfolding octetBits
   bits-octets [] h = tt
-  bits-octets (o ∷ s) h = bits-append (bitsOf 8 o) (octetBits s) (bits-of 8 o (h .0)) (bits-octets s (h .1))
+  bits-octets (o ∷ s) h = below-append 2 (bitsOf 8 o) (octetBits s) (bits-of 8 o (h .0)) (bits-octets s (h .1))
 
   bits-quotient : (bs : List ℕ) (r : ℕ) → r < 2 ^ k * 2 → Bits bs → Bits (quotient r bs)
   bits-quotient [] r hr h = tt

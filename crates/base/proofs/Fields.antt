@@ -9,9 +9,9 @@ use lib.ListN.{length, take, drop, getD, length-append, length-take, length-drop
 use lib.Seq.{drop-nil, drop-cons, drop-drop, take-add, take-at, drop-at, take-append-le, drop-append-le, drop-append-add}
 use lib.Pow.{mod-pow-add, shr-shr, high}
 use Rattle.base.specs.Octets.{Bits, Octets, same, bitsOf, octetBits}
-use Rattle.base.specs.Fields.{Location, digitsOf, valueOf, octetsOf, fieldAt}
+use Rattle.base.specs.Fields.{Location, Field, digitsOf, valueOf, packed, octetsOf, fieldAt}
 use Rattle.base.proofs.Computed.{below, is-true}
-use Rattle.base.proofs.Lists.{same-equal}
+use Rattle.base.proofs.Lists.{same-equal, below-append, below-take, below-drop}
 
 one-add : (w : ℕ) → 1 + w ≡ suc w
 one-add w = omega arith
@@ -25,6 +25,13 @@ pub bits-digits : (w value : ℕ) → Bits (digitsOf w value)
 unfolding digitsOf
 bits-digits zero value = tt
 bits-digits (suc w) value = (omega arith, bits-digits w value)
+
+-- packed fields are bits
+pub bits-packed : (fields : List Field) → Bits (packed fields)
+unfolding packed
+bits-packed [] = tt
+bits-packed (f ∷ fields) =
+    below-append 2 (digitsOf (f .location .width) (f .value)) (packed fields) (bits-digits (f .location .width) (f .value)) (bits-packed fields)
 
 pub value-append : (a : ℕ) (xs ys : List ℕ) → valueOf a (xs ++ ys) ≡ valueOf (valueOf a xs) ys
 unfolding valueOf
@@ -87,16 +94,6 @@ pub octet-digits : (octet : ℕ) → octet < 256 → bitsOf 8 octet ≡ digitsOf
 unfolding bitsOf digitsOf
 octet-digits octet h = same-equal (bitsOf 8 octet) (digitsOf 8 octet) (is-true (same (bitsOf 8 octet) (digitsOf 8 octet)) (below (λ o. same (bitsOf 8 o) (digitsOf 8 o)) 256 tt octet h))
 
-bits-take : (n : ℕ) (xs : List ℕ) → Bits xs → Bits (take n xs)
-bits-take zero xs h = tt
-bits-take (suc n) [] h = tt
-bits-take (suc n) (x ∷ xs) h = (h .0, bits-take n xs (h .1))
-
-bits-drop : (n : ℕ) (xs : List ℕ) → Bits xs → Bits (drop n xs)
-bits-drop zero xs h = h
-bits-drop (suc n) [] h = tt
-bits-drop (suc n) (x ∷ xs) h = bits-drop n xs (h .1)
-
 -- bits packed into octets are those octets' bits
 pub bits-octets : (n : ℕ) (bits : List ℕ) → length bits ≡ 8 * n → Bits bits → octetBits (octetsOf n bits) ≡ bits
 unfolding octetBits octetsOf
@@ -104,11 +101,11 @@ bits-octets zero [] e h = refl
 bits-octets zero (x ∷ xs) e h = absurd (omega arith)
 bits-octets (suc n) bits e h =
     let l : length (take 8 bits) ≡ 8 = simp length-take (omega (arith, mul-suc 8 n)) in
-    let t : Bits (take 8 bits) = bits-take 8 bits h in
+    let t : Bits (take 8 bits) = below-take 2 8 bits h in
     let b : valueOf 0 (take 8 bits) < 256 = subst (λ (j : ℕ). valueOf 0 (take 8 bits) < 2 ^ j) l (value-lt (take 8 bits) t) in
     ap₂ (λ (x y : List ℕ). x ++ y)
     (octet-digits (valueOf 0 (take 8 bits)) b ∙ ap (λ (j : ℕ). digitsOf j (valueOf 0 (take 8 bits))) (sym l) ∙ digits-value 0 (take 8 bits) t)
-    (bits-octets n (drop 8 bits) (simp length-drop (omega (arith, mul-suc 8 n))) (bits-drop 8 bits h))
+    (bits-octets n (drop 8 bits) (simp length-drop (omega (arith, mul-suc 8 n))) (below-drop 2 8 bits h))
     ∙ take-append-drop 8 bits
 
 pub octets-of : (n : ℕ) (bits : List ℕ) → length bits ≡ 8 * n → Bits bits → Octets (octetsOf n bits)
@@ -116,7 +113,7 @@ unfolding octetsOf
 octets-of zero bits e h = tt
 octets-of (suc n) bits e h =
     let l : length (take 8 bits) ≡ 8 = simp length-take (omega (arith, mul-suc 8 n)) in
-    (subst (λ (j : ℕ). valueOf 0 (take 8 bits) < 2 ^ j) l (value-lt (take 8 bits) (bits-take 8 bits h)), octets-of n (drop 8 bits) (simp length-drop (omega (arith, mul-suc 8 n))) (bits-drop 8 bits h))
+    (subst (λ (j : ℕ). valueOf 0 (take 8 bits) < 2 ^ j) l (value-lt (take 8 bits) (below-take 2 8 bits h)), octets-of n (drop 8 bits) (simp length-drop (omega (arith, mul-suc 8 n))) (below-drop 2 8 bits h))
 
 pub length-octets : (n : ℕ) (bits : List ℕ) → length (octetsOf n bits) ≡ n
 unfolding octetsOf

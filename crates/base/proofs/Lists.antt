@@ -11,7 +11,7 @@ use borrow.Author.Tests.{eqb-true, eq-eqb}
 use lib.Dec.{eqb}
 use lib.ListN.{length, take, drop, getD, set, length-append, length-take, length-drop}
 use lib.Seq.{drop-cons, take-all, take-length}
-use Rattle.base.specs.Octets.{Below, same}
+use Rattle.base.specs.Octets.{Below, Octets, same}
 use Rattle.base.proofs.Tests.{apart, not-so, both-left, both-right, both-true}
 
 -- a store takes the list that is c's up to i, and d's from there, one place on
@@ -74,7 +74,32 @@ pub same-last : (xs : List ℕ) (a b : ℕ) → same (xs ++ (a ∷ [])) (xs ++ (
 same-last [] a b = both-true (eqb a b)
 same-last (x ∷ xs) a b = rw (eq-eqb x x refl, same-last xs a b)
 
--- numbers below a bound: at each place, and from each place
+-- numbers below a bound: by each place, at each place
 pub below-at : (bound : ℕ) (s : List ℕ) → ((i : ℕ) → i < length s → getD s i 0 < bound) → Below bound s
 below-at bound [] h = tt
 below-at bound (x ∷ s) h = (h 0 (omega arith), below-at bound s (λ i k. h (suc i) (omega arith)))
+
+pub octets-at : (s : List ℕ) → Octets s → (i : ℕ) → getD s i 0 < 256
+octets-at [] h i = omega arith
+octets-at (x ∷ s) h zero = h .0
+octets-at (x ∷ s) h (suc i) = octets-at s (h .1) i
+
+-- and of lists joined, of a part, and after a store
+pub below-append : (bound : ℕ) (xs ys : List ℕ) → Below bound xs → Below bound ys → Below bound (xs ++ ys)
+below-append bound [] ys h k = k
+below-append bound (x ∷ xs) ys h k = (h .0, below-append bound xs ys (h .1) k)
+
+pub below-take : (bound n : ℕ) (s : List ℕ) → Below bound s → Below bound (take n s)
+below-take bound zero s h = tt
+below-take bound (suc n) [] h = tt
+below-take bound (suc n) (x ∷ s) h = (h .0, below-take bound n s (h .1))
+
+pub below-drop : (bound n : ℕ) (s : List ℕ) → Below bound s → Below bound (drop n s)
+below-drop bound zero s h = h
+below-drop bound (suc n) [] h = tt
+below-drop bound (suc n) (x ∷ s) h = below-drop bound n s (h .1)
+
+pub below-set : (bound : ℕ) (s : List ℕ) (i v : ℕ) → Below bound s → v < bound → Below bound (set s i v)
+below-set bound [] i v h k = tt
+below-set bound (x ∷ s) zero v h k = (k, h .1)
+below-set bound (x ∷ s) (suc i) v h k = (h .0, below-set bound s i v (h .1) k)

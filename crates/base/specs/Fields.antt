@@ -1,8 +1,11 @@
 -- Layouts: fields at the clause's bit locations, packed one behind the other into octets. A writer packs values, a reader takes
 -- the field at the same location, so each layout stands once.
 use Prim.Native.Nat.{ℕ, zero, suc, _+_, _*_, _/_, _%_, _^_}
+use mathlib.Core.Bool.{Bool}
 use mathlib.Core.List.{List, [], _∷_, _++_}
+use lib.Dec.{eqb}
 use lib.ListN.{take, drop}
+use Rattle.base.specs.Choice.{both}
 use Rattle.base.specs.Octets.{octetBits}
 
 -- the w binary digits of a value, the most significant first
@@ -38,3 +41,8 @@ octetsOf (suc n) bits = valueOf 0 (take 8 bits) ∷ octetsOf n (drop 8 bits)
 -- the value of the field at a location of octets
 unfoldable pub fieldAt : Location → List ℕ → ℕ
 fieldAt location octets = valueOf 0 (take (location .width) (drop (location .first) (octetBits octets)))
+
+-- fields positioned contiguously: each begins where the one before it ends, the first at a bit, and the last ends at another
+abbrev pub contiguous : ℕ → ℕ → List Field → Bool
+contiguous end bit [] = eqb bit end
+contiguous end bit (field ∷ fields) = both (eqb (field .location .first) bit) (contiguous end (bit + field .location .width) fields)

@@ -11,23 +11,13 @@ use lib.Dec.{eqb}
 use lib.ListN.{length, take, drop}
 use Rattle.base.specs.Choice.{both}
 use Rattle.base.specs.Octets.{Bits}
-use Rattle.base.specs.Fields.{Location, Field, digitsOf, valueOf, packed, fieldAt}
-use Rattle.base.proofs.Fields.{value-field, bits-digits, bits-octets, length-octets}
+use Rattle.base.specs.Fields.{Location, digitsOf, valueOf, packed, fieldAt, contiguous}
+use Rattle.base.proofs.Fields.{value-field, bits-packed, bits-octets, length-octets}
 use Rattle.clcw.specs.declared.Clcw.{Clcw}
 use Rattle.clcw.specs.declared.Reading.the-variants.{Word, Invalid, Address, Length as NotFour}
 use Rattle.clcw.specs.Clcw.{statusField, virtualChannel, noRfAvailable, noBitLock, lockoutFlag, waitFlag, retransmitFlag, farmBCounter, reportValue, bitOf, wordFields, clcwOf, isValid, wordOf}
 use Rattle.clcw.specs.Answers.{receivedOf, readingOf}
 use Rattle.clcw.proofs.Outcomes.{reading-length, reading-invalid, reading-address, reading-word}
-
--- fields packed are bits
-bits-both : (xs ys : List ℕ) → Bits xs → Bits ys → Bits (xs ++ ys)
-bits-both [] ys h k = k
-bits-both (x ∷ xs) ys h k = (h .0, bits-both xs ys (h .1) k)
-
-bits-packed : (fields : List Field) → Bits (packed fields)
-unfolding packed
-bits-packed [] = tt
-bits-packed (f ∷ fields) = bits-both (digitsOf (f .location .width) (f .value)) (packed fields) (bits-digits (f .location .width) (f .value)) (bits-packed fields)
 
 -- a flag is its bit
 flag-back : (b : Bool) → eqb (valueOf 0 (digitsOf 1 (bitOf b))) 1 ≡ b
@@ -102,11 +92,7 @@ module _ (octets : List ℕ) (channel : ℕ) where
   pub reading-cases : Case octets channel
   reading-cases = at-length (eqb (length octets) 4) refl
 
--- fields from a bit on stand one behind the other, and the last ends with bit 31
-abbrev pub contiguous : ℕ → List Field → Bool
-contiguous bit [] = eqb bit 32
-contiguous bit (f ∷ fields) = both (eqb (f .location .first) bit) (contiguous (bit + f .location .width) fields)
-
-pub layout : (word : Clcw) → contiguous 0 (wordFields word) ≡ true
+-- the fields stand contiguously, and the last ends with bit 31 (6.3.2.1)
+pub layout : (word : Clcw) → contiguous 32 0 (wordFields word) ≡ true
 unfolding wordFields
 layout word = refl

@@ -13,6 +13,7 @@ use Rattle.base.specs.Modulo.{offset}
 use Rattle.base.specs.Octets.{Octets, same}
 use Rattle.base.specs.Fields.{fieldAt}
 use Rattle.base.specs.Outcome.{Outcome.done}
+use Rattle.base.proofs.Lists.{octets-at, below-take, below-drop}
 use Rattle.base.proofs.Tests.{apart, both-true, both-false}
 use Rattle.clcw.specs.Clcw.{clcwOf, writing}
 use Rattle.frame.specs.Header.{bypassFlag, controlCommandFlag, frameSequenceNumber}
@@ -21,7 +22,6 @@ use Rattle.frame.specs.Answers.{fieldsOf, readingOf}
 use Rattle.frame.specs.declared.Kind.{Kind}
 use Rattle.frame.specs.declared.Kind.the-variants.{Ad, Bd, Unlock, SetVr}
 use Rattle.frame.specs.declared.Reading.the-variants.{Frame, Refused}
-use Rattle.frame.proofs.Written.{octets-at}
 use Rattle.farm.specs.declared.State.{State}
 use Rattle.farm.specs.declared.State.the-variants.{Open, Wait, Lockout}
 use Rattle.farm.specs.declared.Event.{Event}
@@ -196,17 +196,6 @@ arrived-well r h Bd u = answered-well r h 0 E6 0 u (differ E6 E1 refl) (differ E
 arrived-well r h Unlock u = answered-well r h 0 E7 0 u (differ E7 E1 refl) (differ E7 E2 refl)
 arrived-well r h (SetVr value) u = answered-well r h 0 E8 value u (differ E8 E1 refl) (differ E8 E2 refl)
 
--- the front and the rest of octets
-octets-front : (n : ℕ) (s : List ℕ) → Octets s → Octets (take n s)
-octets-front zero s h = tt
-octets-front (suc n) [] h = tt
-octets-front (suc n) (x ∷ s) h = (h .0, octets-front n s (h .1))
-
-octets-rest : (n : ℕ) (s : List ℕ) → Octets s → Octets (drop n s)
-octets-rest zero s h = h
-octets-rest (suc n) [] h = tt
-octets-rest (suc n) (x ∷ s) h = octets-rest n s (h .1)
-
 -- the value of Set V(R) is an octet
 star-octet : (octets : List ℕ) → Octets octets → starOf (kindOf octets) < 256
 unfolding kindOf dataField
@@ -214,7 +203,7 @@ star-octet octets h = go (eqb (fieldAt controlCommandFlag octets) 1) (same (data
   where
     go : (a b c : Bool) → starOf (pick a (pick b Unlock (SetVr (getD (dataField octets (totalOf octets)) 2 0))) (pick c Bd (Ad (fieldAt frameSequenceNumber octets)))) < 256
     go true true c = omega arith
-    go true false c = octets-at (dataField octets (totalOf octets)) (octets-front (totalOf octets - 7) (drop 5 octets) (octets-rest 5 octets h)) 2
+    go true false c = octets-at (dataField octets (totalOf octets)) (below-take 256 (totalOf octets - 7) (drop 5 octets) (below-drop 256 5 octets h)) 2
     go false b true = omega arith
     go false b false = omega arith
 

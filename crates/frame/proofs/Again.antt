@@ -13,7 +13,7 @@ use lib.Seq.{take-add, getD-take, getD-drop, getD-set-other, length-take-le}
 use Rattle.base.specs.Choice.{pick, both}
 use Rattle.base.specs.Fields.{fieldAt}
 use Rattle.base.specs.Octets.{Octets, same}
-use Rattle.base.proofs.Lists.{same-equal, take-next}
+use Rattle.base.proofs.Lists.{same-equal, take-next, octets-at}
 use Rattle.base.proofs.Tests.{apart}
 use Rattle.fecf.specs.Fecf.{fecfOf, syndromeOf, fieldOctets}
 use Rattle.frame.specs.Header.{bypassFlag, controlCommandFlag, frameSequenceNumber}
@@ -23,7 +23,7 @@ use Rattle.frame.specs.declared.Kind.the-variants.{Ad, Bd, Unlock, SetVr
 use Rattle.frame.proofs.Octets.{o, version-is, spare-is, bypass-is, control-is, spacecraft-is, channel-is, number-is, total-is, length-data}
 use Rattle.frame.proofs.Content.{octets-take, take-frame, content-test}
 use Rattle.frame.proofs.Accepted.{Accepted, accepted}
-use Rattle.frame.proofs.Written.{octets-at, Fits, body-is}
+use Rattle.frame.proofs.Written.{Fits, body-is}
 
 -- a kind gives the flags and the data back, and the number of a type-A frame
 record Told (kind : Kind) (bypass control number : ℕ) (data′ : List ℕ) : Type 0 where

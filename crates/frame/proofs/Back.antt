@@ -10,8 +10,9 @@ use borrow.Author.Tests.{eq-eqb, ne-eqb, eqb-true}
 use lib.Dec.{eqb}
 use lib.ListN.{length, getD}
 use Rattle.base.specs.Choice.{pick, must, both}
-use Rattle.base.specs.Fields.{Field}
+use Rattle.base.specs.Fields.{contiguous}
 use Rattle.base.specs.Octets.{Octets, same}
+use Rattle.base.proofs.Lists.{octets-at}
 use Rattle.frame.specs.Header.{headerFields}
 use Rattle.frame.specs.Frame.{bypassOf, controlOf, numberOf, unlockCommand, dataOf, frameOf, totalOf, dataField, isCommand, refusalOf, kindOf}
 use Rattle.frame.specs.Answers.{readingOf, partOf}
@@ -20,7 +21,7 @@ use Rattle.frame.specs.declared.Kind.the-variants.{Ad, Bd, Unlock, SetVr
 use Rattle.frame.specs.declared.Reading.the-variants.{Frame}
 use Rattle.frame.proofs.Octets.{spacecraft-is, channel-is}
 use Rattle.frame.proofs.Accepted.{accepted, reading-frame, part-frame}
-use Rattle.frame.proofs.Written.{octets-at, Fits, total-back, field-back, refusal-left, kind-left}
+use Rattle.frame.proofs.Written.{Fits, total-back, field-back, refusal-left, kind-left}
 
 -- what may be written: N(S) and the value of Set V(R) are octets, a unit has 1 to 249 octets
 abbrev pub Legal : Kind → List ℕ → Type 0
@@ -135,11 +136,7 @@ own-beyond octets s′ c′ h = (
       omega (arith, channel-is octets (octets-at octets h) (y .lent), octets-at octets h 2)),
 )
 
--- fields from a bit on stand one behind the other, and the last ends before bit `end`
-abbrev pub contiguous : ℕ → ℕ → List Field → Bool
-contiguous end bit [] = eqb bit end
-contiguous end bit (f ∷ fields) = both (eqb (f .location .first) bit) (contiguous end (bit + f .location .width) fields)
-
+-- the header's fields stand contiguously, and the last ends with bit 39
 pub layout : (bypass control spacecraft channel total number : ℕ) → contiguous 40 0 (headerFields bypass control spacecraft channel total number) ≡ true
 unfolding headerFields
 layout bypass control spacecraft channel total number = refl

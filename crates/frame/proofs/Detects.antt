@@ -16,6 +16,7 @@ use Rattle.base.specs.Fields.{digitsOf, valueOf, packed, octetsOf, fieldAt}
 use Rattle.base.specs.Octets.{Octets, bitsOf, octetBits}
 use Rattle.base.specs.Register.{shiftBit, shiftBits, register}
 use Rattle.base.proofs.Computed.{below, is-true}
+use Rattle.base.proofs.Lists.{octets-at, below-append, below-take, below-drop, below-set}
 use Rattle.base.proofs.Xor.{xor-undo}
 use Rattle.fecf.specs.Fecf.{fecfOf, syndromeOf}
 use Rattle.fecf.proofs.Detection.{detected}
@@ -25,26 +26,14 @@ use Rattle.frame.specs.Answers.{partOf}
 use Rattle.frame.specs.declared.Kind.{Kind}
 use Rattle.frame.specs.declared.Kind.the-variants.{Ad}
 use Rattle.frame.proofs.Octets.{total-is}
-use Rattle.frame.proofs.Content.{octets-take}
 use Rattle.frame.proofs.Emitted.{length-frame}
-use Rattle.frame.proofs.Written.{octets-at, octets-both, lengths-right, Fits, octets-frame, syndrome-frame, length-filled, octets-filled, total-back}
+use Rattle.frame.proofs.Written.{lengths-right, Fits, octets-frame, syndrome-frame, length-filled, octets-filled, total-back}
 use Rattle.frame.proofs.Back.{Legal, legal-fits}
-
--- the rest of octets is octets, and so are octets with another octet
-octets-drop : (n : ℕ) (s : List ℕ) → Octets s → Octets (drop n s)
-octets-drop zero s h = h
-octets-drop (suc n) [] h = tt
-octets-drop (suc n) (x ∷ s) h = octets-drop n s (h .1)
-
-octets-set : (s : List ℕ) (j p : ℕ) → Octets s → p < 256 → Octets (set s j p)
-octets-set [] j p h hp = tt
-octets-set (x ∷ s) zero p h hp = (hp, h .1)
-octets-set (x ∷ s) (suc j) p h hp = (h .0, octets-set s j p (h .1) hp)
 
 -- a block with syndrome zero has another one once an octet of it is another
 syndrome-changed : (w : List ℕ) (j p : ℕ) → Octets w → j < length w → p < 256 → (getD w j 0 ≡ p → ⊥) → syndromeOf w ≡ 0 → syndromeOf (set w j p) ≡ 0 → ⊥
 syndrome-changed w j p h l hp d z e =
-    detected (take j w) (drop (suc j) w) (getD w j 0) p (octets-take w j (octets-at w h) (omega arith)) (octets-drop (suc j) w h) (octets-at w h j) hp d
+    detected (take j w) (drop (suc j) w) (getD w j 0) p (below-take 256 j w h) (below-drop 256 (suc j) w h) (octets-at w h j) hp d
     (ap syndromeOf (sym (split-at w j 0 l)) ∙ z) (ap syndromeOf (sym (set-split w j p l)) ∙ e)
 
 -- an octet before others, of a list or of the list changed
@@ -84,7 +73,7 @@ module _ (bypass control number spacecraft channel : ℕ) (field : List ℕ) (fi
     changed-octets : (i : ℕ) → getD (set w j p ++ fill) i 0 < 256
     changed-octets =
         octets-at (set w j p ++ fill)
-        (octets-both (set w j p) fill (octets-set w j p (octets-frame bypass control number spacecraft channel field fits) hp) hf)
+        (below-append 256 (set w j p) fill (below-set 256 w j p (octets-frame bypass control number spacecraft channel field fits) hp) hf)
 
     changed-length : length (set w j p ++ fill) ≡ length field + 7 + length fill
     changed-length = length-append (set w j p) fill ∙ ap (λ (x : ℕ). x + length fill) (length-set w j p ∙ size)

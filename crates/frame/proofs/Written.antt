@@ -11,6 +11,7 @@ use lib.Seq.{take-at}
 use Rattle.base.specs.Choice.{pick, must, both}
 use Rattle.base.specs.Fields.{fieldAt}
 use Rattle.base.specs.Octets.{Octets, same}
+use Rattle.base.proofs.Lists.{octets-at, below-append}
 use Rattle.base.proofs.Tests.{both-left, both-right, not-so}
 use Rattle.fecf.specs.Fecf.{fecfOf, syndromeOf, fieldOctets}
 use Rattle.fecf.proofs.Syndrome.{fecf-lt, syndrome-zero}
@@ -20,16 +21,6 @@ use Rattle.frame.specs.declared.Kind.the-variants.{Ad, Bd, Unlock, SetVr
 use Rattle.frame.proofs.Octets.{o, version-is, bypass-is, control-is, spare-is, spacecraft-is, channel-is, number-is, total-is}
 use Rattle.frame.proofs.Packed.{header-octets}
 use Rattle.frame.proofs.Emitted.{length-frame}
-
--- octets at each place, and lists of octets one behind the other
-pub octets-at : (s : List ℕ) → Octets s → (i : ℕ) → getD s i 0 < 256
-octets-at [] h i = omega arith
-octets-at (x ∷ s) h zero = h .0
-octets-at (x ∷ s) h (suc i) = octets-at s (h .1) i
-
-pub octets-both : (xs ys : List ℕ) → Octets xs → Octets ys → Octets (xs ++ ys)
-octets-both [] ys h k = k
-octets-both (x ∷ xs) ys h k = (h .0, octets-both xs ys (h .1) k)
 
 -- octets whose lengths are right are judged by their content
 pub lengths-right : (s : List ℕ) (n spacecraft channel : ℕ) → totalOf s ≡ n → 8 ≤ n → n ≤ 256 → n ≤ length s → length s ≤ n + 6
@@ -66,7 +57,7 @@ module _ (bypass control number spacecraft channel : ℕ) (field : List ℕ) (fi
   octets-frame =
       let b = bodyOf bypass control number spacecraft channel field in
       let l : fecfOf b < 65536 = fecf-lt b octets-body in
-      octets-both b (fieldOctets (fecfOf b)) octets-body (omega arith, (omega arith, tt))
+      below-append 256 b (fieldOctets (fecfOf b)) octets-body (omega arith, (omega arith, tt))
 
   pub syndrome-frame : syndromeOf (rawFrame bypass control number spacecraft channel field) ≡ 0
   unfolding rawFrame
@@ -83,7 +74,7 @@ module _ (bypass control number spacecraft channel : ℕ) (field : List ℕ) (fi
         ∙ ap (λ (j : ℕ). j + length fill) (length-frame bypass control number spacecraft channel field)
 
     pub octets-filled : (i : ℕ) → getD s i 0 < 256
-    octets-filled = octets-at s (octets-both (rawFrame bypass control number spacecraft channel field) fill octets-frame hf)
+    octets-filled = octets-at s (below-append 256 (rawFrame bypass control number spacecraft channel field) fill octets-frame hf)
 
     enough : 8 ≤ length s
     enough = omega (arith, length-filled)
