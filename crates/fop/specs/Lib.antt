@@ -1,0 +1,7 @@
+pub mod Limits
+pub mod Units
+pub mod Table
+pub mod Variables
+pub mod Machine
+pub mod Events
+pub mod Answers

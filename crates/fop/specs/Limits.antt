@@ -1,0 +1,18 @@
+-- Document 01, "Limits", for FOP-1, by name.
+use Prim.Native.Nat.{ℕ}
+
+-- "Sender window K 1 to 32" (FOP_Sliding_Window_Width)
+abbrev pub largestK : ℕ
+largestK = 32
+
+-- "Transmission limit 1 to 255" (Transmission_Limit)
+abbrev pub largestTransmissionLimit : ℕ
+largestTransmissionLimit = 255
+
+-- "Timer 1 to 65,535 ticks" (T1_Initial)
+abbrev pub largestTimer : ℕ
+largestTimer = 65535
+
+-- sequence numbers: V(S), V*(S) and V*(R) are octets
+abbrev pub largestNumber : ℕ
+largestNumber = 255

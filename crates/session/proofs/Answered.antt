@@ -1,0 +1,200 @@
+-- What the answers of tied ends say: alerts, refusals, control words.
+use mathlib.Core.Logic.{_⊎_, inl, inr}
+use mathlib.Core.Path.{_≡_, refl, sym, ap, _∙_, subst}
+use mathlib.Core.Bool.{Bool, true, false}
+use mathlib.Core.List.{List, [], _∷_, map}
+use mathlib.Core.Option.{Option}
+use Prim.Native.Nat.{ℕ, _-_, _%_, _≤_, _<_}
+use native.Mathlib.Omega.{arith}
+use lib.Dec.{ltb}
+use lib.ListN.{length}
+use borrow.Author.Tests.{ltb-true, ltb-false}
+use Rattle.base.specs.Choice.{pick}
+use Rattle.base.specs.Modulo.{advanced}
+use Rattle.fop.specs.Units.{Frame, valid, legal, written, wordOctets, readWord}
+use Rattle.fop.specs.Variables.{Fop, Work}
+use Rattle.fop.specs.Events.{SenderEvent, requestAd, requestBd, lower, directive, wordArrives, work}
+use Rattle.fop.specs.Answers.{Answer, judged, needed, senderRefusal, senderAnswer, refused}
+use Rattle.session.specs.Ends.{Settings, Within, Ends, Tied, tables}
+use Rattle.session.specs.Session.{Linked, History}
+use Rattle.session.specs.Claims.{expected}
+use Rattle.session.specs.Stronger.{Calm, InSession}
+use Rattle.fop.specs.Events as fop
+use Rattle.fop.specs.Table.{Reason}
+use lib.Dec.{T}
+use Rattle.session.specs.Stronger.{Known}
+use Rattle.session.proofs.Alerts.{Hush, ownAlert, ad-hush, bd-hush, tick-hush, lower-hush, terminate-hush}
+use Rattle.session.proofs.Rows.{sound, modeOf}
+use Rattle.session.proofs.Inv.{is-sound, Inv, hears, fine, alerting}
+use Rattle.session.proofs.Core.{Session, goes, report, used, isHeld}
+use Rattle.session.proofs.Chan.{Wds}
+use Rattle.session.proofs.Values.{word}
+use Rattle.session.proofs.Octets.{word-back}
+use Rattle.session.proofs.Receiver.{at}
+use Rattle.session.proofs.Next.{historyOf}
+use Rattle.session.proofs.Link.{Rel, tables-tied, word-is, fly-reads, Reads}
+use Rattle.session.proofs.Keys.{Tidy}
+use Rattle.session.proofs.Quiet.{word-hush}
+use Rattle.session.proofs.Theorem.{oldest-word}
+use Rattle.session.proofs.Received.{receiverOf, received-is, released-is}
+use Rattle.session.proofs.Refusals.{refusal-is, Mild, mild}
+use Rattle.base.specs.Choice.{must}
+use Rattle.fop.specs.Answers as ans
+use Rattle.farm.specs.Receiver as farm
+use Rattle.farm.specs.declared.Event.the-variants.{E10}
+use Rattle.farm.specs.declared.Receiver.{Receiver}
+use Rattle.farm.specs.declared.Received.{Received}
+use Rattle.farm.specs.declared.Released.the-variants.{Done, NoneTaken}
+use Rattle.session.specs.Receiver.{frameArrives, releaseBuffer, ReceiverAnswer, releaseAnswer, receiverAnswer}
+
+own-known : (l : ℕ) (r : Option Reason) → Hush ownAlert r → Known l r
+own-known l r (inl e) = inl e
+own-known l r (inr (Reason.term, e, t)) = inr (inl e)
+own-known l r (inr (Reason.t1, e, t)) = inr (inr (inl e))
+own-known l r (inr (Reason.llif, e, t)) = inr (inr (inr (inl e)))
+own-known l r (inr (Reason.synch, e, t)) = absurd t
+own-known l r (inr (Reason.clcw, e, t)) = absurd t
+own-known l r (inr (Reason.nnr, e, t)) = absurd t
+own-known l r (inr (Reason.lockout, e, t)) = absurd t
+own-known l r (inr (Reason.limit, e, t)) = absurd t
+
+calm-known : (l : ℕ) (r : Option Reason) → Calm l r → Known l r
+calm-known l r (inl e) = inl e
+calm-known l r (inr e) = inr (inr (inr (inr e)))
+
+counter-is : (κ : Session) → κ .farm .counter ≡ length (κ .acceptedBd) % 4 → (report (κ .farm)) .counter ≤ 3
+unfolding report
+counter-is κ e = omega (arith, e)
+
+number-is : (κ : Session) (n a : ℕ) → κ .farm .vr ≡ advanced n a → (report (κ .farm)) .nr < 256
+unfolding report
+number-is κ n a e = omega (arith, e)
+
+module _ (set : Settings) (vw : Within set) (m : Ends) (t : Tied set m) (σ : Linked m) (γ : Linked (tables set)) (κ : Session)
+    (R : Rel set vw m t σ κ) (G : Rel set vw (tables set) (tables-tied set) γ κ) (I : Inv set κ) (Q : Tidy (set .n) κ) where
+  pub by : (P : History → Type 0) → P (historyOf κ) → P (σ .history)
+  by P h = subst P (sym (R .history)) h
+
+  pub st-is : γ .sender .state ≡ κ .fop .state
+  st-is = ap (λ (f : Fop). f .state) (G .fop)
+
+  pub answer-is : (e : SenderEvent) (lent : ℕ) → m .answer e lent (σ .sender) ≡ senderAnswer (set .own) e lent (κ .fop)
+  answer-is e lent = t .answer e lent (σ .sender) (R .good) ∙ ap (λ (f : Fop). senderAnswer (set .own) e lent f) (R .fop)
+
+  pub in-mode : T (sound (modeOf (κ .fop .state)))
+  in-mode = is-sound (modeOf (κ .fop .state)) (set .n) _ _ _ _ _ _ (I .side)
+
+  calm : (e : SenderEvent) (lent : ℕ) → Calm (set .limit) ((work (set .own) e (κ .fop)) .alert)
+      → Calm (set .limit) ((senderAnswer (set .own) e lent (κ .fop)) .alert)
+  unfolding senderAnswer
+  calm e lent h = go (goes (set .own) e lent (κ .fop))
+    where
+      go : (b : Bool) → Calm (set .limit) ((pick b (ans.answered (set .own) (work (set .own) e (κ .fop)))
+          (refused (senderRefusal (set .own) e lent (κ .fop)) (κ .fop))) .alert)
+      go true = h
+      go false = inl refl
+
+  pub quiet : (s : List ℕ) (ws : List (List ℕ)) (lent : ℕ) → σ .words ≡ s ∷ ws → Calm (set .limit) ((m .answer (wordArrives s) lent (σ .sender)) .alert)
+  quiet s ws lent e =
+      let l = oldest-word set vw _ _ (κ .words) s ws (I .words) (sym e ∙ R .words) in
+      let wd : Wds (set .n) (length (κ .confirmed)) (length (κ .accepted)) (l .0 ∷ l .1) = rw (l .2) at (I .words) in
+      let h : Calm (set .limit) ((work (set .own) (wordArrives (wordOctets (set .own) (l .0))) (κ .fop)) .alert) =
+      subst (λ (w : Work). Calm (set .limit) (w .alert)) (sym (hears set vw (l .0) (κ .fop) (wd .3) (omega (arith, wd .1))))
+      (word-hush set κ I Q (l .0) (l .1) (l .2)) in
+      subst (λ (a : Answer). Calm (set .limit) (a .alert)) (sym (answer-is (wordArrives s) lent))
+      (calm (wordArrives s) lent (subst (λ (x : List ℕ). Calm (set .limit) ((work (set .own) (wordArrives x) (κ .fop)) .alert)) (sym (l .3)) h))
+
+  -- the alerts
+  known : (e : SenderEvent) (lent : ℕ) → Known (set .limit) ((work (set .own) e (κ .fop)) .alert) → Known (set .limit) ((m .answer e lent (σ .sender)) .alert)
+  unfolding senderAnswer
+  known e lent h = subst (λ (a : Answer). Known (set .limit) (a .alert)) (sym (answer-is e lent)) (go (goes (set .own) e lent (κ .fop)))
+    where
+      go : (b : Bool) → Known (set .limit)
+          ((pick b (ans.answered (set .own) (work (set .own) e (κ .fop))) (refused (senderRefusal (set .own) e lent (κ .fop)) (κ .fop))) .alert)
+      go true = h
+      go false = inl refl
+
+  pub alerts : (e : SenderEvent) (lent : ℕ) → InSession (σ .words) e → Known (set .limit) ((m .answer e lent (σ .sender)) .alert)
+  unfolding work
+  alerts (requestAd o) lent h = known (requestAd o) lent (own-known (set .limit) _ (ad-hush (κ .fop) in-mode o))
+  alerts (requestBd o) lent h = known (requestBd o) lent (own-known (set .limit) _ (bd-hush (κ .fop) in-mode o))
+  alerts fop.tick lent h = known fop.tick lent (own-known (set .limit) _ (tick-hush (κ .fop) in-mode (alerting set κ I)))
+  alerts (lower l) lent h = known (lower l) lent (own-known (set .limit) _ (lower-hush (κ .fop) in-mode l))
+  alerts (directive d v) lent h =
+      subst (λ (x : ℕ). Known (set .limit) ((m .answer (directive x v) lent (σ .sender)) .alert)) (sym (h .0))
+      (subst (λ (x : ℕ). Known (set .limit) ((m .answer (directive 5 x) lent (σ .sender)) .alert)) (sym (h .1))
+      (known (directive 5 0) lent (own-known (set .limit) _ (terminate-hush (κ .fop) in-mode))))
+  alerts (wordArrives s) lent h = calm-known (set .limit) _ (quiet s (h .0) lent (h .1))
+
+  judge : (e : SenderEvent) → InSession (σ .words) e → (judged (set .own) e ≡ 0) ⊎ (judged (set .own) e ≡ 10)
+  unfolding judged
+  judge (requestAd o) h = by-legal (legal o)
+    where
+      by-legal : (b : Bool) → (_≡_ {A = ℕ} (pick b 0 10) 0) ⊎ (_≡_ {A = ℕ} (pick b 0 10) 10)
+      by-legal true = inl refl
+      by-legal false = inr refl
+  judge (requestBd o) h = by-legal (legal o)
+    where
+      by-legal : (b : Bool) → (_≡_ {A = ℕ} (pick b 0 10) 0) ⊎ (_≡_ {A = ℕ} (pick b 0 10) 10)
+      by-legal true = inl refl
+      by-legal false = inr refl
+  judge fop.tick h = inl refl
+  judge (lower l) h = inl refl
+  judge (directive d v) h = inl (rw (h .0))
+  judge (wordArrives s) h =
+      let l = oldest-word set vw _ _ (κ .words) s (h .0) (I .words) (sym (h .1) ∙ R .words) in
+      let wd : Wds (set .n) (length (κ .confirmed)) (length (κ .accepted)) (l .0 ∷ l .1) = rw (l .2) at (I .words) in
+      inl (subst (λ (x : List ℕ). judged (set .own) (wordArrives x) ≡ 0) (sym (l .3)) (fine set vw (l .0) (wd .3) (omega (arith, wd .1))))
+
+  pub refusals : (e : SenderEvent) (lent : ℕ) → InSession (σ .words) e → Mild ((m .answer e lent (σ .sender)) .refusal)
+  unfolding senderRefusal
+  refusals e lent h =
+      subst Mild (sym (ap (λ (a : Answer). a .refusal) (answer-is e lent) ∙ refusal-is (set .own) e lent (κ .fop)))
+      (mild (judged (set .own) e) (needed (set .own) e (κ .fop)) lent (judge e h))
+
+  oldest : (l : List Frame) (s : List ℕ) (fs : List (List ℕ)) → Reads l → s ∷ fs ≡ map (written (set .own)) l
+      → (receiverAnswer (frameArrives s) (receiverOf set (used κ) (κ .farm))) .refusal ≡ 0
+  unfolding receiverAnswer farm.answered
+  oldest [] s fs h e = let z : _≡_ {A = ℕ} 0 1 = cc in absurd (omega arith)
+  oldest (x ∷ xs) s fs h e =
+      let a : s ≡ written (set .own) x = cc in
+      ap (λ (y : List ℕ). (farm.receiveOf (receiverOf set (used κ) (κ .farm)) y) .refusal) a
+      ∙ ap (λ (y : Received). y .refusal) (received-is set vw (used κ) (κ .farm) x (h .0))
+
+  pub frame-refusal : (s : List ℕ) (fs : List (List ℕ)) → σ .frames ≡ s ∷ fs → (m .answerReceiver (frameArrives s) (σ .receiver)) .refusal ≡ 0
+  frame-refusal s fs e =
+      ap (λ (a : ReceiverAnswer). a .refusal) (t .answerReceiver (frameArrives s) (σ .receiver) (R .goodReceiver))
+      ∙ ap (λ (r : Receiver). (receiverAnswer (frameArrives s) r) .refusal) (R .farm)
+      ∙ oldest (κ .frames) s fs (fly-reads (set .n) (set .k) (κ .sent) (I .base .num) _ _ (κ .frames) (I .base .fly)) (sym e ∙ R .frames)
+
+  abbrev pub Released-or-not : ReceiverAnswer → Type 0
+  Released-or-not a = ((a .refusal ≡ 0) × (κ .released < length (κ .accepted))) ⊎ ((a .refusal ≡ 13) × (κ .released ≡ length (κ .accepted)))
+
+  pub release-refusal : Released-or-not (m .answerReceiver releaseBuffer (σ .receiver))
+  unfolding receiverAnswer farm.answered
+  release-refusal =
+      subst Released-or-not
+      (sym (t .answerReceiver releaseBuffer (σ .receiver) (R .goodReceiver) ∙ ap (λ (f : Receiver). receiverAnswer releaseBuffer f) (R .farm)
+      ∙ ap releaseAnswer (released-is set vw (used κ) (κ .farm))))
+      (go (isHeld κ) refl)
+    where
+      go : (b : Bool) → ltb 0 (length (κ .accepted) - κ .released) ≡ b
+          → Released-or-not (releaseAnswer (must b NoneTaken (Done (farm.answered 0 E10 0 (receiverOf set (used κ - 1) (κ .farm))))))
+      go true z = inl (refl, omega (arith, ltb-true 0 (length (κ .accepted) - κ .released) z))
+      go false z = inr (refl, omega (arith, ltb-false 0 (length (κ .accepted) - κ .released) z, R .stock .below))
+
+  -- the control word, by the histories
+  pub report-is : readWord (set .own) (m .word (σ .receiver))
+      ≡ valid (record {
+        lockout = κ .farm .lockout;
+        wait = κ .farm .wait;
+        retransmit = κ .farm .retransmit;
+        counter = length (κ .acceptedBd) % 4;
+        nr = expected set (historyOf κ);
+      })
+  unfolding report
+  report-is =
+      ap (readWord (set .own)) (word-is set vw m t σ κ R)
+      ∙ word-back (set .own) (vw .spacecraft) (vw .channel) (report (κ .farm)) (counter-is κ (I .receiver .counted))
+      (number-is κ (set .n) (length (κ .accepted)) (I .receiver .isVr))
+      ∙ rw (I .receiver .counted, I .receiver .isVr)

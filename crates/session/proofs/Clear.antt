@@ -1,0 +1,170 @@
+-- Demand 3 of the table machines: a clear control word that reports the next number to send.
+use mathlib.Core.Logic.{_≢_}
+use mathlib.Core.Path.{_≡_, refl, sym, ap, _∙_}
+use mathlib.Core.Bool.{Bool, true, false, false≢true}
+use mathlib.Core.List.{List, [], _∷_}
+use mathlib.Core.Option.{Option, none, some}
+use Prim.Native.Nat.{ℕ, zero, suc, _+_, _-_, _≤_, _<_}
+use native.Mathlib.Omega.{arith}
+use lib.Dec.{ltb}
+use lib.ListN.{length, take, drop, length-append, length-take, length-drop}
+use borrow.Author.Tests.{le-ltb, eq-eqb, ne-eqb}
+use Rattle.base.specs.Choice.{pick}
+use Rattle.base.specs.Modulo.{advanced, offset}
+use Rattle.fop.specs.Units.{Fdu, AD, Word, wordOctets}
+use Rattle.fop.specs.Table.{State, S1, S2, S3, S4, S5, S6, FopEvent, table78, cell78}
+use Rattle.fop.specs.Table.{RemoveAcknowledgedFrames, CancelTimer}
+use Rattle.fop.specs.Variables.{Fop, Work, Entry, Preset, begin}
+use Rattle.fop.specs.Machine.{fdus, firstMarked, fopDo, performCell, performAll, perform, lookForFdu, sendNext}
+use Rattle.fop.specs.Variables.{setState, onFop}
+use Rattle.fop.specs.Machine.{sendWaiting, transmitAd, removeAcknowledged, acknowledged, unacknowledged}
+use Rattle.fop.specs.Events.{fopWord, wordEvent}
+use Rattle.fop.specs.Events.{wordArrives}
+use Rattle.fop.specs.Answers.{judged, needed}
+use Rattle.session.specs.Ends.{Settings, Within}
+use Rattle.session.specs.Session.{wordIn, places}
+use Rattle.session.specs.Claims.{IsOutstanding, outstanding, member, nextNumber, nextUnit, serves}
+use Rattle.session.proofs.Core.{stepWith, Session, answered, channels, wordCome, step}
+use Rattle.session.proofs.Lists.{member-in}
+use Rattle.session.proofs.Values.{live, word, queue-length}
+use Rattle.session.proofs.Sender.{acks}
+use Rattle.session.proofs.Inv.{Inv, presetOf, hears, fine, enter}
+use Rattle.session.proofs.Chan.{Wds, wds-le}
+use Rattle.session.proofs.Receiver.{step-keeps}
+use Rattle.session.proofs.Next.{historyOf, Sent, served, lv, out-count, off-is, out-from, next-sends, sender-is, look-new}
+
+-- a clear word that reports the next number to send
+pub look-conf : (w : Work) → (lookForFdu w) .confirmed ≡ w .confirmed
+unfolding lookForFdu sendNext sendWaiting transmitAd
+look-conf w = go (w .fop .out .ad) (firstMarked (w .fop .sentQueue))
+  where
+    last : (b : Bool) (o : Option (List ℕ)) → (pick b (sendWaiting o w) w) .confirmed ≡ w .confirmed
+    last false o = refl
+    last true none = refl
+    last true (some o) = refl
+
+    go : (b : Bool) (o : Option Fdu) → (pick b (sendNext o w) w) .confirmed ≡ w .confirmed
+    go false o = refl
+    go true (some u) = refl
+    go true none = last (ltb (offset (w .fop .vs) (w .fop .nnr)) (w .fop .preset .k)) (w .fop .waitQueue)
+
+pub length-places : (s : List Fdu) (x c : ℕ) → length (places s x c) ≡ c
+length-places s x zero = refl
+length-places s x (suc c) = ap suc (length-places s (advanced x 1) c)
+
+began : Word → Fop → Work
+began w f = begin (some FopEvent.E2) [] (w .nr) f
+
+cleared : Word → Fop → Work
+cleared w f = perform CancelTimer (perform RemoveAcknowledgedFrames (began w f))
+
+clear-cell : (v : Work) (s : State) → serves s ≡ true
+    → performCell (cell78 (table78 FopEvent.E2) s) v
+    ≡ onFop (setState S1 ((lookForFdu (perform CancelTimer (perform RemoveAcknowledgedFrames v))) .fop))
+    (lookForFdu (perform CancelTimer (perform RemoveAcknowledgedFrames v)))
+unfolding performCell performAll perform table78
+clear-cell w S1 e = refl
+clear-cell w S2 e = refl
+clear-cell w S3 e = absurd (false≢true e)
+clear-cell w S4 e = absurd (false≢true e)
+clear-cell w S5 e = absurd (false≢true e)
+clear-cell w S6 e = absurd (false≢true e)
+
+clear-is : (w : Word) (f : Fop) → serves (f .state) ≡ true → w .lockout ≡ false → w .wait ≡ false → w .retransmit ≡ false
+    → offset (w .nr) (f .nnr) ≡ offset (f .vs) (f .nnr) → 0 < offset (f .vs) (f .nnr)
+    → fopWord w f ≡ onFop (setState S1 ((lookForFdu (cleared w f)) .fop)) (lookForFdu (cleared w f))
+unfolding fopWord wordEvent fopDo cleared began
+clear-is w f s a b c e p =
+    rw (
+      a,
+      b,
+      c,
+      e,
+      le-ltb (offset (f .vs) (f .nnr)) (offset (f .vs) (f .nnr)) (omega arith),
+      eq-eqb (offset (f .vs) (f .nnr)) (offset (f .vs) (f .nnr)) refl,
+      ne-eqb (offset (f .vs) (f .nnr)) 0 (omega arith),
+    )
+    (clear-cell (begin (some FopEvent.E2) [] (w .nr) f) (f .state) s)
+
+length-fdus : (q : List Entry) → length (fdus q) ≡ length q
+length-fdus [] = refl
+length-fdus (e ∷ q) = ap suc (length-fdus q)
+
+cleared-conf : (w : Word) (f : Fop) → (cleared w f) .confirmed ≡ acknowledged (f .nnr) (w .nr) (f .sentQueue)
+unfolding cleared perform removeAcknowledged began
+cleared-conf w f = refl
+
+none-marked : (q : List Entry) → length (fdus q) ≡ 0 → firstMarked q ≡ none
+none-marked [] e = refl
+none-marked (x ∷ q) e = absurd (omega arith)
+
+cleared-sends : (w : Word) (f : Fop) (o : List ℕ) → f .out .ad ≡ true → f .waitQueue ≡ some o
+    → length (fdus (unacknowledged (f .nnr) (w .nr) (f .sentQueue))) ≡ 0
+    → offset (f .vs) (w .nr) < f .preset .k → (lookForFdu (cleared w f)) .frames ≡ AD (record { ns = f .vs; octets = o }) ∷ []
+unfolding cleared perform removeAcknowledged began
+cleared-sends w f o a e l k = look-new (cleared w f) o a (none-marked (unacknowledged (f .nnr) (w .nr) (f .sentQueue)) l) k e
+
+module _ (set : Settings) (vw : Within set) (σ : Session) (I : Inv set σ) (sv : serves (σ .fop .state) ≡ true) (w : Word) (ws : List Word) (lent : ℕ)
+    (comes : σ .words ≡ w ∷ ws) (r : needed (set .own) (wordArrives (wordOctets (set .own) w)) (σ .fop) ≤ lent)
+    (c1 : w .lockout ≡ false) (c2 : w .wait ≡ false) (c3 : w .retransmit ≡ false) (nr : w .nr ≡ nextNumber set (historyOf σ)) where
+  wd : Wds (set .n) (length (σ .confirmed)) (length (σ .accepted)) (w ∷ ws)
+  wd = rw comes at (I .words)
+
+  come-is : step set (wordIn lent) σ ≡ answered (set .n) (fopWord w (σ .fop)) (channels (σ .frames) ws σ)
+  unfolding step stepWith wordCome judged channels
+  come-is =
+      let h = hears set vw w (σ .fop) (wd .3) (omega (arith, wd .1)) in
+      ap (λ (l : List Word). wordCome set lent l σ) comes
+      ∙ sender-is set (wordArrives (wordOctets (set .own) w)) lent (channels (σ .frames) ws σ) (fine set vw w (wd .3) (omega (arith, wd .1))) r
+      ∙ ap (λ (x : Work). answered (set .n) x (channels (σ .frames) ws σ)) h
+
+  new-is : offset (w .nr) (σ .fop .nnr) ≡ offset (σ .fop .vs) (σ .fop .nnr)
+  new-is = ap (λ (v : ℕ). offset v (σ .fop .nnr)) (nr ∙ sym (lv set σ I (served (σ .fop .state) sv) .isVs))
+
+  answer-is : 0 < length (σ .sent) - length (σ .confirmed)
+      → fopWord w (σ .fop) ≡ onFop (setState S1 ((lookForFdu (cleared w (σ .fop))) .fop)) (lookForFdu (cleared w (σ .fop)))
+  answer-is p = clear-is w (σ .fop) sv c1 c2 c3 new-is (omega (arith, p, off-is set σ I (served (σ .fop .state) sv)))
+
+  acked-is : (acknowledged (σ .fop .nnr) (w .nr) (σ .fop .sentQueue) ≡ take (offset (w .nr) (σ .fop .nnr)) (fdus (σ .fop .sentQueue)))
+      × (fdus (unacknowledged (σ .fop .nnr) (w .nr) (σ .fop .sentQueue)) ≡ drop (offset (w .nr) (σ .fop .nnr)) (fdus (σ .fop .sentQueue)))
+  acked-is =
+      acks (set .n) (presetOf set) (length (σ .confirmed)) (σ .denied) (σ .accepted) (σ .sent) (σ .frames) (wd .0)
+      (begin (some FopEvent.E2) [] (w .nr) (σ .fop))
+      (enter live (set .n) (presetOf set) (length (σ .confirmed)) (σ .accepted) (σ .sent) (σ .frames) (σ .denied) (fdus (σ .fop .sentQueue))
+      (σ .fop .vs) (σ .fop .nnr) (σ .fop .preset)
+      word (wd .0) (w .nr) (σ .fop .waitQueue) [] (I .base) (lv set σ I (served (σ .fop .state) sv)) (wd .2)
+      (wd .1, wds-le (set .n) (wd .0) (length (σ .accepted)) ws (wd .4)) (I .isSet) (I .waiting))
+
+  conf-all : 0 < length (σ .sent) - length (σ .confirmed) → length ((step set (wordIn lent) σ) .confirmed) ≡ length (σ .sent)
+  unfolding answered channels
+  conf-all p =
+      let ln = queue-length (length (σ .confirmed)) (σ .sent) [] (fdus (σ .fop .sentQueue)) (lv set σ I (served (σ .fop .state) sv) .cut) in
+      let e : (fopWord w (σ .fop)) .confirmed ≡ take (offset (w .nr) (σ .fop .nnr)) (fdus (σ .fop .sentQueue)) =
+      ap (λ (x : Work). x .confirmed) (answer-is p) ∙ look-conf (cleared w (σ .fop)) ∙ cleared-conf w (σ .fop) ∙ acked-is .0 in
+      let le : length ((fopWord w (σ .fop)) .confirmed) ≡ length (σ .sent) - length (σ .confirmed) =
+      ap length e ∙ length-take (offset (w .nr) (σ .fop .nnr)) (fdus (σ .fop .sentQueue))
+      ∙ omega (arith, new-is, off-is set σ I (served (σ .fop .state) sv), ln) in
+      ap (λ (x : Session). length (x .confirmed)) come-is ∙ length-append (σ .confirmed) _
+      ∙ ap (λ (x : ℕ). length (σ .confirmed) + x) (length-places _ _ _ ∙ le) ∙ omega (arith, I .base)
+
+  pub clears-all : (i : ℕ) → IsOutstanding (historyOf σ) i → member i ((step set (wordIn lent) σ) .confirmed) ≡ true
+  clears-all i o =
+      let from : length (σ .confirmed) ≤ i = out-from set σ I (served (σ .fop .state) sv) i o in
+      let J : Inv set (step set (wordIn lent) σ) = step-keeps set vw (wordIn lent) σ I in
+      let l = conf-all (omega (arith, from, o .0)) in
+      ap (member i) (J .places) ∙ member-in i 0 (length ((step set (wordIn lent) σ) .confirmed)) (omega arith) (omega (arith, l, o .0))
+
+  pub clears-sends : (o : List ℕ) → 0 < length (outstanding (historyOf σ)) → σ .fop .out .ad ≡ true → σ .fop .waitQueue ≡ some o
+      → Sent (nextUnit set (historyOf σ) o) σ (step set (wordIn lent) σ)
+  unfolding answered channels
+  clears-sends o p a e =
+      let p' : 0 < length (σ .sent) - length (σ .confirmed) = omega (arith, p, out-count set σ I (served (σ .fop .state) sv)) in
+      let l = lv set σ I (served (σ .fop .state) sv) in
+      let ln = queue-length (length (σ .confirmed)) (σ .sent) [] (fdus (σ .fop .sentQueue)) (l .cut) in
+      let pk : σ .fop .preset .k ≡ set .k = ap (λ (x : Preset). x .k) (I .isSet) in
+      let z : length (fdus (unacknowledged (σ .fop .nnr) (w .nr) (σ .fop .sentQueue))) ≡ 0 =
+      ap length (acked-is .1) ∙ length-drop (offset (w .nr) (σ .fop .nnr)) (fdus (σ .fop .sentQueue))
+      ∙ omega (arith, ln, new-is, off-is set σ I (served (σ .fop .state) sv)) in
+      let s = next-sends set σ I (served (σ .fop .state) sv) (fopWord w (σ .fop)) o
+      (ap (λ (x : Work). x .frames) (answer-is p') ∙ cleared-sends w (σ .fop) o a e z (omega (arith, l, nr, vw .windowLeast, pk))) in
+      rw come-is (record { down = s .down; counted = s .counted })

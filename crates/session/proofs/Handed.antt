@@ -1,0 +1,260 @@
+-- Every AD frame handed down is the next new unit, or an outstanding unit sent again, its octets unchanged.
+use mathlib.Core.Logic.{_⊎_, inl, inr}
+use mathlib.Core.Path.{_≡_, refl, sym, ap, _∙_, subst}
+use mathlib.Core.Bool.{Bool, true, false}
+use mathlib.Core.List.{List, [], _∷_, _++_}
+use mathlib.Core.Option.{Option, none, some}
+use Prim.Native.Nat.{ℕ, _+_, _-_, _≤_, _<_}
+use native.Mathlib.Omega.{arith}
+use lib.Dec.{ltb, eqb, T}
+use lib.ListN.{length, getD, length-append, List·getD-append}
+use lib.Seq.{getD-append-seam}
+use borrow.Author.Tests.{eqb-true}
+use Rattle.base.specs.Choice.{pick}
+use Rattle.base.specs.Modulo.{offset, advanced}
+use Rattle.fop.specs.Units.{Fdu, Frame, AD, BD, Unlock, SetVR, Refused}
+use Rattle.fop.specs.Table.{State, S1, S2, S3, S4, S5, S6, Action, Cell, cell, NotApplicable, FopEvent, table78, cell78, Accept, Reject, Confirm, RejectAd}
+use Rattle.fop.specs.Table.{AcceptBd, RejectBd, AddToWaitQueue, LookForFdu, LookForDirective, RemoveAcknowledgedFrames, InitiateAdRetransmission, InitiateBcRetransmission}
+use Rattle.fop.specs.Table.{ReleaseBcFrame, CancelTimer, StartTimer, Alert, Initialise, TransmitUnlock, TransmitSetVr, TransmitBd, SetVs, SetNnr, SetK}
+use Rattle.fop.specs.Table.{SetT1Initial, SetTransmissionLimit, SetTimeoutType, AdOutReady, BcOutReady, BdOutReady}
+use Rattle.fop.specs.Variables.{Work, Preset}
+use Rattle.fop.specs.Machine.{fdus, firstMarked, perform, performAll, performCell, lookForFdu, sendNext, sendWaiting, transmitAd, removeAcknowledged, fopDo}
+use Rattle.fop.specs.Variables.{begin}
+use Rattle.session.specs.Ends.{Settings}
+use Rattle.session.specs.Session.{nobody}
+use Rattle.session.specs.Claims.{IsOutstanding, member}
+use Rattle.fop.specs.Machine.{purge}
+use Rattle.fop.specs.Table.{ifNotSuspended, Ignore, SetSuspendState, Suspend, Resume}
+use Rattle.session.proofs.Core.{Session, addAll}
+use Rattle.session.proofs.Lists.{addAll-append, member-out}
+use Rattle.session.proofs.Values.{Mode, live, dead, bad, Given, word, unit, nothing, Reports, same-sent, new-sent, queue-length, queue-at}
+use Rattle.session.proofs.Rows.{after, afterAll, modeOf, matched, sound, cellOk, rowOk, do-sound, at-cell}
+use Rattle.session.proofs.Sender.{WInv, keeps}
+use Rattle.session.proofs.Queue.{found, pickC}
+use Rattle.session.proofs.Few.{purge-few}
+use Rattle.session.proofs.Inv.{Inv, Side, presetOf, is-sound, enter}
+use Rattle.session.proofs.Next.{historyOf}
+
+-- each AD frame of the list is a unit sent, at a place from C on; and there is one only where m is live
+abbrev pub From : Mode → ℕ → List Fdu → List Frame → Type 0
+From m C s [] = Unit {0}
+From m C s (AD u ∷ fs) = ((m ≡ live) × (i : ℕ) × (C ≤ i) × (i < length s) × (u ≡ getD s i nobody)) × From m C s fs
+From m C s (BD o ∷ fs) = From m C s fs
+From m C s (Unlock ∷ fs) = From m C s fs
+From m C s (SetVR v ∷ fs) = From m C s fs
+From m C s (Refused r ∷ fs) = From m C s fs
+
+from-more : (m : Mode) (C : ℕ) (s t : List Fdu) (fs : List Frame) → From m C s fs → From m C (s ++ t) fs
+from-more m C s t [] h = tt
+from-more m C s t (AD u ∷ fs) h =
+    let i = h .0 .1 in
+    ((h .0 .0, i, h .0 .2, omega (arith, length-append s t, h .0 .3), h .0 .4 ∙ sym (List·getD-append s t nobody i (h .0 .3))), from-more m C s t fs (h .1))
+from-more m C s t (BD o ∷ fs) h = from-more m C s t fs h
+from-more m C s t (Unlock ∷ fs) h = from-more m C s t fs h
+from-more m C s t (SetVR v ∷ fs) h = from-more m C s t fs h
+from-more m C s t (Refused r ∷ fs) h = from-more m C s t fs h
+
+from-append : (m : Mode) (C : ℕ) (s : List Fdu) (fs gs : List Frame) → From m C s fs → From m C s gs → From m C s (fs ++ gs)
+from-append m C s [] gs h g = g
+from-append m C s (AD u ∷ fs) gs h g = (h .0, from-append m C s fs gs (h .1) g)
+from-append m C s (BD o ∷ fs) gs h g = from-append m C s fs gs h g
+from-append m C s (Unlock ∷ fs) gs h g = from-append m C s fs gs h g
+from-append m C s (SetVR v ∷ fs) gs h g = from-append m C s fs gs h g
+from-append m C s (Refused r ∷ fs) gs h g = from-append m C s fs gs h g
+
+module _ (n : ℕ) (P : Preset) (C : ℕ) (gone : List (Option ℕ)) (acc sent0 : List Fdu) (fr0 : List Frame) (given : Given) (a : ℕ) (m0 : Mode) where
+  abbrev Down : Mode → List Frame → Type 0
+  Down live fs = (m0 ≡ live) × From m0 C (addAll n sent0 fs) fs
+  Down dead fs = From m0 C (addAll n sent0 fs) fs
+  Down bad fs = Unit {0}
+
+  abbrev pub D : Mode → Work → Type 0
+  D m w = Down m (w .frames)
+
+  abbrev I : Mode → Work → Type 0
+  I m w = WInv n P C gone acc sent0 fr0 given a m w
+
+  waiting-from : (o : Option (List ℕ)) (w : Work) → I live w → D live w → D live (sendWaiting o w)
+  unfolding sendWaiting transmitAd
+  waiting-from none w h d = d
+  waiting-from (some o) w h d =
+      let u : Fdu = record { ns = w .fop .vs; octets = o } in
+      let s : List Fdu = addAll n sent0 (w .frames) in
+      let ns : addAll n (addAll n sent0 (w .frames)) (AD u ∷ []) ≡ addAll n sent0 (w .frames) ++ (u ∷ []) = new-sent n (addAll n sent0 (w .frames)) u
+      (h .1 .isVs) in (
+        d .0,
+        rw (addAll-append n sent0 (w .frames) (AD u ∷ []), ns)
+            (from-append m0 C (s ++ (u ∷ [])) (w .frames) (AD u ∷ []) (from-more m0 C s (u ∷ []) (w .frames) (d .1)) (
+              (
+                d .0,
+                length (addAll n sent0 (w .frames)),
+                omega (arith, h .0),
+                omega (arith, length-append (addAll n sent0 (w .frames)) (u ∷ [])),
+                sym (getD-append-seam s u [] nobody),
+              ),
+              tt,
+            )),
+      )
+
+  next-from : (o : Option Fdu) (w : Work) → firstMarked (w .fop .sentQueue) ≡ o → I live w → D live w → D live (sendNext o w)
+  unfolding sendNext
+  next-from none w e h d = pickC (D live) (ltb (offset (w .fop .vs) (w .fop .nnr)) (w .fop .preset .k)) (λ t. waiting-from (w .fop .waitQueue) w h d) (λ t. d)
+  next-from (some u) w e h d =
+      let i = found (w .fop .sentQueue) u e in
+      let s : List Fdu = addAll n sent0 (w .frames) in
+      let ln = queue-length C (addAll n sent0 (w .frames)) (w .confirmed) (fdus (w .fop .sentQueue)) (h .1 .cut) in
+      let j : ℕ = C + (length (w .confirmed) + i .0) in
+      let b : C + (length (w .confirmed) + i .0) < length (addAll n sent0 (w .frames)) = omega (arith, ln, i .1) in
+      let eu : u ≡ getD (addAll n sent0 (w .frames)) (C + (length (w .confirmed) + i .0)) nobody =
+      i .2 ∙ queue-at C (addAll n sent0 (w .frames)) (w .confirmed) (fdus (w .fop .sentQueue)) (h .1 .cut) (i .0) in
+      let ss : addAll n (addAll n sent0 (w .frames)) (AD u ∷ []) ≡ addAll n sent0 (w .frames) =
+      same-sent n (addAll n sent0 (w .frames)) u (C + (length (w .confirmed) + i .0)) (h .0 .num) b (omega (arith, h .0)) eu in (
+        d .0,
+        rw (addAll-append n sent0 (w .frames) (AD u ∷ []), ss)
+            (from-append m0 C s (w .frames) (AD u ∷ []) (d .1) ((d .0, C + (length (w .confirmed) + i .0), omega arith, b, eu), tt)),
+      )
+
+  look-from : (w : Work) → I live w → D live w → D live (lookForFdu w)
+  unfolding lookForFdu
+  look-from w h d = pickC (D live) (w .fop .out .ad) (λ t. next-from (firstMarked (w .fop .sentQueue)) w refl h d) (λ t. d)
+
+  bd-from : (m : Mode) (w : Work) → D m w → D m (perform TransmitBd w)
+  unfolding perform
+  bd-from live w d =
+      (d .0, rw (addAll-append n sent0 (w .frames) (BD (w .octets) ∷ [])) (from-append m0 C _ (w .frames) (BD (w .octets) ∷ []) (d .1) tt))
+  bd-from dead w d = rw (addAll-append n sent0 (w .frames) (BD (w .octets) ∷ [])) (from-append m0 C _ (w .frames) (BD (w .octets) ∷ []) d tt)
+  bd-from bad w d = tt
+
+  purged : (w : Work) → From m0 C (addAll n sent0 (w .frames)) (w .frames) → From m0 C (addAll n sent0 ((purge w) .frames)) ((purge w) .frames)
+  purged w d = rw (purge-few w) d
+
+  by-given : (x : Action) (m m' : Mode) (w v : Work) → D m v → (m' ≡ m) ⊎ (m' ≡ bad) → D m' v
+  by-given x m m' w v d (inl e) = subst (λ (y : Mode). D y v) (sym e) d
+  by-given x m m' w v d (inr e) = subst (λ (y : Mode). D y v) (sym e) tt
+
+  wait-mode : (g : Given) (m : Mode) → (after g AddToWaitQueue m ≡ m) ⊎ (after g AddToWaitQueue m ≡ bad)
+  wait-mode word m = inr refl
+  wait-mode unit m = inl refl
+  wait-mode nothing m = inr refl
+
+  bd-mode : (g : Given) (m : Mode) → (after g TransmitBd m ≡ m) ⊎ (after g TransmitBd m ≡ bad)
+  bd-mode word m = inr refl
+  bd-mode unit m = inl refl
+  bd-mode nothing m = inr refl
+
+  remove-mode : (g : Given) (m : Mode) → (after g RemoveAcknowledgedFrames m ≡ m) ⊎ (after g RemoveAcknowledgedFrames m ≡ bad)
+  remove-mode word live = inl refl
+  remove-mode word dead = inr refl
+  remove-mode word bad = inr refl
+  remove-mode unit m = inr refl
+  remove-mode nothing m = inr refl
+
+  from : (x : Action) (m : Mode) (w : Work) → I m w → D m w → D (after given x m) (perform x w)
+  unfolding perform removeAcknowledged
+  from Accept m w h d = d
+  from Reject m w h d = d
+  from Confirm m w h d = d
+  from RejectAd m w h d = d
+  from AcceptBd m w h d = d
+  from RejectBd m w h d = d
+  from Ignore m w h d = d
+  from (SetSuspendState s) m w h d = d
+  from Suspend m w h d = d
+  from Resume m w h d = d
+  from AddToWaitQueue m w h d = by-given AddToWaitQueue m (after given AddToWaitQueue m) w (perform AddToWaitQueue w) d (wait-mode given m)
+  from LookForFdu live w h d = look-from w h d
+  from LookForFdu dead w h d = tt
+  from LookForFdu bad w h d = tt
+  from LookForDirective m w h d = tt
+  from RemoveAcknowledgedFrames m w h d = by-given RemoveAcknowledgedFrames m (after given RemoveAcknowledgedFrames m) w
+      (perform RemoveAcknowledgedFrames w) d (remove-mode given m)
+  from InitiateAdRetransmission m w h d = d
+  from InitiateBcRetransmission m w h d = d
+  from ReleaseBcFrame m w h d = d
+  from CancelTimer m w h d = d
+  from StartTimer m w h d = d
+  from (Alert r) live w h d = purged w (d .1)
+  from (Alert r) dead w h d = purged w d
+  from (Alert r) bad w h d = tt
+  from Initialise m w h d = tt
+  from TransmitUnlock m w h d = tt
+  from TransmitSetVr m w h d = tt
+  from TransmitBd m w h d = by-given TransmitBd m (after given TransmitBd m) w (perform TransmitBd w) (bd-from m w d) (bd-mode given m)
+  from SetVs m w h d = tt
+  from SetNnr m w h d = tt
+  from SetK m w h d = tt
+  from SetT1Initial m w h d = tt
+  from SetTransmissionLimit m w h d = tt
+  from SetTimeoutType m w h d = tt
+  from AdOutReady m w h d = d
+  from BcOutReady m w h d = d
+  from BdOutReady m w h d = d
+
+  from-all : (xs : List Action) (m : Mode) (w : Work) → I m w → D m w → D (afterAll given xs m) (performAll xs w)
+  unfolding performAll
+  from-all [] m w h d = d
+  from-all (x ∷ xs) m w h d =
+      from-all xs (after given x m) (perform x w) (keeps n P C gone acc sent0 fr0 given a x m w h) (from x m w h d)
+
+  cell-from : (c : Cell) (w : Work) → T (cellOk given (w .fop .state) c) → I (modeOf (w .fop .state)) w → D (modeOf (w .fop .state)) w
+      → D (modeOf ((performCell c w) .fop .state)) (performCell c w)
+  unfolding performCell
+  cell-from NotApplicable w t h d = d
+  cell-from (ifNotSuspended xs ys s) w t h d = absurd t
+  cell-from (cell xs s) w t h d =
+      rw (← matched (afterAll given xs (modeOf (w .fop .state))) (modeOf s) t) (from-all xs (modeOf (w .fop .state)) w h d)
+
+start-from : (n C : ℕ) (P : Preset) (gone : List (Option ℕ)) (acc sent0 : List Fdu) (fr0 : List Frame) (given : Given) (a : ℕ) (m : Mode) (w : Work)
+    → w .frames ≡ []
+    → D n P C gone acc sent0 fr0 given a m m w
+start-from n C P gone acc sent0 fr0 given a live w e = (refl, rw e tt)
+start-from n C P gone acc sent0 fr0 given a dead w e = rw e tt
+start-from n C P gone acc sent0 fr0 given a bad w e = tt
+
+end-from : (n C : ℕ) (P : Preset) (gone : List (Option ℕ)) (acc sent0 : List Fdu) (fr0 : List Frame) (given : Given) (a : ℕ) (m0 m : Mode) (w : Work)
+    → T (sound m) → D n P C gone acc sent0 fr0 given a m0 m w → From m0 C (addAll n sent0 (w .frames)) (w .frames)
+end-from n C P gone acc sent0 fr0 given a m0 live w g d = d .1
+end-from n C P gone acc sent0 fr0 given a m0 dead w g d = d
+end-from n C P gone acc sent0 fr0 given a m0 bad w g d = absurd g
+
+module _ (set : Settings) (σ : Session) (I : Inv set σ) where
+  pub row-from : (given : Given) (a : ℕ) (e : FopEvent) (o : List ℕ) (v : ℕ) → T (rowOk given e) → length (σ .confirmed) ≤ a
+      → Reports given (set .n) a (length (σ .accepted)) v o
+      → From (modeOf (σ .fop .state)) (length (σ .confirmed)) (addAll (set .n) (σ .sent) ((fopDo e o v (σ .fop)) .frames)) ((fopDo e o v (σ .fop)) .frames)
+  unfolding fopDo
+  row-from given a e o v t l r =
+      let g : T (sound (modeOf (σ .fop .state))) = is-sound (modeOf (σ .fop .state)) (set .n) _ _ _ _ _ _ (I .side) in
+      end-from (set .n) (length (σ .confirmed)) (presetOf set) (σ .denied) (σ .accepted) (σ .sent) (σ .frames) given a (modeOf (σ .fop .state))
+      (modeOf ((fopDo e o v (σ .fop)) .fop .state)) (fopDo e o v (σ .fop))
+      (do-sound given e o v (σ .fop) t g)
+      (cell-from (set .n) (presetOf set) (length (σ .confirmed)) (σ .denied) (σ .accepted) (σ .sent) (σ .frames) given a (modeOf (σ .fop .state))
+      (cell78 (table78 e) (σ .fop .state)) (begin (some e) o v (σ .fop))
+      (at-cell (cellOk given) (table78 e) (σ .fop .state) t g)
+      (enter (modeOf (σ .fop .state)) (set .n) (presetOf set) (length (σ .confirmed)) (σ .accepted) (σ .sent) (σ .frames) (σ .denied)
+      (fdus (σ .fop .sentQueue)) (σ .fop .vs) (σ .fop .nnr) (σ .fop .preset) given a v (σ .fop .waitQueue) o
+      (I .base) (I .side) l r (I .isSet) (I .waiting))
+      (start-from (set .n) (length (σ .confirmed)) (presetOf set) (σ .denied) (σ .accepted) (σ .sent) (σ .frames) given a (modeOf (σ .fop .state))
+      (begin (some e) o v (σ .fop)) refl))
+
+  -- a sender in service has denied nothing
+  serving : (s : State) → Side (modeOf s) (set .n) (length (σ .confirmed)) (σ .sent) (σ .denied) (fdus (σ .fop .sentQueue)) (σ .fop .vs) (σ .fop .nnr)
+      → modeOf s ≡ live → σ .denied ≡ []
+  serving S1 h e = h .fresh
+  serving S2 h e = h .fresh
+  serving S3 h e = h .fresh
+  serving S4 h e = absurd h
+  serving S5 h e = absurd h
+  serving S6 h e = let z : _≡_ {A = ℕ} 0 1 = cc in absurd (omega arith)
+
+  -- the one AD frame handed down
+  pub is-handed : (u : Fdu) → From (modeOf (σ .fop .state)) (length (σ .confirmed)) (addAll (set .n) (σ .sent) (AD u ∷ [])) (AD u ∷ [])
+      → (u .ns ≡ advanced (set .n) (length (σ .sent))) ⊎ ((i : ℕ) × IsOutstanding (historyOf σ) i × (u ≡ getD (σ .sent) i nobody))
+  is-handed u h = go (eqb (u .ns) (advanced (set .n) (length (σ .sent)))) refl h
+    where
+      go : (b : Bool) → eqb (u .ns) (advanced (set .n) (length (σ .sent))) ≡ b
+          → From (modeOf (σ .fop .state)) (length (σ .confirmed)) (pick b (σ .sent ++ (u ∷ [])) (σ .sent)) (AD u ∷ [])
+          → (u .ns ≡ advanced (set .n) (length (σ .sent))) ⊎ ((i : ℕ) × IsOutstanding (historyOf σ) i × (u ≡ getD (σ .sent) i nobody))
+      go true e h = inl (eqb-true _ _ e)
+      go false e h =
+          let f = serving (σ .fop .state) (I .side) (h .0 .0) in
+          inr (h .0 .1, (h .0 .3, ap (member (h .0 .1)) (I .places) ∙ member-out (h .0 .1) 0 (length (σ .confirmed)) (omega (arith, h .0 .2)), rw f), h .0 .4)

@@ -1,0 +1,339 @@
+-- The session's invariant, and that every event of the sender keeps it.
+use mathlib.Core.Path.{_≡_, refl, sym, ap, _∙_}
+use mathlib.Core.Bool.{Bool, true, false, false≢true}
+use mathlib.Core.List.{List, [], _∷_, _++_, append-nil}
+use mathlib.Core.Option.{Option, none}
+use Prim.Native.Nat.{ℕ, _+_, _-_, _%_, _≤_, _<_}
+use native.Mathlib.Nat.{zero-add}
+use native.Mathlib.Omega.{arith}
+use lib.Dec.{leb, ltb, eqb, T}
+use lib.ListN.{length, drop, length-append}
+use lib.Seq.{drop-drop, drop-append-seam}
+use borrow.Author.Tests.{eq-eqb, eqb-true, leb-true, le-leb}
+use Rattle.base.specs.Choice.{pick}
+use Rattle.base.specs.Modulo.{advanced}
+use Rattle.fop.specs.Units.{Fdu, Frame, Word, Own, legal, wordOctets}
+use Rattle.fop.specs.Table.{FopEvent}
+use Rattle.fop.specs.Variables.{Fop, Work, Preset, begin, setClock}
+use Rattle.fop.specs.Machine.{fdus, fopDo}
+use Rattle.fop.specs.Events.{fopWord, fopAd, fopBd, fopTick, fopExpiry, fopLower, fopDirective, directiveEvent, fopHeard, isEmpty, SenderEvent, requestAd}
+use Rattle.fop.specs.Events.{requestBd, lower, directive, wordArrives, work, Lower, seen}
+use Rattle.fop.specs.Answers.{judged, senderRefusal, needed}
+use Rattle.farm.specs.declared.State.{State as FarmState}
+use Rattle.farm.specs.declared.State.the-variants.{Open, Wait, Lockout}
+use Rattle.farm.specs.declared.Variables.{Variables}
+use Rattle.fop.specs.Events.{first, expiryLines}
+use Rattle.session.specs.Ends.{Settings, Within}
+use Rattle.session.specs.Session.{places}
+use Rattle.session.specs.Stronger.{Sub}
+use Rattle.fop.specs.Events as fop
+use Rattle.session.proofs.Core.{Session, addAll, firstOf, answered, sender, goes, channels, wordCome}
+use Rattle.session.proofs.Lists.{iota, iota-append, length-iota}
+use Rattle.session.proofs.Chan.{Wds, wds-le, wds-lower}
+use Rattle.session.proofs.Values.{Base, Live, Dead, Mode, live, dead, bad, Given, word, unit, nothing, Reports, WaitOk, WI, run-places}
+use Rattle.session.proofs.Rows.{modeOf, sound, rowOk, do-sound, word-ok, timer-ok, ad-ok, bd-ok, lower-ok, terminate-ok}
+use Rattle.session.proofs.Sender.{do-keeps, WInv}
+use Rattle.session.proofs.Octets.{word-back}
+use Rattle.session.proofs.Bds.{bdsOf, bd-handed}
+
+pub pickS : (P : Session → Type 0) (b : Bool) {x y : Session} → (b ≡ true → P x) → (b ≡ false → P y) → P (pick b x y)
+pickS P true f g = f refl
+pickS P false f g = g refl
+
+pub pickW : (P : Work → Type 0) (b : Bool) {x y : Work} → P x → P y → P (pick b x y)
+pickW P true f g = f
+pickW P false f g = g
+
+abbrev pub presetOf : Settings → Preset
+presetOf s = record { k = s .k; transmissionLimit = s .limit; t1Initial = s .t1; timeoutType = 0 }
+
+-- the sender's part
+abbrev pub Side : Mode → ℕ → ℕ → List Fdu → List (Option ℕ) → List Fdu → ℕ → ℕ → Type 0
+Side live n C sent gone q vs nn = Live n C gone sent [] [] q vs nn
+Side dead n C sent gone q vs nn = Dead C gone sent [] [] q
+Side bad n C sent gone q vs nn = ⊥
+
+abbrev pub isLocked : FarmState → Bool
+isLocked Open = false
+isLocked Wait = false
+isLocked Lockout = true
+
+-- the receiver's part, with A accepted and D BD units accepted
+pub record Rcv (set : Settings) (v : Variables) (A D : ℕ) : Type 0 where
+  pub isVr : v .vr ≡ advanced (set .n) A
+  pub unlocked : isLocked (v .state) ≡ false
+  pub noLock : v .lockout ≡ false
+  pub counted : v .counter ≡ D % 4
+
+-- the invariant; it knows nothing of buffers
+pub record Inv (set : Settings) (σ : Session) : Type 0 where
+  pub base : Base (set .n) (set .k) (length (σ .confirmed)) (σ .accepted) (σ .sent) (σ .frames) []
+  pub side : Side (modeOf (σ .fop .state)) (set .n) (length (σ .confirmed)) (σ .sent) (σ .denied) (fdus (σ .fop .sentQueue)) (σ .fop .vs) (σ .fop .nnr)
+  pub isSet : σ .fop .preset ≡ presetOf set
+  pub waiting : WaitOk (σ .fop .waitQueue)
+  pub places : σ .confirmed ≡ iota 0 (length (σ .confirmed))
+  pub words : Wds (set .n) (length (σ .confirmed)) (length (σ .accepted)) (σ .words)
+  pub receiver : Rcv set (σ .farm) (length (σ .accepted)) (length (σ .acceptedBd))
+  pub bd : Sub (σ .acceptedBd ++ bdsOf (σ .frames)) (σ .sentBd)
+
+conf-iota : (l m : List (Option ℕ)) (c : ℕ) → l ≡ iota 0 (length l) → m ≡ iota (length l) c → l ++ m ≡ iota 0 (length (l ++ m))
+conf-iota l m c e f =
+    let k : length (l ++ m) ≡ length l + c = length-append l m ∙ ap (λ (x : ℕ). length l + x) (ap length f ∙ length-iota (length l) c) in
+    rw (k, ← iota-append 0 (length l) c, zero-add (length l), ← f, ← e)
+
+-- the count confirmed takes in what this event confirmed
+rebase : (n K C D : ℕ) (acc sent : List Fdu) (fr : List Frame) (conf : List Fdu) → D ≡ C + length conf → Base n K C acc sent fr conf
+    → Base n K D acc sent fr []
+rebase n K C D acc sent fr conf e b =
+    record { num = b .num; order = b .order; behind = b .behind; truly = omega arith; room = omega arith; small = b .small; fly = b .fly }
+
+recut : (C D : ℕ) (sent conf q : List Fdu) → D ≡ C + length conf → conf ++ q ≡ drop C sent → q ≡ drop D sent
+recut C D sent conf q e c =
+    sym (drop-append-seam conf q) ∙ ap (λ (l : List Fdu). drop (length conf) l) c ∙ drop-drop (length conf) C sent ∙ ap (λ (i : ℕ). drop i sent) (sym e)
+
+-- the sender's part before an event
+pub enter : (m : Mode) (n : ℕ) (P : Preset) (C : ℕ) (acc sent : List Fdu) (fr : List Frame) (gone : List (Option ℕ)) (q : List Fdu) (vs nn : ℕ) (p : Preset)
+    (given : Given) (a v : ℕ) (wt : Option (List ℕ)) (o : List ℕ)
+    → Base n (P .k) C acc sent fr [] → Side m n C sent gone q vs nn → C ≤ a → Reports given n a (length acc) v o → p ≡ P → WaitOk wt
+    → WI n P C gone acc given a m sent (fr ++ []) [] [] q vs nn p v wt o
+enter live n P C acc sent fr gone q vs nn p given a v wt o b s l r e k = rw (append-nil fr) (b, s, omega arith, r, e, k)
+enter dead n P C acc sent fr gone q vs nn p given a v wt o b s l r e k = rw (append-nil fr) (b, s, omega arith, r, e, k)
+enter bad n P C acc sent fr gone q vs nn p given a v wt o b s l r e k = tt
+
+pub is-sound : (m : Mode) (n C : ℕ) (sent : List Fdu) (gone : List (Option ℕ)) (q : List Fdu) (vs nn : ℕ) → Side m n C sent gone q vs nn → T (sound m)
+is-sound live n C sent gone q vs nn s = tt
+is-sound dead n C sent gone q vs nn s = tt
+is-sound bad n C sent gone q vs nn s = s
+
+-- and after it
+pub record Left (n : ℕ) (P : Preset) (C : ℕ) (acc : List Fdu) (a : ℕ) (sent : List Fdu) (fr : List Frame) (conf : List Fdu) (p : Preset)
+    (wt : Option (List ℕ)) : Type 0 where
+  pub base : Base n (P .k) C acc sent fr conf
+  pub most : C + length conf ≤ a
+  pub more : List Fdu
+  pub cut : conf ++ more ≡ drop C sent
+  pub isSet : p ≡ P
+  pub waiting : WaitOk wt
+
+pub base-of : (m : Mode) (n : ℕ) (P : Preset) (C : ℕ) (gone : List (Option ℕ)) (acc : List Fdu) (given : Given) (a : ℕ) (sent : List Fdu) (fr : List Frame)
+    (conf den q : List Fdu) (vs nn : ℕ) (p : Preset) (v : ℕ) (wt : Option (List ℕ)) (o : List ℕ)
+    → T (sound m) → WI n P C gone acc given a m sent fr conf den q vs nn p v wt o → Left n P C acc a sent fr conf p wt
+base-of live n P C gone acc given a sent fr conf den q vs nn p v wt o g h =
+    record { base = h .0; most = h .2; more = q; cut = h .1 .cut; isSet = h .4; waiting = h .5 }
+base-of dead n P C gone acc given a sent fr conf den q vs nn p v wt o g h =
+    record { base = h .0; most = h .2; more = h .1 .after; cut = h .1 .cut; isSet = h .4; waiting = h .5 }
+base-of bad n P C gone acc given a sent fr conf den q vs nn p v wt o g h = absurd g
+
+leave : (m : Mode) (n : ℕ) (P : Preset) (C D : ℕ) (gone : List (Option ℕ)) (acc : List Fdu) (given : Given) (a : ℕ) (sent : List Fdu) (fr : List Frame)
+    (conf den q : List Fdu) (vs nn : ℕ) (p : Preset) (v : ℕ) (wt : Option (List ℕ)) (o : List ℕ) → D ≡ C + length conf → T (sound m)
+    → WI n P C gone acc given a m sent fr conf den q vs nn p v wt o
+    → Side m n D sent (gone ++ places sent (firstOf den) (length den)) q vs nn
+leave live n P C D gone acc given a sent fr conf den q vs nn p v wt o e g h =
+    record {
+      cut = recut C D sent conf q e (h .1 .cut);
+      undenied = refl;
+      fresh = rw (h .1 .fresh, h .1 .undenied);
+      isVs = h .1 .isVs;
+      isNn = omega arith;
+    }
+leave dead n P C D gone acc given a sent fr conf den q vs nn p v wt o e g h =
+    let z : C + length conf ≡ D + 0 = omega arith in
+    record {
+      after = h .1 .after;
+      cut = recut C D sent conf (h .1 .after) e (h .1 .cut);
+      empty = h .1 .empty;
+      denied = append-nil (gone ++ places sent (firstOf den) (length den)) ∙ h .1 .denied ∙ ap (λ (i : ℕ). iota i (length (h .1 .after))) z;
+    }
+leave bad n P C D gone acc given a sent fr conf den q vs nn p v wt o e g h = absurd g
+
+-- an answer, with ws the words left, and a the count that the word in hand reports, or the count confirmed
+answered-keeps : (set : Settings) (σ : Session) (ws : List Word) (given : Given) (a : ℕ) (w : Work) → Inv set σ → T (sound (modeOf (w .fop .state)))
+    → WInv (set .n) (presetOf set) (length (σ .confirmed)) (σ .denied) (σ .accepted) (σ .sent) (σ .frames) given a (modeOf (w .fop .state)) w
+    → Wds (set .n) a (length (σ .accepted)) ws → Inv set (answered (set .n) w (channels (σ .frames) ws σ))
+unfolding answered channels
+answered-keeps set σ ws given a w I g h ww =
+    let n : ℕ = set .n in
+    let P : Preset = presetOf set in
+    let C : ℕ = length (σ .confirmed) in
+    let s : List Fdu = addAll (set .n) (σ .sent) (w .frames) in
+    let b : Left (set .n) (presetOf set) (length (σ .confirmed)) (σ .accepted) a (addAll (set .n) (σ .sent) (w .frames)) (σ .frames ++ w .frames)
+    (w .confirmed) (w .fop .preset) (w .fop .waitQueue) =
+    base-of (modeOf (w .fop .state)) n P C (σ .denied) (σ .accepted) given a s (σ .frames ++ w .frames) (w .confirmed) (w .denied) (fdus (w .fop .sentQueue))
+    (w .fop .vs) (w .fop .nnr) (w .fop .preset) (w .value) (w .fop .waitQueue) (w .octets) g h in
+    let most = b .most in
+    let wide : length (addAll (set .n) (σ .sent) (w .frames)) ≤ length (σ .confirmed) + 0 + 256 = omega (arith, b .base, I .base) in
+    let p0 : places (addAll (set .n) (σ .sent) (w .frames)) (firstOf (w .confirmed)) (length (w .confirmed))
+    ≡ iota (length (σ .confirmed) + 0) (length (w .confirmed)) =
+    run-places n C s [] (w .confirmed) (b .more) (b .base .num) (b .cut) wide in
+    let z : length (σ .confirmed) + 0 ≡ length (σ .confirmed) = omega arith in
+    let p : places s (firstOf (w .confirmed)) (length (w .confirmed)) ≡ iota C (length (w .confirmed)) = rw z at p0 in
+    let D : length (σ .confirmed ++ places s (firstOf (w .confirmed)) (length (w .confirmed))) ≡ C + length (w .confirmed) =
+    length-append (σ .confirmed) _ ∙ ap (λ (x : ℕ). C + x) (ap length p ∙ length-iota C (length (w .confirmed))) in
+    record {
+      base = rebase n (set .k) C _ (σ .accepted) s (σ .frames ++ w .frames) (w .confirmed) D (b .base);
+      side = leave (modeOf (w .fop .state)) n P C _ (σ .denied) (σ .accepted) given a s (σ .frames ++ w .frames) (w .confirmed) (w .denied)
+          (fdus (w .fop .sentQueue))
+          (w .fop .vs) (w .fop .nnr) (w .fop .preset) (w .value) (w .fop .waitQueue) (w .octets) D g h;
+      isSet = b .isSet;
+      waiting = b .waiting;
+      places = conf-iota (σ .confirmed) _ (length (w .confirmed)) (I .places) p;
+      words = wds-lower n a _ (length (σ .accepted)) ws (omega arith) ww;
+      receiver = I .receiver;
+      bd = bd-handed (σ .acceptedBd) (σ .sentBd) (σ .frames) (w .frames) (I .bd);
+    }
+
+row-keeps : (set : Settings) (σ : Session) (ws : List Word) (given : Given) (a : ℕ) (e : FopEvent) (o : List ℕ) (v : ℕ) → Inv set σ
+    → T (rowOk given e) → length (σ .confirmed) ≤ a → Reports given (set .n) a (length (σ .accepted)) v o → Wds (set .n) a (length (σ .accepted)) ws
+    → Inv set (answered (set .n) (fopDo e o v (σ .fop)) (channels (σ .frames) ws σ))
+row-keeps set σ ws given a e o v I t l rp ww =
+    let g : T (sound (modeOf (σ .fop .state))) = is-sound (modeOf (σ .fop .state)) (set .n) _ _ _ _ _ _ (I .side) in
+    answered-keeps set σ ws given a (fopDo e o v (σ .fop)) I (do-sound given e o v (σ .fop) t g)
+    (do-keeps (set .n) (presetOf set) (length (σ .confirmed)) (σ .denied) (σ .accepted) (σ .sent) (σ .frames) given a e o v (σ .fop) t g
+    (enter (modeOf (σ .fop .state)) (set .n) (presetOf set) _ (σ .accepted) (σ .sent) (σ .frames) (σ .denied) _ _ _ (σ .fop .preset) given a v
+    (σ .fop .waitQueue) o
+    (I .base) (I .side) l rp (I .isSet) (I .waiting)))
+    ww
+
+-- no more is confirmed than what is reported
+pub row-bound : (set : Settings) (σ : Session) (given : Given) (a : ℕ) (e : FopEvent) (o : List ℕ) (v : ℕ) → Inv set σ → T (rowOk given e)
+    → length (σ .confirmed) ≤ a → Reports given (set .n) a (length (σ .accepted)) v o
+    → length (σ .confirmed) + length ((fopDo e o v (σ .fop)) .confirmed) ≤ a
+row-bound set σ given a e o v I t l rp =
+    let g : T (sound (modeOf (σ .fop .state))) = is-sound (modeOf (σ .fop .state)) (set .n) _ _ _ _ _ _ (I .side) in
+    base-of (modeOf ((fopDo e o v (σ .fop)) .fop .state)) (set .n) (presetOf set) (length (σ .confirmed)) (σ .denied) (σ .accepted) given a _ _ _ _ _ _ _
+    ((fopDo e o v (σ .fop)) .fop .preset) ((fopDo e o v (σ .fop)) .value) ((fopDo e o v (σ .fop)) .fop .waitQueue) ((fopDo e o v (σ .fop)) .octets)
+    (do-sound given e o v (σ .fop) t g)
+    (do-keeps (set .n) (presetOf set) (length (σ .confirmed)) (σ .denied) (σ .accepted) (σ .sent) (σ .frames) given a e o v (σ .fop) t g
+    (enter (modeOf (σ .fop .state)) (set .n) (presetOf set) _ (σ .accepted) (σ .sent) (σ .frames) (σ .denied) _ _ _ (σ .fop .preset) given a v
+    (σ .fop .waitQueue) o
+    (I .base) (I .side) l rp (I .isSet) (I .waiting)))
+    .most
+
+-- The events of the sender, each by its rows. `work` is what the table does, whether or not the event is then refused.
+
+abbrev pub withFop : Fop → Session → Session
+withFop f σ =
+    record {
+      fop = f;
+      farm = σ .farm;
+      frames = σ .frames;
+      words = σ .words;
+      sent = σ .sent;
+      accepted = σ .accepted;
+      confirmed = σ .confirmed;
+      denied = σ .denied;
+      released = σ .released;
+      sentBd = σ .sentBd;
+      acceptedBd = σ .acceptedBd;
+    }
+
+pub timed : (set : Settings) (t c : ℕ) (σ : Session) → Inv set σ → Inv set (withFop (setClock t c (σ .fop)) σ)
+timed set t c σ I =
+    record { base = I .base; side = I .side; isSet = I .isSet; waiting = I .waiting; places = I .places; words = I .words; receiver = I .receiver; bd = I .bd }
+
+pub words-are : (set : Settings) (σ : Session) (ws : List Word) → Inv set σ → Wds (set .n) (length (σ .confirmed)) (length (σ .accepted)) ws
+    → Inv set (channels (σ .frames) ws σ)
+unfolding channels
+words-are set σ ws I h =
+    record { base = I .base; side = I .side; isSet = I .isSet; waiting = I .waiting; places = I .places; words = h; receiver = I .receiver; bd = I .bd }
+
+-- a row that no word brings
+plain-keeps : (set : Settings) (σ : Session) (given : Given) (e : FopEvent) (o : List ℕ) → Inv set σ → T (rowOk given e)
+    → Reports given (set .n) (length (σ .confirmed)) (length (σ .accepted)) 0 o
+    → Inv set (answered (set .n) (fopDo e o 0 (σ .fop)) σ)
+unfolding channels
+plain-keeps set σ given e o I t r = row-keeps set σ (σ .words) given (length (σ .confirmed)) e o 0 I t (omega arith) r (I .words)
+
+-- Timeout_Type is 0
+pub alerting : (set : Settings) (σ : Session) → Inv set σ → eqb (σ .fop .preset .timeoutType) 0 ≡ true
+alerting set σ I = eq-eqb (σ .fop .preset .timeoutType) 0 (ap (λ (p : Preset). p .timeoutType) (I .isSet))
+
+tick-keeps : (set : Settings) (σ : Session) → Inv set σ → Inv set (answered (set .n) (fopTick (σ .fop)) σ)
+unfolding fopTick fopExpiry answered channels
+tick-keeps set σ I =
+    let τ : Session = withFop (setClock (σ .fop .clock .timer - 1) (σ .fop .clock .transmissionCount) (σ .fop)) σ in
+    let J : Inv set τ = timed set _ _ σ I in
+    let g : T (sound (modeOf (σ .fop .state))) = is-sound (modeOf (σ .fop .state)) (set .n) _ _ _ _ _ _ (I .side) in
+    pickW (λ (w : Work). Inv set (answered (set .n) w σ)) (eqb (σ .fop .clock .timer) 1) {x = fopExpiry (τ .fop)} {y = begin none [] 0 (τ .fop)}
+    (row-keeps set τ (σ .words) nothing (length (σ .confirmed)) (first (expiryLines
+    (ltb (σ .fop .clock .transmissionCount) (σ .fop .preset .transmissionLimit)) (eqb (σ .fop .preset .timeoutType) 0)) FopEvent.E18) [] 0 J
+    (timer-ok (ltb (σ .fop .clock .transmissionCount) (σ .fop .preset .transmissionLimit)) (eqb (σ .fop .preset .timeoutType) 0) (alerting set σ I))
+    (omega arith) tt (I .words))
+    (answered-keeps set τ (σ .words) nothing (length (σ .confirmed)) (begin none [] 0 (τ .fop)) J g
+    (enter (modeOf (σ .fop .state)) (set .n) (presetOf set) _ (σ .accepted) (σ .sent) (σ .frames) (σ .denied) _ _ _ (σ .fop .preset) nothing
+    (length (σ .confirmed)) 0 (σ .fop .waitQueue) []
+    (I .base) (I .side) (omega arith) tt (I .isSet) (I .waiting))
+    (I .words))
+
+-- an event that goes through was judged fit, and had its room
+judge : (j need lent : ℕ) → eqb (pick (eqb j 0) (pick (leb need lent) 0 11) j) 0 ≡ true → (j ≡ 0) × (need ≤ lent)
+judge j need lent = first (eqb j 0) refl
+  where
+    second : (b : Bool) → leb need lent ≡ b → eqb j 0 ≡ true → eqb (pick b 0 11) 0 ≡ true → (j ≡ 0) × (need ≤ lent)
+    second true e z t = (eqb-true j 0 z, leb-true need lent e)
+    second false e z t = absurd (false≢true t)
+
+    first : (b : Bool) → eqb j 0 ≡ b → eqb (pick b (pick (leb need lent) 0 11) j) 0 ≡ true → (j ≡ 0) × (need ≤ lent)
+    first true z t = second (leb need lent) refl z t
+    first false z t = absurd (false≢true (sym z ∙ t))
+
+pub fit : (own : Own) (e : SenderEvent) (lent : ℕ) (f : Fop) → goes own e lent f ≡ true → (judged own e ≡ 0) × (needed own e f ≤ lent)
+unfolding senderRefusal
+fit own e lent f t = judge (judged own e) (needed own e f) lent t
+
+pub goes-is : (own : Own) (e : SenderEvent) (lent : ℕ) (f : Fop) → judged own e ≡ 0 → needed own e f ≤ lent → goes own e lent f ≡ true
+unfolding senderRefusal
+goes-is own e lent f j l = rw (j, le-leb (needed own e f) lent l)
+
+pub legal-of : (o : List ℕ) → _≡_ {A = ℕ} (pick (legal o) 0 10) 0 → legal o ≡ true
+legal-of o = go (legal o)
+  where
+    go : (b : Bool) → _≡_ {A = ℕ} (pick b 0 10) 0 → b ≡ true
+    go true e = refl
+    go false e = absurd (omega arith)
+
+sender-keeps : (set : Settings) (e : SenderEvent) (lent : ℕ) (σ : Session) → Inv set σ
+    → (judged (set .own) e ≡ 0 → Inv set (answered (set .n) (work (set .own) e (σ .fop)) σ)) → Inv set (sender set e lent σ)
+unfolding sender
+sender-keeps set e lent σ I h =
+    pickS (Inv set) (goes (set .own) e lent (σ .fop)) (λ t. h (fit (set .own) e lent (σ .fop) t .0)) (λ t. I)
+
+pub ad-keeps : (set : Settings) (lent : ℕ) (o : List ℕ) (σ : Session) → Inv set σ → Inv set (sender set (requestAd o) lent σ)
+unfolding fopAd judged work
+ad-keeps set lent o σ I = sender-keeps set (requestAd o) lent σ I (λ j. plain-keeps set σ unit _ o I (ad-ok (isEmpty (σ .fop .waitQueue))) (legal-of o j))
+
+pub bd-keeps : (set : Settings) (lent : ℕ) (o : List ℕ) (σ : Session) → Inv set σ → Inv set (sender set (requestBd o) lent σ)
+unfolding fopBd judged work
+bd-keeps set lent o σ I = sender-keeps set (requestBd o) lent σ I (λ j. plain-keeps set σ unit _ o I (bd-ok (σ .fop .out .bd)) (legal-of o j))
+
+pub lower-keeps : (set : Settings) (lent : ℕ) (l : Lower) (σ : Session) → Inv set σ → Inv set (sender set (lower l) lent σ)
+unfolding fopLower work
+lower-keeps set lent l σ I = sender-keeps set (lower l) lent σ I (λ j. plain-keeps set σ nothing _ [] I (lower-ok l) tt)
+
+pub ticks-keeps : (set : Settings) (lent : ℕ) (σ : Session) → Inv set σ → Inv set (sender set fop.tick lent σ)
+unfolding work
+ticks-keeps set lent σ I = sender-keeps set fop.tick lent σ I (λ j. tick-keeps set σ I)
+
+pub terminate-keeps : (set : Settings) (lent : ℕ) (σ : Session) → Inv set σ → Inv set (sender set (directive 5 0) lent σ)
+unfolding fopDirective directiveEvent work
+terminate-keeps set lent σ I = sender-keeps set (directive 5 0) lent σ I (λ j. plain-keeps set σ nothing FopEvent.E29 [] I terminate-ok tt)
+
+-- a word under way is read as it was reported
+pub hears : (set : Settings) → Within set → (w : Word) (f : Fop) → w .counter ≤ 3 → w .nr < 256
+    → work (set .own) (wordArrives (wordOctets (set .own) w)) f ≡ fopWord w f
+unfolding work fopHeard
+hears set vw w f c b = rw (word-back (set .own) (vw .spacecraft) (vw .channel) w c b)
+
+pub fine : (set : Settings) → Within set → (w : Word) → w .counter ≤ 3 → w .nr < 256 → judged (set .own) (wordArrives (wordOctets (set .own) w)) ≡ 0
+unfolding judged
+fine set vw w c b = rw (word-back (set .own) (vw .spacecraft) (vw .channel) w c b)
+
+pub word-keeps : (set : Settings) → Within set → (lent : ℕ) (σ : Session) (l : List Word) → Inv set σ
+    → Wds (set .n) (length (σ .confirmed)) (length (σ .accepted)) l
+    → Inv set (wordCome set lent l σ)
+unfolding wordCome fopWord channels
+word-keeps set vw lent σ [] I h = I
+word-keeps set vw lent σ (w ∷ ws) I h =
+    sender-keeps set _ lent (channels (σ .frames) ws σ) (words-are set σ ws I (wds-lower (set .n) (h .0) _ _ ws (h .2) (h .4)))
+    (λ j. rw (hears set vw w (σ .fop) (h .3) (omega (arith, h .1)))
+    (row-keeps set σ ws word (h .0) _ [] (w .nr) I (word-ok (seen w (σ .fop))) (h .2) (h .1, wds-le (set .n) (h .0) _ ws (h .4)) (h .4)))

@@ -1,0 +1,358 @@
+-- The session of tied ends, octets and all, is that of the table machines.
+use mathlib.Core.Path.{_≡_, refl, sym, ap, _∙_, subst}
+use mathlib.Core.Bool.{Bool, true, false}
+use mathlib.Core.List.{List, [], _∷_, _++_, map, append-nil, map-append}
+use mathlib.Core.Option.{some}
+use Prim.Native.Nat.{_-_, ℕ, suc, _+_, _≤_, max}
+use native.Mathlib.Omega.{arith}
+use lib.ListN.{length}
+use Rattle.base.specs.Choice.{pick}
+use Rattle.fop.specs.Units.{Fdu, Frame, AD, BD, Unlock, SetVR, Refused, Word, legal, written, wordOctets}
+use Rattle.fop.specs.Variables.{Fop, Work}
+use Rattle.fop.specs.Events.{SenderEvent, requestAd, requestBd, directive, wordArrives, work}
+use Rattle.fop.specs.Answers.{runOf, octetsDown, senderAnswer, senderNext, senderRefusal, refused}
+use Rattle.base.specs.Choice.{must}
+use Rattle.fop.specs.Answers as ans
+use Rattle.farm.specs.Table.{stepOf}
+use Rattle.farm.specs.Receiver as farm
+use Rattle.farm.specs.Receiver.{wordOf}
+use Rattle.farm.specs.declared.Event.the-variants.{E10}
+use Rattle.farm.specs.declared.Receiver.{Receiver}
+use Rattle.farm.specs.declared.Received.{Received}
+use Rattle.farm.specs.declared.Released.{Released}
+use Rattle.farm.specs.declared.Released.the-variants.{Done, NoneTaken}
+use Rattle.session.specs.Receiver as rcv
+use Rattle.session.specs.Receiver.{frameArrives, releaseBuffer, ReceiverAnswer, receiverNext, releaseAnswer, receiverAnswer, receiverWord}
+use Rattle.session.specs.Frames.{read}
+use Rattle.session.specs.Frames.{read}
+use Rattle.session.specs.Ends.{Settings, Within, Ends, Tied, tables, startReceiver}
+use Rattle.session.specs.Session.{Linked, History, Event, adRequest, bdRequest, ticks, lowerSays, terminate, wordIn, wordLost, wordMade, frameIn, frameLost, release}
+use Rattle.session.specs.Session.{begins, toSender, afterSender, afterFrame, afterRelease, enters, sentAfter, sentBdAfter, locks}
+use Rattle.session.specs.Session.{addSent, addBd, rest}
+use Rattle.fop.specs.Events as fop
+use Rattle.session.specs.Session as ses
+use Rattle.session.proofs.Core as core
+use Rattle.session.proofs.Received.{Readable, receiverOf, received-is, part-is, released-is, answerBy, accepted-is, acceptedBd-is, used-is}
+use Rattle.session.proofs.Buffers.{Stocked, stock-keeps, start-stock}
+use Rattle.session.proofs.Core.{frameEvent, star, used, free, isHeld, Session, addAll, addBds, firstOf, goes}
+use Rattle.session.proofs.Lists.{Numbered}
+use Rattle.session.proofs.Chan.{Fly}
+use Rattle.session.proofs.Octets.{ad-back, bd-back}
+use Rattle.session.proofs.Inv.{Inv}
+use Rattle.session.proofs.Receiver.{step-keeps, ad-cases, begun}
+use Rattle.session.proofs.Next.{historyOf}
+use Rattle.session.proofs.Few.{work-few}
+
+abbrev pub Reads : List Frame → Type 0
+Reads [] = Unit {0}
+Reads (x ∷ xs) = Readable x × Reads xs
+
+pub fly-reads : (n K : ℕ) (s : List Fdu) → Numbered n s → (A H : ℕ) (fs : List Frame) → Fly K s A H fs → Reads fs
+fly-reads n K s h A H [] f = tt
+fly-reads n K s h A H (AD u ∷ fs) f = (
+  (ap (λ (x : Fdu). legal (x .octets)) (f .1) ∙ h .ok (f .0) (f .2), omega (arith, ap (λ (x : Fdu). x .ns) (f .1), h .at (f .0) (f .2))),
+  fly-reads n K s h A (max H (suc (f .0))) fs (f .5),
+)
+fly-reads n K s h A H (BD o ∷ fs) f = (f .0, fly-reads n K s h A H fs (f .1))
+fly-reads n K s h A H (Unlock ∷ fs) f = absurd f
+fly-reads n K s h A H (SetVR v ∷ fs) f = absurd f
+fly-reads n K s h A H (Refused r ∷ fs) f = absurd f
+
+reads-last : (fs gs : List Frame) → Reads (fs ++ gs) → Reads gs
+reads-last [] gs h = h
+reads-last (x ∷ fs) gs h = reads-last fs gs (h .1)
+
+pub reads : (set : Settings) → Within set → (x : Frame) → Readable x → read (set .own) (written (set .own) x) ≡ x
+reads set vw (AD u) h = ad-back (set .own) (vw .spacecraft) (vw .channel) u (h .0) (h .1)
+reads set vw (BD o) h = bd-back (set .own) (vw .spacecraft) (vw .channel) o h
+reads set vw Unlock h = absurd h
+reads set vw (SetVR v) h = absurd h
+reads set vw (Refused r) h = absurd h
+
+run-is : (l : List Fdu) → runOf l ≡ record { number = firstOf l; count = length l }
+run-is [] = refl
+run-is (u ∷ us) = refl
+
+map-rest : {A B : Type 0} (f : A → B) (l : List A) → rest (map f l) ≡ map f (rest l)
+map-rest f [] = refl
+map-rest f (x ∷ l) = refl
+
+-- what the answer's octets say of Sent, and of the channel
+module _ (set : Settings) (vw : Within set) where
+  sent-through : (s : List Fdu) (fr : List Frame) → length fr ≤ 1 → Reads fr → sentAfter (set .own) (set .n) s (octetsDown (set .own) fr) ≡ addAll (set .n) s fr
+  sent-through s [] l h = refl
+  sent-through s (x ∷ []) l h = ap (addSent (set .n) s) (reads set vw x (h .0))
+  sent-through s (x ∷ y ∷ fr) l h = absurd (omega arith)
+
+  bd-through : (s : List (List ℕ)) (fr : List Frame) → length fr ≤ 1 → Reads fr → sentBdAfter (set .own) s (octetsDown (set .own) fr) ≡ addBds s fr
+  bd-through s [] l h = refl
+  bd-through s (x ∷ []) l h = ap (addBd s) (reads set vw x (h .0))
+  bd-through s (x ∷ y ∷ fr) l h = absurd (omega arith)
+
+  down-through : (fs fr : List Frame) → length fr ≤ 1
+      → enters (map (written (set .own)) fs) (octetsDown (set .own) fr) ≡ map (written (set .own)) (fs ++ fr)
+  down-through fs [] l = ap (map (written (set .own))) (sym (append-nil fs))
+  down-through fs (x ∷ []) l = sym (map-append (written (set .own)) fs (x ∷ []))
+  down-through fs (x ∷ y ∷ fr) l = absurd (omega arith)
+
+  answer-through : (w : Work) (κ : Session) → length (w .frames) ≤ 1 → Reads (w .frames)
+      → afterSender set (ans.answered (set .own) w) (historyOf κ) ≡ historyOf (core.answered (set .n) w κ)
+  unfolding afterSender core.answered
+  answer-through w κ l h =
+      rw (run-is (w .confirmed), run-is (w .denied), sent-through (κ .sent) (w .frames) l h, bd-through (κ .sentBd) (w .frames) l h)
+
+  refusal-through : (r : ℕ) (f : Fop) (κ : Session) → afterSender set (refused r f) (historyOf κ) ≡ historyOf κ
+  unfolding afterSender
+  refusal-through r f κ = rw (append-nil (κ .confirmed), append-nil (κ .denied))
+
+  -- the receiver's answer to a frame of the session
+  abbrev answerTo : Session → Frame → ReceiverAnswer
+  answerTo κ x = answerBy (frameEvent (set .w) (free set κ) x (κ .farm)) (κ .farm .state) x
+
+  module _ (m : Ends) (t : Tied set m) where
+    -- the ends' session, seen as the table machines'
+    pub record Rel (σ : Linked m) (κ : Session) : Type 0 where
+      pub good : t .Good (σ .sender)
+      pub goodReceiver : t .GoodReceiver (σ .receiver)
+      pub fop : t .fop (σ .sender) ≡ κ .fop
+      pub farm : t .farm (σ .receiver) ≡ receiverOf set (used κ) (κ .farm)
+      pub stock : Stocked set κ
+      pub frames : σ .frames ≡ map (written (set .own)) (κ .frames)
+      pub words : σ .words ≡ map (wordOctets (set .own)) (κ .words)
+      pub history : σ .history ≡ historyOf κ
+
+    pub at-start : Rel (begins m) (begun set)
+    unfolding begins startReceiver
+    at-start =
+        record {
+          good = t .good;
+          goodReceiver = t .goodReceiver;
+          fop = t .start;
+          farm = t .startReceiver;
+          stock = start-stock set;
+          frames = refl;
+          words = refl;
+          history = refl;
+        }
+
+    -- an event of the sender, with ws the words left; b says whether it goes through
+    chosen : (b : Bool) (w : Work) (r : ℕ) (σ : Linked m) (κ : Session) (e : SenderEvent) (lent : ℕ) (ws : List Word) → Rel σ κ
+        → (b ≡ true → (length (w .frames) ≤ 1) × Reads (w .frames))
+        → t .fop (m .next e lent (σ .sender)) ≡ pick b (w .fop) (κ .fop)
+        → m .answer e lent (σ .sender) ≡ pick b (ans.answered (set .own) w) (refused r (κ .fop))
+        → Rel (toSender set m e lent (map (wordOctets (set .own)) ws) σ)
+        (pick b (core.answered (set .n) w (core.channels (κ .frames) ws κ)) (core.channels (κ .frames) ws κ))
+    unfolding toSender core.channels core.answered
+    chosen true w r σ κ e lent ws R h f a =
+        let g = h refl in
+        record {
+          good = t .keeps e lent (σ .sender) (R .good);
+          goodReceiver = R .goodReceiver;
+          fop = f;
+          farm = R .farm;
+          stock = R .stock;
+          frames = rw (a, R .frames) (down-through (κ .frames) (w .frames) (g .0));
+          words = refl;
+          history = rw (a, R .history) (answer-through w κ (g .0) (g .1));
+        }
+    chosen false w r σ κ e lent ws R h f a =
+        record {
+          good = t .keeps e lent (σ .sender) (R .good);
+          goodReceiver = R .goodReceiver;
+          fop = f;
+          farm = R .farm;
+          stock = R .stock;
+          frames = rw (a, R .frames);
+          words = refl;
+          history = rw (a, R .history) (refusal-through r (κ .fop) κ);
+        }
+
+    to-sender : (σ : Linked m) (κ : Session) (e : SenderEvent) (lent : ℕ) (ws : List Word) → Rel σ κ
+        → Inv set (core.sender set e lent (core.channels (κ .frames) ws κ))
+        → Rel (toSender set m e lent (map (wordOctets (set .own)) ws) σ) (core.sender set e lent (core.channels (κ .frames) ws κ))
+    unfolding core.sender core.channels senderAnswer senderNext core.answered
+    to-sender σ κ e lent ws R J =
+        let w : Work = work (set .own) e (κ .fop) in
+        chosen (goes (set .own) e lent (κ .fop)) (work (set .own) e (κ .fop)) (senderRefusal (set .own) e lent (κ .fop)) σ κ e lent ws R
+        (λ b. (work-few (set .own) e (κ .fop), through b J))
+        (t .next e lent (σ .sender) (R .good) ∙ ap (λ (f : Fop). senderNext (set .own) e lent f) (R .fop))
+        (t .answer e lent (σ .sender) (R .good) ∙ ap (λ (f : Fop). senderAnswer (set .own) e lent f) (R .fop))
+      where
+        through : goes (set .own) e lent (κ .fop) ≡ true → Inv set (core.sender set e lent (core.channels (κ .frames) ws κ))
+            → Reads ((work (set .own) e (κ .fop)) .frames)
+        through b J =
+            let τ : Session = core.answered (set .n) (work (set .own) e (κ .fop)) (core.channels (κ .frames) ws κ) in
+            let K : Inv set (core.answered (set .n) (work (set .own) e (κ .fop)) (core.channels (κ .frames) ws κ)) = rw b at J in
+            reads-last (κ .frames) ((work (set .own) e (κ .fop)) .frames)
+            (fly-reads (set .n) (set .k) (τ .sent) (K .base .num) (length (τ .accepted)) (length (τ .accepted)) (τ .frames) (K .base .fly))
+
+    -- the oldest word to the sender
+    heard : (σ : Linked m) (κ : Session) (lent : ℕ) (ws : List Word) → Rel σ κ → Inv set (core.wordCome set lent ws κ)
+        → Rel (ses.wordCome set m lent (map (wordOctets (set .own)) ws) σ) (core.wordCome set lent ws κ)
+    unfolding ses.wordCome core.wordCome
+    heard σ κ lent [] R J = R
+    heard σ κ lent (w ∷ ws) R J = to-sender σ κ (wordArrives (wordOctets (set .own) w)) lent ws R J
+
+    -- no frame of the session locks the receiver out
+    unlocks : (κ : Session) (x : Frame) (fs : List Frame) → Inv set κ → Fly (set .k) (κ .sent) (length (κ .accepted)) (length (κ .accepted)) (x ∷ fs)
+        → locks (some (frameEvent (set .w) (free set κ) x (κ .farm))) ≡ false
+    unfolding frameEvent
+    unlocks κ (AD u) fs I h = ad-cases set vw κ (free set κ) u fs I h (λ e. locks (some e) ≡ false) (λ i p. refl) (λ i p. refl) (λ i. refl) (λ i. refl)
+    unlocks κ (BD o) fs I h = refl
+    unlocks κ Unlock fs I h = absurd h
+    unlocks κ (SetVR v) fs I h = absurd h
+    unlocks κ (Refused r) fs I h = absurd h
+
+    -- the oldest frame to the receiver
+    said : (κ : Session) (x : Frame) (fs : List Frame) → Inv set κ → Fly (set .k) (κ .sent) (length (κ .accepted)) (length (κ .accepted)) (x ∷ fs)
+        → afterFrame x (answerTo κ x) (historyOf κ) ≡ historyOf (core.frameCome set (free set κ) (x ∷ fs) κ)
+    unfolding core.frameCome core.receiver afterFrame
+    said κ x fs I h = rw (unlocks κ x fs I h, accepted-is set vw κ I x fs h, acceptedBd-is set vw κ I x)
+
+    arrives : (σ : Linked m) (κ : Session) (x : Frame) (fs : List Frame) → Rel σ κ → Inv set κ
+        → Fly (set .k) (κ .sent) (length (κ .accepted)) (length (κ .accepted)) (x ∷ fs)
+        → Readable x → Stocked set (core.frameCome set (free set κ) (x ∷ fs) κ)
+        → Rel (ses.frameCome set m (map (written (set .own)) (x ∷ fs)) σ) (core.frameCome set (free set κ) (x ∷ fs) κ)
+    unfolding ses.frameCome core.frameCome core.receiver receiverNext receiverAnswer farm.answered
+    arrives σ κ x fs R I h rx S =
+        let rd : read (set .own) (written (set .own) x) ≡ x = reads set vw x rx in
+        let got = received-is set vw (used κ) (κ .farm) x rx in
+        let b : m .answerReceiver (frameArrives (written (set .own) x)) (σ .receiver) ≡ answerTo κ x =
+        t .answerReceiver (frameArrives (written (set .own) x)) (σ .receiver) (R .goodReceiver)
+        ∙ ap (λ (g : Receiver). receiverAnswer (frameArrives (written (set .own) x)) g) (R .farm)
+        ∙ rw (received-is set vw (used κ) (κ .farm) x rx, part-is set vw (used κ) (κ .farm) x rx) in
+        record {
+          good = R .good;
+          goodReceiver = t .keepsReceiver (frameArrives (written (set .own) x)) (σ .receiver) (R .goodReceiver);
+          fop = R .fop;
+          farm = t .nextReceiver (frameArrives (written (set .own) x)) (σ .receiver) (R .goodReceiver)
+              ∙ ap (λ (g : Receiver). receiverNext (frameArrives (written (set .own) x)) g) (R .farm)
+              ∙ ap (λ (y : Received). y .next) got
+              ∙ ap (λ (k : ℕ). receiverOf set k (stepOf (frameEvent (set .w) (free set κ) x (κ .farm)) (star x) (κ .farm)))
+              (used-is set vw κ I (R .stock .below) x fs h);
+          stock = S;
+          frames = refl;
+          words = R .words;
+          history = ap (λ (y : Frame). afterFrame y (m .answerReceiver (frameArrives (written (set .own) x)) (σ .receiver)) (σ .history)) rd
+              ∙ ap (λ (b : ReceiverAnswer). afterFrame x b (σ .history)) b ∙ ap (λ (h : History). afterFrame x (answerTo κ x) h) (R .history)
+              ∙ said κ x fs I h;
+        }
+
+    got : (σ : Linked m) (κ : Session) (fs : List Frame) → Rel σ κ → Inv set κ → Fly (set .k) (κ .sent) (length (κ .accepted)) (length (κ .accepted)) fs
+        → Stocked set (core.frameCome set (free set κ) fs κ)
+        → Rel (ses.frameCome set m (map (written (set .own)) fs) σ) (core.frameCome set (free set κ) fs κ)
+    unfolding ses.frameCome core.frameCome
+    got σ κ [] R I h S = R
+    got σ κ (x ∷ fs) R I h S =
+        arrives σ κ x fs R I h (fly-reads (set .n) (set .k) (κ .sent) (I .base .num) _ _ (x ∷ fs) h .0) S
+
+    -- a release; b says whether a buffer is taken
+    gave : (b : Bool) (σ : Linked m) (κ : Session) → Rel σ κ → Stocked set (core.releases b κ)
+        → t .farm (m .nextReceiver releaseBuffer (σ .receiver)) ≡ rcv.afterRelease
+        (must b NoneTaken (Done (farm.answered 0 E10 0 (receiverOf set (used κ - 1) (κ .farm))))) (receiverOf set (used κ) (κ .farm))
+        → m .answerReceiver releaseBuffer (σ .receiver) ≡ releaseAnswer
+        (must b NoneTaken (Done (farm.answered 0 E10 0 (receiverOf set (used κ - 1) (κ .farm)))))
+        → Rel (ses.releases m σ) (core.releases b κ)
+    unfolding ses.releases core.releases core.receiver afterRelease farm.answered
+    gave true σ κ R S f a =
+        let z : used κ - 1 + 0 ≡ length (κ .accepted) - (κ .released + 1) = omega arith in
+        record {
+          good = R .good;
+          goodReceiver = t .keepsReceiver releaseBuffer (σ .receiver) (R .goodReceiver);
+          fop = R .fop;
+          farm = f ∙ ap (λ (k : ℕ). receiverOf set k (stepOf E10 0 (κ .farm))) z;
+          stock = S;
+          frames = R .frames;
+          words = R .words;
+          history = rw (a, R .history);
+        }
+    gave false σ κ R S f a =
+        record {
+          good = R .good;
+          goodReceiver = t .keepsReceiver releaseBuffer (σ .receiver) (R .goodReceiver);
+          fop = R .fop;
+          farm = f;
+          stock = S;
+          frames = R .frames;
+          words = R .words;
+          history = rw (a, R .history);
+        }
+
+    -- the session goes on alike
+    keep-channels : (κ : Session) → core.channels (κ .frames) (κ .words) κ ≡ κ
+    unfolding core.channels
+    keep-channels κ = refl
+
+    -- an event of the sender that is no word
+    plain : (σ : Linked m) (κ : Session) (e : SenderEvent) (lent : ℕ) → Rel σ κ → Inv set (core.sender set e lent κ)
+        → Rel (toSender set m e lent (σ .words) σ) (core.sender set e lent κ)
+    unfolding core.channels toSender core.sender
+    plain σ κ e lent R J = rw (R .words) (to-sender σ κ e lent (κ .words) R J)
+
+    relink : (σ : Linked m) (κ : Session) (fs : List Frame) (ws : List Word) (fs' ws' : List (List ℕ)) → Rel σ κ → fs' ≡ map (written (set .own)) fs
+        → ws' ≡ map (wordOctets (set .own)) ws → Rel (ses.channels m fs' ws' σ) (core.channels fs ws κ)
+    unfolding core.channels
+    relink σ κ fs ws fs' ws' R f w =
+        record { good = R .good; goodReceiver = R .goodReceiver; fop = R .fop; farm = R .farm; stock = R .stock; frames = f; words = w; history = R .history }
+
+    pub word-is : (σ : Linked m) (κ : Session) → Rel σ κ → m .word (σ .receiver) ≡ wordOctets (set .own) (core.report (κ .farm))
+    unfolding receiverWord core.report wordOctets wordOf
+    word-is σ κ R = t .word (σ .receiver) (R .goodReceiver) ∙ ap (λ (f : Receiver). receiverWord f) (R .farm)
+
+    pub same-step : (e : Event) (σ : Linked m) (κ : Session) → Rel σ κ → Inv set κ → Rel (ses.step set m e σ) (core.step set e κ)
+    unfolding ses.step core.step core.stepWith receiverNext receiverAnswer
+    same-step (adRequest o lent) σ κ R I = plain σ κ (requestAd o) lent R (step-keeps set vw (adRequest o lent) κ I)
+    same-step (bdRequest o lent) σ κ R I = plain σ κ (requestBd o) lent R (step-keeps set vw (bdRequest o lent) κ I)
+    same-step (ticks lent) σ κ R I = plain σ κ fop.tick lent R (step-keeps set vw (ticks lent) κ I)
+    same-step (lowerSays l lent) σ κ R I = plain σ κ (fop.lower l) lent R (step-keeps set vw (lowerSays l lent) κ I)
+    same-step (terminate lent) σ κ R I = plain σ κ (directive 5 0) lent R (step-keeps set vw (terminate lent) κ I)
+    same-step (wordIn lent) σ κ R I =
+        subst (λ (l : List (List ℕ)). Rel (ses.wordCome set m lent l σ) (core.wordCome set lent (κ .words) κ)) (sym (R .words))
+        (heard σ κ lent (κ .words) R (step-keeps set vw (wordIn lent) κ I))
+    same-step wordLost σ κ R I =
+        relink σ κ (κ .frames) (rest (κ .words)) (σ .frames) (rest (σ .words)) R (R .frames) (ap rest (R .words) ∙ map-rest (wordOctets (set .own)) (κ .words))
+    same-step wordMade σ κ R I =
+        relink σ κ (κ .frames) _ (σ .frames) _ R (R .frames)
+        (rw (R .words, word-is σ κ R) (sym (map-append (wordOctets (set .own)) (κ .words) (core.report (κ .farm) ∷ []))))
+    same-step frameIn σ κ R I =
+        subst (λ (l : List (List ℕ)). Rel (ses.frameCome set m l σ) (core.frameCome set (free set κ) (κ .frames) κ)) (sym (R .frames))
+        (got σ κ (κ .frames) R I (I .base .fly) (stock-keeps set vw frameIn κ I (R .stock)))
+    same-step frameLost σ κ R I =
+        relink σ κ (rest (κ .frames)) (κ .words) (rest (σ .frames)) (σ .words) R (ap rest (R .frames) ∙ map-rest (written (set .own)) (κ .frames)) (R .words)
+    same-step release σ κ R I =
+        gave (isHeld κ) σ κ R (stock-keeps set vw release κ I (R .stock))
+        (t .nextReceiver releaseBuffer (σ .receiver) (R .goodReceiver) ∙ ap (λ (f : Receiver). receiverNext releaseBuffer f) (R .farm)
+        ∙ ap (λ (y : Released). rcv.afterRelease y (receiverOf set (used κ) (κ .farm))) (released-is set vw (used κ) (κ .farm)))
+        (t .answerReceiver releaseBuffer (σ .receiver) (R .goodReceiver) ∙ ap (λ (f : Receiver). receiverAnswer releaseBuffer f) (R .farm)
+        ∙ ap releaseAnswer (released-is set vw (used κ) (κ .farm)))
+
+-- the frames that an event hands down read back
+pub reads-of : (set : Settings) (e : SenderEvent) (lent : ℕ) (κ : Session) → goes (set .own) e lent (κ .fop) ≡ true → Inv set (core.sender set e lent κ)
+    → Reads ((work (set .own) e (κ .fop)) .frames)
+unfolding core.sender core.answered
+reads-of set e lent κ b J =
+    let τ : Session = core.answered (set .n) (work (set .own) e (κ .fop)) κ in
+    let K : Inv set (core.answered (set .n) (work (set .own) e (κ .fop)) κ) = rw b at J in
+    reads-last (κ .frames) ((work (set .own) e (κ .fop)) .frames)
+    (fly-reads (set .n) (set .k) (τ .sent) (K .base .num) (length (τ .accepted)) (length (τ .accepted)) (τ .frames) (K .base .fly))
+
+-- the table machines are ends of this kind
+abbrev pub tables-tied : (set : Settings) → Tied set (tables set)
+tables-tied set =
+    record {
+      fop = λ f. f;
+      farm = λ f. f;
+      Good = λ f. Unit {0};
+      GoodReceiver = λ f. Unit {0};
+      good = tt;
+      goodReceiver = tt;
+      keeps = λ e lent x g. tt;
+      keepsReceiver = λ e x g. tt;
+      start = refl;
+      startReceiver = refl;
+      next = λ e lent x g. refl;
+      answer = λ e lent x g. refl;
+      nextReceiver = λ e x g. refl;
+      answerReceiver = λ e x g. refl;
+      word = λ x g. refl;
+    }

@@ -1,0 +1,111 @@
+-- What is written reads back: frames of legal units (by crate frame's `frame-back` and `data-back`) and control words (by crate clcw's
+-- `word-back`).
+use mathlib.Core.Path.{_≡_, refl, ap}
+use mathlib.Core.Bool.{Bool, true, false, _&&_, false≢true}
+use mathlib.Core.List.{List, [], _∷_, append-nil}
+use Prim.Native.Nat.{ℕ, _+_, _≤_, _<_}
+use native.Mathlib.Omega.{arith}
+use lib.Dec.{leb, ltb}
+use lib.ListN.{length}
+use borrow.Author.Tests.{leb-true, ltb-true}
+use Rattle.base.specs.Octets.{Octets}
+use Rattle.fop.specs.Units.{Fdu, Frame, AD, BD, Word, valid, Own, areOctets, legal, written, wordOctets, readWord, heard}
+use Rattle.frame.specs.Frame.{frameOf, dataOf}
+use Rattle.frame.specs.Answers.{readingOf, partOf}
+use Rattle.frame.specs.declared.Kind.{Kind}
+use Rattle.frame.specs.declared.Kind.the-variants as kind
+use Rattle.frame.specs.declared.Reading.the-variants as reading
+use Rattle.frame.proofs.Back as fback
+use Rattle.clcw.proofs.Back as cback
+use Rattle.session.specs.Frames.{read}
+
+and-both : (a b : Bool) → (a && b) ≡ true → (a ≡ true) × (b ≡ true)
+and-both true b e = (refl, e)
+and-both false b e = absurd (false≢true e)
+
+octets-are : (o : List ℕ) → areOctets o ≡ true → Octets o
+octets-are [] e = tt
+octets-are (x ∷ o) e = let h = and-both (ltb x 256) (areOctets o) e in (ltb-true x 256 (h .0), octets-are o (h .1))
+
+pub legal-is : (o : List ℕ) → legal o ≡ true → (1 ≤ length o) × (length o ≤ 249) × Octets o
+unfolding legal
+legal-is o e =
+    let h = and-both (leb 1 (length o)) (leb (length o) 249 && areOctets o) e in
+    let k = and-both (leb (length o) 249) (areOctets o) (h .1) in
+    (leb-true _ _ (h .0), leb-true _ _ (k .0), octets-are o (k .1))
+
+module _ (own : Own) (sc : own .spacecraft ≤ 1023) (ch : own .channel ≤ 63) where
+  -- a frame with nothing behind it
+  reading-back : (k : Kind) (o : List ℕ) → fback.Legal k o
+      → readingOf (frameOf (own .spacecraft) (own .channel) k o) (own .spacecraft) (own .channel)
+      ≡ reading.Frame (record {
+        kind = k;
+        spacecraft = own .spacecraft;
+        channel = own .channel;
+        total = length (dataOf k o) + 7;
+        field = length (dataOf k o);
+      })
+  reading-back k o l =
+      rw (append-nil (frameOf (own .spacecraft) (own .channel) k o)) at (fback.frame-back (own .spacecraft) (own .channel) k o [] sc ch l (omega arith) tt)
+
+  part-back : (k : Kind) (o : List ℕ) → fback.Legal k o
+      → partOf (frameOf (own .spacecraft) (own .channel) k o) (own .spacecraft) (own .channel) ≡ dataOf k o
+  part-back k o l =
+      rw (append-nil (frameOf (own .spacecraft) (own .channel) k o)) at (fback.data-back (own .spacecraft) (own .channel) k o [] sc ch l (omega arith) tt)
+
+  ad-legal : (u : Fdu) → legal (u .octets) ≡ true → u .ns < 256 → fback.Legal (kind.Ad (u .ns)) (u .octets)
+  ad-legal u l b = let g = legal-is (u .octets) l in (b, g .0, g .1, g .2)
+
+  bd-legal : (o : List ℕ) → legal o ≡ true → fback.Legal kind.Bd o
+  bd-legal o l = let g = legal-is o l in (g .0, g .1, g .2)
+
+  -- a written frame, as the receiver reads it
+  pub ad-reading : (u : Fdu) → legal (u .octets) ≡ true → u .ns < 256
+      → readingOf (written own (AD u)) (own .spacecraft) (own .channel)
+      ≡ reading.Frame (record {
+        kind = kind.Ad (u .ns);
+        spacecraft = own .spacecraft;
+        channel = own .channel;
+        total = length (u .octets) + 7;
+        field =
+            length (u .octets);
+      })
+  unfolding written
+  ad-reading u l b = reading-back (kind.Ad (u .ns)) (u .octets) (ad-legal u l b)
+
+  pub ad-part : (u : Fdu) → legal (u .octets) ≡ true → u .ns < 256 → partOf (written own (AD u)) (own .spacecraft) (own .channel) ≡ u .octets
+  unfolding written
+  ad-part u l b = part-back (kind.Ad (u .ns)) (u .octets) (ad-legal u l b)
+
+  pub bd-reading : (o : List ℕ) → legal o ≡ true
+      → readingOf (written own (BD o)) (own .spacecraft) (own .channel)
+      ≡ reading.Frame (record { kind = kind.Bd; spacecraft = own .spacecraft; channel = own .channel; total = length o + 7; field = length o })
+  unfolding written
+  bd-reading o l = reading-back kind.Bd o (bd-legal o l)
+
+  pub bd-part : (o : List ℕ) → legal o ≡ true → partOf (written own (BD o)) (own .spacecraft) (own .channel) ≡ o
+  unfolding written
+  bd-part o l = part-back kind.Bd o (bd-legal o l)
+
+  -- and as the histories read it
+  pub ad-back : (u : Fdu) → legal (u .octets) ≡ true → u .ns < 256 → read own (written own (AD u)) ≡ AD u
+  unfolding read
+  ad-back u l b = rw (ad-reading u l b, ad-part u l b)
+
+  pub bd-back : (o : List ℕ) → legal o ≡ true → read own (written own (BD o)) ≡ BD o
+  unfolding read
+  bd-back o l = rw (bd-reading o l, bd-part o l)
+
+  -- a control word
+  pub word-back : (w : Word) → w .counter ≤ 3 → w .nr < 256 → readWord own (wordOctets own w) ≡ valid w
+  unfolding readWord wordOctets
+  word-back w c b =
+      ap heard (cback.word-back (record {
+        channel = own .channel;
+        lockout = w .lockout;
+        wait = w .wait;
+        retransmit = w .retransmit;
+        counter =
+            w .counter;
+        report = w .nr;
+      }) ch c b)

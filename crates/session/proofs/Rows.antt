@@ -1,0 +1,200 @@
+-- One computed test of table 7-8: what its actions do to the sender's mode, cell by cell.
+use mathlib.Core.Path.{_≡_, refl}
+use mathlib.Core.Bool.{Bool, true, false, _&&_, false≢true}
+use mathlib.Core.List.{List, [], _∷_}
+use mathlib.Core.Option.{some}
+use Prim.Native.Nat.{ℕ, _-_}
+use lib.Dec.{T}
+use Rattle.base.specs.Choice.{pick}
+use Rattle.fop.specs.Table.{Ignore, SetSuspendState, Suspend, Resume, State, S1, S2, S3, S4, S5, S6, Action, Cell, cell, ifNotSuspended, NotApplicable, Row, row, FopEvent, table78, cell78, Accept, Reject, Confirm}
+use Rattle.fop.specs.Table.{RejectAd, AcceptBd, RejectBd, AddToWaitQueue, LookForFdu, LookForDirective, RemoveAcknowledgedFrames, InitiateAdRetransmission}
+use Rattle.fop.specs.Table.{InitiateBcRetransmission, ReleaseBcFrame, CancelTimer, StartTimer, Alert, Initialise, TransmitUnlock, TransmitSetVr, TransmitBd}
+use Rattle.fop.specs.Table.{SetVs, SetNnr, SetK, SetT1Initial, SetTransmissionLimit, SetTimeoutType, AdOutReady, BcOutReady, BdOutReady}
+use Rattle.fop.specs.Variables.{Fop}
+use Rattle.fop.specs.Variables.{begin}
+use Rattle.fop.specs.Machine.{performCell, fopDo}
+use Rattle.fop.specs.Events.{Line, when, first, expiryLines, Seen, wordLines, wordEvent, Lower, lowerEvent}
+use Rattle.session.proofs.Values.{Mode, live, dead, bad, Given, word, unit, nothing}
+
+-- what an action does to the mode; bad: the invariant does not cover it
+abbrev pub after : Given → Action → Mode → Mode
+after g Accept m = m
+after g Reject m = m
+after g Confirm m = m
+after g RejectAd m = m
+after g AcceptBd m = m
+after g RejectBd m = m
+after g Ignore m = m
+after word AddToWaitQueue m = bad
+after unit AddToWaitQueue m = m
+after nothing AddToWaitQueue m = bad
+after g LookForFdu live = live
+after g LookForFdu dead = bad
+after g LookForFdu bad = bad
+after g LookForDirective m = bad
+after word RemoveAcknowledgedFrames live = live
+after word RemoveAcknowledgedFrames dead = bad
+after word RemoveAcknowledgedFrames bad = bad
+after unit RemoveAcknowledgedFrames m = bad
+after nothing RemoveAcknowledgedFrames m = bad
+after g InitiateAdRetransmission m = m
+after g InitiateBcRetransmission m = m
+after g ReleaseBcFrame m = m
+after g CancelTimer m = m
+after g StartTimer m = m
+after g (Alert r) live = dead
+after g (Alert r) dead = dead
+after g (Alert r) bad = bad
+after g Initialise m = bad
+after g TransmitUnlock m = bad
+after g TransmitSetVr m = bad
+after word TransmitBd m = bad
+after unit TransmitBd m = m
+after nothing TransmitBd m = bad
+after g SetVs m = bad
+after g SetNnr m = bad
+after g SetK m = bad
+after g SetT1Initial m = bad
+after g SetTransmissionLimit m = bad
+after g SetTimeoutType m = bad
+after g (SetSuspendState s) m = m
+after g Suspend m = m
+after g Resume m = m
+after g AdOutReady m = m
+after g BcOutReady m = m
+after g BdOutReady m = m
+
+-- a list of actions
+abbrev pub afterAll : Given → List Action → Mode → Mode
+afterAll g [] m = m
+afterAll g (x ∷ xs) m = afterAll g xs (after g x m)
+
+abbrev pub modeOf : State → Mode
+modeOf S1 = live
+modeOf S2 = live
+modeOf S3 = live
+modeOf S4 = bad
+modeOf S5 = bad
+modeOf S6 = dead
+
+abbrev pub match : Mode → Mode → Bool
+match live live = true
+match live dead = false
+match live bad = false
+match dead live = false
+match dead dead = true
+match dead bad = false
+match bad live = false
+match bad dead = false
+match bad bad = false
+
+pub matched : (a b : Mode) → T (match a b) → a ≡ b
+matched live live t = refl
+matched live dead t = absurd t
+matched live bad t = absurd t
+matched dead live t = absurd t
+matched dead dead t = refl
+matched dead bad t = absurd t
+matched bad live t = absurd t
+matched bad dead t = absurd t
+matched bad bad t = absurd t
+
+abbrev pub sound : Mode → Bool
+sound live = true
+sound dead = true
+sound bad = false
+
+-- tests of a row, cell by cell, in the states of the session
+abbrev pub atAll : (State → Cell → Bool) → Row → Bool
+atAll t (row a b c d e f) = t S1 a && (t S2 b && (t S3 c && t S6 f))
+
+pub and-l : (a b : Bool) → T (a && b) → T a
+and-l true b t = tt
+and-l false b t = t
+
+pub and-r : (a b : Bool) → T (a && b) → T b
+and-r true b t = t
+and-r false b t = absurd t
+
+pub at-cell : (t : State → Cell → Bool) (r : Row) (s : State) → T (atAll t r) → T (sound (modeOf s)) → T (t s (cell78 r s))
+at-cell t (row a b c d e f) S1 h g = and-l (t S1 a) _ h
+at-cell t (row a b c d e f) S2 h g = and-l (t S2 b) _ (and-r (t S1 a) _ h)
+at-cell t (row a b c d e f) S3 h g = and-l (t S3 c) _ (and-r (t S2 b) _ (and-r (t S1 a) _ h))
+at-cell t (row a b c d e f) S4 h g = absurd g
+at-cell t (row a b c d e f) S5 h g = absurd g
+at-cell t (row a b c d e f) S6 h g = and-r (t S3 c) _ (and-r (t S2 b) _ (and-r (t S1 a) _ h))
+
+-- the one test of the table: each cell's actions lead to the mode of its next state
+abbrev pub cellOk : Given → State → Cell → Bool
+cellOk g s NotApplicable = true
+cellOk g s (ifNotSuspended xs ys u) = false
+cellOk g s (cell xs u) = match (afterAll g xs (modeOf s)) (modeOf u)
+
+abbrev pub rowOk : Given → FopEvent → Bool
+rowOk g e = atAll (cellOk g) (table78 e)
+
+match-sound : (a b : Mode) → T (match a b) → T (sound b)
+match-sound a live t = tt
+match-sound a dead t = tt
+match-sound live bad t = absurd t
+match-sound dead bad t = absurd t
+match-sound bad bad t = absurd t
+
+pub do-sound : (g : Given) (e : FopEvent) (o : List ℕ) (v : ℕ) (f : Fop) → T (rowOk g e) → T (sound (modeOf (f .state)))
+    → T (sound (modeOf ((fopDo e o v f) .fop .state)))
+unfolding fopDo performCell
+do-sound g e o v f t h = go (cell78 (table78 e) (f .state)) (at-cell (cellOk g) (table78 e) (f .state) t h)
+  where
+    go : (c : Cell) → T (cellOk g (f .state) c) → T (sound (modeOf ((performCell c (begin (some e) o v f)) .fop .state)))
+    go NotApplicable t = h
+    go (ifNotSuspended xs ys s) t = absurd t
+    go (cell xs s) t = match-sound (afterAll g xs (modeOf (f .state))) (modeOf s) t
+
+-- a test of all the lines is one of the line that holds
+abbrev pub allLines : (FopEvent → Bool) → List Line → Bool
+allLines t [] = true
+allLines t (when c x ∷ more) = t x && allLines t more
+
+pub first-all : (t : FopEvent → Bool) (l : List Line) (e : FopEvent) → T (allLines t l && t e) → T (t (first l e))
+first-all t [] e h = h
+first-all t (when c x ∷ more) e h = go c (first-all t more e (r (t x) (allLines t more) (t e) h))
+  where
+    r : (a b d : Bool) → T ((a && b) && d) → T (b && d)
+    r true b d h = h
+    r false b d h = absurd h
+
+    go : (c : Bool) → T (t (first more e)) → T (t (pick c x (first more e)))
+    go true k = and-l (t x) _ (and-l (t x && allLines t more) (t e) h)
+    go false k = k
+
+pub word-ok : (s : Seen) → T (rowOk word (wordEvent s))
+unfolding table78 wordEvent
+word-ok s = first-all (rowOk word) (wordLines s) FopEvent.E103 tt
+
+pub lower-ok : (l : Lower) → T (rowOk nothing (lowerEvent l))
+unfolding table78
+lower-ok Lower.adAccept = tt
+lower-ok Lower.adReject = tt
+lower-ok Lower.bcAccept = tt
+lower-ok Lower.bcReject = tt
+lower-ok Lower.bdAccept = tt
+lower-ok Lower.bdReject = tt
+
+-- the timer expires, at Timeout_Type 0
+pub timer-ok : (c d : Bool) → d ≡ true → T (rowOk nothing (first (expiryLines c d) FopEvent.E18))
+unfolding table78
+timer-ok true true e = tt
+timer-ok false true e = tt
+timer-ok c false e = absurd (false≢true e)
+
+pub ad-ok : (c : Bool) → T (rowOk unit (first (when c FopEvent.E19 ∷ []) FopEvent.E20))
+unfolding table78
+ad-ok c = first-all (rowOk unit) (when c FopEvent.E19 ∷ []) FopEvent.E20 tt
+
+pub bd-ok : (c : Bool) → T (rowOk unit (first (when c FopEvent.E21 ∷ []) FopEvent.E22))
+unfolding table78
+bd-ok c = first-all (rowOk unit) (when c FopEvent.E21 ∷ []) FopEvent.E22 tt
+
+pub terminate-ok : T (rowOk nothing FopEvent.E29)
+unfolding table78
+terminate-ok = tt

@@ -1,0 +1,208 @@
+-- Every row of table 7-8 that the session can meet keeps the sender's invariant, action by action.
+use mathlib.Core.Path.{_≡_, refl, ap, _∙_}
+use mathlib.Core.Bool.{false}
+use mathlib.Core.List.{List, [], _∷_, _++_, append-assoc, append-nil}
+use mathlib.Core.Option.{Option, none, some}
+use Prim.Native.Nat.{ℕ, _+_, _-_, _<_}
+use native.Mathlib.Omega.{arith}
+use lib.Dec.{ltb, T}
+use lib.ListN.{length, take, drop}
+use borrow.Author.Tests.{ltb-true}
+use Rattle.base.specs.Modulo.{advanced, offset}
+use Rattle.fop.specs.Units.{Fdu, Frame, AD, BD}
+use Rattle.fop.specs.Table.{Ignore, SetSuspendState, Suspend, Resume, Action, Cell, cell, ifNotSuspended, NotApplicable, FopEvent, table78, cell78, Accept, Reject, Confirm}
+use Rattle.fop.specs.Table.{RejectAd, AcceptBd, RejectBd, AddToWaitQueue, LookForFdu, LookForDirective, RemoveAcknowledgedFrames, InitiateAdRetransmission}
+use Rattle.fop.specs.Table.{InitiateBcRetransmission, ReleaseBcFrame, CancelTimer, StartTimer, Alert, Initialise, TransmitUnlock, TransmitSetVr, TransmitBd}
+use Rattle.fop.specs.Table.{SetVs, SetNnr, SetK, SetT1Initial, SetTransmissionLimit, SetTimeoutType, AdOutReady, BcOutReady, BdOutReady}
+use Rattle.fop.specs.Variables.{Fop, Work, BcEntry, Preset}
+use Rattle.fop.specs.Machine.{fdus, firstMarked, acknowledged, unacknowledged, perform, performAll}
+use Rattle.fop.specs.Variables.{begin}
+use Rattle.fop.specs.Machine.{performCell, transmitAd, sendWaiting, sendNext, lookForFdu, purge, removeAcknowledged, denyBc, rejectWaiting, fopDo}
+use Rattle.session.proofs.Core.{addAll}
+use Rattle.session.proofs.Lists.{addAll-append}
+use Rattle.session.proofs.Values.{Mode, live, dead, bad, Given, word, unit, nothing, WI, resent, sent-new, sent-bd, confirmed, queue-length, queue-at}
+use Rattle.session.proofs.Values.{run-places}
+use Rattle.session.proofs.Queue.{fdus-mark, fdus-unmark, fdus-append, found, ack, pickC}
+use Rattle.session.proofs.Rows.{after, afterAll, modeOf, matched, sound, at-cell, cellOk, rowOk}
+
+module _ (n : ℕ) (P : Preset) (C : ℕ) (gone : List (Option ℕ)) (acc sent0 : List Fdu) (fr0 : List Frame) (given : Given) (a : ℕ) where
+  abbrev pub WInv : Mode → Work → Type 0
+  WInv m w =
+      WI n P C gone acc given a m (addAll n sent0 (w .frames)) (fr0 ++ w .frames) (w .confirmed) (w .denied) (fdus (w .fop .sentQueue)) (w .fop .vs)
+      (w .fop .nnr)
+      (w .fop .preset) (w .value) (w .fop .waitQueue) (w .octets)
+
+  waiting-keeps : (o : Option (List ℕ)) (w : Work) → w .fop .waitQueue ≡ o → offset (w .fop .vs) (w .fop .nnr) < w .fop .preset .k → WInv live w
+      → WInv live (sendWaiting o w)
+  unfolding sendWaiting transmitAd
+  waiting-keeps none w e r h = h
+  waiting-keeps (some o) w e r h =
+      let u : Fdu = record { ns = w .fop .vs; octets = o } in
+      rw (
+        addAll-append n sent0 (w .frames) (AD u ∷ []),
+        ← append-assoc fr0 (w .frames) (AD u ∷ []),
+        fdus-append (w .fop .sentQueue) (record { fdu = u; marked = false } ∷ []),
+      )
+      (sent-new n P C gone acc given a _ _ _ _ _ _ _ _ (w .value) (w .fop .waitQueue) (w .octets) h r u refl (rw e at (h .5)))
+
+  next-keeps : (o : Option Fdu) (w : Work) → firstMarked (w .fop .sentQueue) ≡ o → WInv live w → WInv live (sendNext o w)
+  unfolding sendNext
+  next-keeps none w e h =
+      pickC (WInv live) (ltb (offset (w .fop .vs) (w .fop .nnr)) (w .fop .preset .k))
+      (λ t. waiting-keeps (w .fop .waitQueue) w refl (ltb-true _ _ t) h) (λ t. h)
+  next-keeps (some u) w e h =
+      let i = found (w .fop .sentQueue) u e in
+      rw (addAll-append n sent0 (w .frames) (AD u ∷ []), ← append-assoc fr0 (w .frames) (AD u ∷ []), fdus-unmark (w .fop .sentQueue))
+      (resent n P C gone acc given a _ _ _ _ _ _ _ _ (w .value) (w .fop .waitQueue) (w .octets) h u (i .0) (i .1) (i .2))
+
+  look-keeps : (w : Work) → WInv live w → WInv live (lookForFdu w)
+  unfolding lookForFdu
+  look-keeps w h = pickC (WInv live) (w .fop .out .ad) (λ t. next-keeps (firstMarked (w .fop .sentQueue)) w refl h) (λ t. h)
+
+  reject-keeps : (o : Option (List ℕ)) (m : Mode) (w : Work) → WInv m w → WInv m (rejectWaiting o w)
+  unfolding rejectWaiting
+  reject-keeps none m w h = h
+  reject-keeps (some o) m w h = h
+
+  deny-keeps : (o : Option BcEntry) (m : Mode) (w : Work) → WInv m w → WInv m (denyBc o w)
+  unfolding denyBc
+  deny-keeps none m w h = h
+  deny-keeps (some o) m w h = h
+
+  purge-live : (w : Work) → WInv live w → WInv dead (purge w)
+  unfolding purge
+  purge-live w h =
+      let q : List Fdu = fdus (w .fop .sentQueue) in
+      let c : w .confirmed ++ (fdus (w .fop .sentQueue) ++ []) ≡ drop C (addAll n sent0 (w .frames)) = rw (append-nil (fdus (w .fop .sentQueue))) (h .1 .cut) in
+      reject-keeps (w .fop .waitQueue) dead _ (deny-keeps (w .fop .bcFrame) dead _ (
+        h .0,
+        record {
+          after = fdus (w .fop .sentQueue);
+          cut = h .1 .cut;
+          empty = refl;
+          denied = rw (h .1 .undenied, h .1 .fresh) (run-places n C _ (w .confirmed) (fdus (w .fop .sentQueue)) [] (h .0 .num) c (omega arith));
+        },
+        h .2,
+        h .3,
+        h .4,
+        tt,
+      ))
+
+  purge-dead : (w : Work) → WInv dead w → WInv dead (purge w)
+  unfolding purge
+  purge-dead w h =
+      reject-keeps (w .fop .waitQueue) dead _ (deny-keeps (w .fop .bcFrame) dead _ (
+        h .0,
+        record { after = h .1 .after; cut = h .1 .cut; empty = refl; denied = rw (h .1 .empty, append-nil (w .denied)) (h .1 .denied) },
+        h .2,
+        h .3,
+        h .4,
+        tt,
+      ))
+
+module _ (n : ℕ) (P : Preset) (C : ℕ) (gone : List (Option ℕ)) (acc sent0 : List Fdu) (fr0 : List Frame) where
+  -- what is acknowledged, of a sender in service
+  pub acks : (a : ℕ) (w : Work) → WInv n P C gone acc sent0 fr0 word a live w
+      → (acknowledged (w .fop .nnr) (w .value) (w .fop .sentQueue) ≡ take (offset (w .value) (w .fop .nnr)) (fdus (w .fop .sentQueue)))
+      × (fdus (unacknowledged (w .fop .nnr) (w .value) (w .fop .sentQueue)) ≡ drop (offset (w .value) (w .fop .nnr)) (fdus (w .fop .sentQueue)))
+  acks a w h =
+      let s : List Fdu = addAll n sent0 (w .frames) in
+      let ln = queue-length C (addAll n sent0 (w .frames)) (w .confirmed) (fdus (w .fop .sentQueue)) (h .1 .cut) in
+      let z : offset (w .value) (w .fop .nnr) - 0 ≡ offset (w .value) (w .fop .nnr) = omega arith in
+      rw z at (ack n (C + length (w .confirmed)) (w .fop .nnr) (w .value) (h .1 .isNn) (w .fop .sentQueue) 0
+      (λ i l. ap (λ (x : Fdu). x .ns) (queue-at C (addAll n sent0 (w .frames)) (w .confirmed) (fdus (w .fop .sentQueue)) (h .1 .cut) i)
+      ∙ h .0 .num .at (C + (length (w .confirmed) + i)) (omega arith) ∙ ap (λ (x : ℕ). advanced n x) (omega arith))
+      (omega arith))
+
+  remove-keeps : (given : Given) (a : ℕ) (m : Mode) (w : Work) → WInv n P C gone acc sent0 fr0 given a m w
+      → WInv n P C gone acc sent0 fr0 given a (after given RemoveAcknowledgedFrames m) (removeAcknowledged w)
+  unfolding removeAcknowledged
+  remove-keeps word a live w h =
+      let k = acks a w h in
+      rw (k .0, k .1) (confirmed n P C gone acc word a _ _ _ _ _ _ _ _ (w .value) (w .fop .waitQueue) (w .octets) h)
+  remove-keeps word a dead w h = tt
+  remove-keeps word a bad w h = tt
+  remove-keeps unit a m w h = tt
+  remove-keeps nothing a m w h = tt
+
+  wait-keeps : (given : Given) (a : ℕ) (m : Mode) (w : Work) → WInv n P C gone acc sent0 fr0 given a m w
+      → WInv n P C gone acc sent0 fr0 given a (after given AddToWaitQueue m) (perform AddToWaitQueue w)
+  unfolding perform
+  wait-keeps word a m w h = tt
+  wait-keeps nothing a m w h = tt
+  wait-keeps unit a live w h = (h .0, h .1, h .2, h .3, h .4, h .3)
+  wait-keeps unit a dead w h = (h .0, h .1, h .2, h .3, h .4, h .3)
+  wait-keeps unit a bad w h = tt
+
+  bd-keeps : (given : Given) (a : ℕ) (m : Mode) (w : Work) → WInv n P C gone acc sent0 fr0 given a m w
+      → WInv n P C gone acc sent0 fr0 given a (after given TransmitBd m) (perform TransmitBd w)
+  unfolding perform
+  bd-keeps word a m w h = tt
+  bd-keeps nothing a m w h = tt
+  bd-keeps unit a m w h =
+      rw (addAll-append n sent0 (w .frames) (BD (w .octets) ∷ []), ← append-assoc fr0 (w .frames) (BD (w .octets) ∷ []))
+      (sent-bd n P C gone acc a m _ _ _ _ _ _ _ _ (w .value) (w .fop .waitQueue) (w .octets) h)
+
+module _ (n : ℕ) (P : Preset) (C : ℕ) (gone : List (Option ℕ)) (acc sent0 : List Fdu) (fr0 : List Frame) (given : Given) (a : ℕ) where
+  abbrev I : Mode → Work → Type 0
+  I m w = WInv n P C gone acc sent0 fr0 given a m w
+
+  pub keeps : (x : Action) (m : Mode) (w : Work) → I m w → I (after given x m) (perform x w)
+  unfolding perform
+  keeps Accept m w h = h
+  keeps Reject m w h = h
+  keeps Confirm m w h = h
+  keeps RejectAd m w h = h
+  keeps AcceptBd m w h = h
+  keeps RejectBd m w h = h
+  keeps Ignore m w h = h
+  keeps AddToWaitQueue m w h = wait-keeps n P C gone acc sent0 fr0 given a m w h
+  keeps LookForFdu live w h = look-keeps n P C gone acc sent0 fr0 given a w h
+  keeps LookForFdu dead w h = tt
+  keeps LookForFdu bad w h = tt
+  keeps LookForDirective m w h = tt
+  keeps RemoveAcknowledgedFrames m w h = remove-keeps n P C gone acc sent0 fr0 given a m w h
+  keeps InitiateAdRetransmission m w h = rw (fdus-mark (w .fop .sentQueue)) h
+  keeps InitiateBcRetransmission m w h = h
+  keeps ReleaseBcFrame m w h = h
+  keeps CancelTimer m w h = h
+  keeps StartTimer m w h = h
+  keeps (Alert r) live w h = purge-live n P C gone acc sent0 fr0 given a w h
+  keeps (Alert r) dead w h = purge-dead n P C gone acc sent0 fr0 given a w h
+  keeps (Alert r) bad w h = tt
+  keeps Initialise m w h = tt
+  keeps TransmitUnlock m w h = tt
+  keeps TransmitSetVr m w h = tt
+  keeps TransmitBd m w h = bd-keeps n P C gone acc sent0 fr0 given a m w h
+  keeps SetVs m w h = tt
+  keeps SetNnr m w h = tt
+  keeps SetK m w h = tt
+  keeps SetT1Initial m w h = tt
+  keeps SetTransmissionLimit m w h = tt
+  keeps SetTimeoutType m w h = tt
+  keeps (SetSuspendState s) m w h = h
+  keeps Suspend m w h = h
+  keeps Resume m w h = h
+  keeps AdOutReady m w h = h
+  keeps BcOutReady m w h = h
+  keeps BdOutReady m w h = h
+
+  keeps-all : (xs : List Action) (m : Mode) (w : Work) → I m w → I (afterAll given xs m) (performAll xs w)
+  unfolding performAll
+  keeps-all [] m w h = h
+  keeps-all (x ∷ xs) m w h = keeps-all xs (after given x m) (perform x w) (keeps x m w h)
+
+  cell-keeps : (c : Cell) (w : Work) → T (cellOk given (w .fop .state) c) → I (modeOf (w .fop .state)) w
+      → I (modeOf ((performCell c w) .fop .state)) (performCell c w)
+  unfolding performCell
+  cell-keeps NotApplicable w t h = h
+  cell-keeps (ifNotSuspended xs ys s) w t h = absurd t
+  cell-keeps (cell xs s) w t h =
+      rw (← matched (afterAll given xs (modeOf (w .fop .state))) (modeOf s) t) (keeps-all xs (modeOf (w .fop .state)) w h)
+
+  pub do-keeps : (e : FopEvent) (o : List ℕ) (v : ℕ) (f : Fop) → T (rowOk given e) → T (sound (modeOf (f .state)))
+      → I (modeOf (f .state)) (begin (some e) o v f)
+      → I (modeOf ((fopDo e o v f) .fop .state)) (fopDo e o v f)
+  unfolding fopDo
+  do-keeps e o v f t g h =
+      cell-keeps (cell78 (table78 e) (f .state)) (begin (some e) o v f) (at-cell (cellOk given) (table78 e) (f .state) t g) h

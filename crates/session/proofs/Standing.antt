@@ -1,0 +1,111 @@
+-- Of the table machines: what is sent, confirmed, outstanding and denied, and the states.
+use mathlib.Core.Logic.{_⊎_, inl, inr, _≢_}
+use mathlib.Core.Path.{_≡_, refl, sym, ap, _∙_, subst}
+use mathlib.Core.Bool.{true, false, true≢false, false≢true}
+use mathlib.Core.List.{List, [], _++_, map, append-nil}
+use mathlib.Core.Option.{Option, some}
+use Prim.Native.Nat.{ℕ, _+_, _-_, _≤_}
+use native.Mathlib.Nat.{zero-add}
+use native.Mathlib.Omega.{arith}
+use lib.ListN.{length, drop, length-drop}
+use lib.Seq.{take-all, take-length}
+use Rattle.fop.specs.Table.{State, S1, S2, S3, S4, S5, S6}
+use Rattle.fop.specs.Machine.{fdus}
+use Rattle.session.specs.Ends.{Settings}
+use Rattle.session.specs.Claims.{unitsAt, outstanding, remaining, BufferFree}
+use Rattle.session.specs.Stronger.{unitsOf, somes, inService}
+use Rattle.session.proofs.Core.{Session}
+use Rattle.session.proofs.Lists.{iota, iota-append, length-nums, somes-nums, units-iota, unitsOf-nums, left-none}
+use Rattle.session.proofs.Values.{Live, Dead}
+use Rattle.session.proofs.Rows.{modeOf}
+use Rattle.session.proofs.Inv.{Inv, Side, isLocked}
+use Rattle.session.proofs.Buffers.{Full}
+use Rattle.session.proofs.Next.{historyOf, out-is}
+use Rattle.farm.specs.declared.State.{State as FarmState}
+use Rattle.farm.specs.declared.State.the-variants.{Open, Wait, Lockout}
+
+module _ (set : Settings) (κ : Session) (I : Inv set κ) where
+  abbrev C : ℕ
+  C = length (κ .confirmed)
+
+  abbrev S : ℕ
+  S = length (κ .sent)
+
+  low : length (κ .confirmed) ≤ length (κ .sent)
+  low = omega (arith, I .base)
+
+  -- in service, or out of it
+  pub serving : (s : State) → Side (modeOf s) (set .n) (length (κ .confirmed)) (κ .sent) (κ .denied) (fdus (κ .fop .sentQueue)) (κ .fop .vs)
+      (κ .fop .nnr) → inService s ≡ true
+      → Live (set .n) (length (κ .confirmed)) (κ .denied) (κ .sent) [] [] (fdus (κ .fop .sentQueue)) (κ .fop .vs) (κ .fop .nnr)
+  serving S1 h e = h
+  serving S2 h e = h
+  serving S3 h e = h
+  serving S4 h e = absurd h
+  serving S5 h e = absurd h
+  serving S6 h e = absurd (false≢true e)
+
+  pub fell : (s : State) → Side (modeOf s) (set .n) (length (κ .confirmed)) (κ .sent) (κ .denied) (fdus (κ .fop .sentQueue)) (κ .fop .vs) (κ .fop .nnr) → s ≡ S6
+      → κ .denied ≡ iota (length (κ .confirmed)) (length (κ .sent) - length (κ .confirmed))
+  fell s h e =
+      let d : Dead (length (κ .confirmed)) (κ .denied) (κ .sent) [] [] (fdus (κ .fop .sentQueue)) =
+      subst (λ (x : State). Side (modeOf x) (set .n) (length (κ .confirmed)) (κ .sent) (κ .denied) (fdus (κ .fop .sentQueue)) (κ .fop .vs) (κ .fop .nnr)) e h in
+      let a : length (d .after) ≡ length (κ .sent) - length (κ .confirmed) = ap length (d .cut) ∙ length-drop (length (κ .confirmed)) (κ .sent) in
+      let z : length (κ .confirmed) + 0 ≡ length (κ .confirmed) = omega arith in
+      sym (append-nil (κ .denied)) ∙ d .denied ∙ rw (a, z)
+
+  pub all-units : unitsAt (κ .sent) (κ .confirmed ++ iota (length (κ .confirmed)) (length (κ .sent) - length (κ .confirmed))) ≡ map some (κ .sent)
+  all-units =
+      let l = low in
+      let z : length (κ .confirmed) + (length (κ .sent) - length (κ .confirmed)) ≡ length (κ .sent) = omega arith in
+      let e : κ .confirmed ++ iota (length (κ .confirmed)) (length (κ .sent) - length (κ .confirmed)) ≡ iota 0 (length (κ .sent)) =
+      ap (λ (x : List (Option ℕ)). x ++ iota (length (κ .confirmed)) (length (κ .sent) - length (κ .confirmed))) (I .places)
+      ∙ ap (λ (i : ℕ). iota 0 (length (κ .confirmed)) ++ iota i (length (κ .sent) - length (κ .confirmed))) (sym (zero-add (length (κ .confirmed))))
+      ∙ iota-append 0 (length (κ .confirmed)) (length (κ .sent) - length (κ .confirmed)) ∙ ap (iota 0) z in
+      ap (unitsAt (κ .sent)) e ∙ units-iota (κ .sent) 0 (length (κ .sent)) (omega arith) ∙ ap (map some) (take-length (κ .sent))
+
+  pub at-most : (s : State) → κ .fop .state ≡ s → length (outstanding (historyOf κ)) ≤ set .k
+  unfolding outstanding
+  at-most S1 e = let l = serving (κ .fop .state) (I .side) (rw e) in omega (arith, ap length (out-is set κ I (l .fresh)), length-nums C (S - C), I .base)
+  at-most S2 e = let l = serving (κ .fop .state) (I .side) (rw e) in omega (arith, ap length (out-is set κ I (l .fresh)), length-nums C (S - C), I .base)
+  at-most S3 e = let l = serving (κ .fop .state) (I .side) (rw e) in omega (arith, ap length (out-is set κ I (l .fresh)), length-nums C (S - C), I .base)
+  at-most S4 e = absurd (subst (λ (x : State). Side (modeOf x) (set .n) C (κ .sent) (κ .denied) (fdus (κ .fop .sentQueue)) (κ .fop .vs) (κ .fop .nnr))
+      e (I .side))
+  at-most S5 e = absurd (subst (λ (x : State). Side (modeOf x) (set .n) C (κ .sent) (κ .denied) (fdus (κ .fop .sentQueue)) (κ .fop .vs) (κ .fop .nnr))
+      e (I .side))
+  at-most S6 e =
+      let d = fell (κ .fop .state) (I .side) e in
+      let l = low in
+      let z : remaining (κ .confirmed) (κ .denied) 0 (length (κ .sent)) ≡ [] =
+      ap (λ (x : List (Option ℕ)). remaining x (κ .denied) 0 (length (κ .sent))) (I .places)
+      ∙ ap (λ (x : List (Option ℕ)). remaining (iota 0 C) x 0 (length (κ .sent))) d
+      ∙ left-none (length (κ .confirmed)) (length (κ .sent) - length (κ .confirmed)) 0 (length (κ .sent)) (omega arith) in
+      omega (arith, ap length z)
+
+  pub standing : inService (κ .fop .state) ≡ true → unitsAt (κ .sent) (κ .confirmed ++ somes (outstanding (historyOf κ))) ≡ map some (κ .sent)
+  standing e =
+      let l = serving (κ .fop .state) (I .side) e in
+      ap (λ (x : List (Option ℕ)). unitsAt (κ .sent) (κ .confirmed ++ x)) (ap somes (out-is set κ I (l .fresh)) ∙ somes-nums C (S - C)) ∙ all-units
+
+  pub queued : inService (κ .fop .state) ≡ true → fdus (κ .fop .sentQueue) ≡ unitsOf (κ .sent) (outstanding (historyOf κ))
+  queued e =
+      let l = serving (κ .fop .state) (I .side) e in
+      let lo = low in
+      l .cut ∙ sym (take-all (length (κ .sent) - length (κ .confirmed)) (drop (length (κ .confirmed)) (κ .sent))
+      (omega (arith, length-drop (length (κ .confirmed)) (κ .sent))))
+      ∙ sym (unitsOf-nums (κ .sent) (length (κ .confirmed)) (length (κ .sent) - length (κ .confirmed)) (omega arith))
+      ∙ ap (unitsOf (κ .sent)) (sym (out-is set κ I (l .fresh)))
+
+  pub state-is : (s : State) → Side (modeOf s) (set .n) (length (κ .confirmed)) (κ .sent) (κ .denied) (fdus (κ .fop .sentQueue)) (κ .fop .vs) (κ .fop .nnr)
+      → (inService s ≡ true) ⊎ (s ≡ S6)
+  state-is S1 h = inl refl
+  state-is S2 h = inl refl
+  state-is S3 h = inl refl
+  state-is S4 h = absurd h
+  state-is S5 h = absurd h
+  state-is S6 h = inr refl
+
+  pub opens : (s : FarmState) → isLocked s ≡ false → Full s (length (κ .accepted)) (set .buffers + κ .released) → BufferFree set (historyOf κ) → s ≡ Open
+  opens Open l f b = refl
+  opens Wait l f b = absurd (omega (arith, f, b))
+  opens Lockout l f b = absurd (true≢false l)

@@ -1,0 +1,189 @@
+-- Demand 3: after every list of events, and at whatever event comes next, of all ends that do as the tables say (`demand3`), and so of the
+-- table machines themselves (`demand3-tables`).
+--
+-- How it is proved. Core is the tables' session with frames and words before they are octets. Its invariant (Inv) is kept by every event,
+-- whatever is told of the buffers (Receiver, `stepWith-keeps`; the sender's rows in Rows and Sender); that a receiver which waits has no
+-- buffer free is a fact apart (Buffers). What holds at the next event is in Next, Clear and Arrive. Link says that a session of tied ends,
+-- octets and all, is a session of Core, so the ends' run and the tables' run share one.
+use mathlib.Core.Logic.{_⊎_, inl, inr, _↔_}
+use mathlib.Core.Path.{_≡_, refl, sym, ap, _∙_, subst}
+use mathlib.Core.Bool.{true, false, true≢false}
+use mathlib.Core.List.{List, [], _∷_, _++_, map, map-append}
+use mathlib.Core.Option.{Option, some}
+use Prim.Native.Nat.{ℕ, _+_, _≤_}
+use native.Mathlib.Omega.{arith}
+use lib.ListN.{length, take, drop, getD, take-append-drop}
+use lib.Seq.{take-take}
+use Rattle.fop.specs.Units.{Fdu, Frame, AD, Word, valid, written, wordOctets, readWord}
+use Rattle.fop.specs.Variables.{Fop}
+use Rattle.fop.specs.Events.{SenderEvent, requestAd, lower, adAccept, wordArrives}
+use Rattle.fop.specs.Answers.{needed}
+use Rattle.farm.specs.declared.Receiver.{Receiver}
+use Rattle.farm.specs.declared.State.the-variants.{Open}
+use Rattle.session.specs.Frames.{read}
+use Rattle.session.specs.Ends.{Settings, Within, Ends, Tied, tables}
+use Rattle.session.specs.Session.{Linked, History, Event, adRequest, ticks, lowerSays, wordIn, frameIn, begins, run, nobody}
+use Rattle.session.specs.Claims.{unitsAt, member, Sends, Resends, Marked, Claims, serves, expected, BufferFree, nextUnit, nextNumber}
+use Rattle.fop.specs.Events as fop
+use Rattle.session.specs.Session as ses
+use Rattle.session.proofs.Core as core
+use Rattle.session.proofs.Core.{Session}
+use Rattle.session.proofs.Lists.{units-iota}
+use Rattle.session.proofs.Chan.{Wds}
+use Rattle.session.proofs.Octets.{word-back}
+use Rattle.session.proofs.Inv.{Inv, isLocked}
+use Rattle.session.proofs.Receiver.{step-keeps, begun, start-inv}
+use Rattle.session.proofs.Clear.{clears-all, clears-sends}
+use Rattle.session.proofs.Arrive.{accepts}
+use Rattle.session.proofs.Next.{historyOf, Sent, Resent, offers, ready-again, ready-new, expires}
+use Rattle.session.proofs.Link.{Rel, at-start, same-step, tables-tied, reads, fly-reads, Reads}
+
+-- confirmed units are a first part of those accepted, and these of those sent
+pub confirmed-are : (set : Settings) (κ : Session) → Inv set κ → unitsAt (κ .sent) (κ .confirmed) ≡ map some (take (length (κ .confirmed)) (κ .accepted))
+confirmed-are set κ I =
+    let C : ℕ = length (κ .confirmed) in
+    let A : ℕ = length (κ .accepted) in
+    ap (unitsAt (κ .sent)) (I .places) ∙ units-iota (κ .sent) 0 C (omega arith)
+    ∙ ap (map some) (sym (take-take C A (κ .sent) (omega arith)) ∙ ap (take C) (sym (I .base .order)))
+
+-- the oldest frame and the oldest word, as octets and as they are read
+module _ (set : Settings) (vw : Within set) where
+  pub oldest-frame : (l : List Frame) (s : List ℕ) (fs : List (List ℕ)) (y : Frame) → Reads l → s ∷ fs ≡ map (written (set .own)) l
+      → read (set .own) s ≡ y → (more : List Frame) × (l ≡ y ∷ more)
+  oldest-frame [] s fs u r e q = let z : _≡_ {A = ℕ} 0 1 = cc in absurd (omega arith)
+  oldest-frame (x ∷ xs) s fs u r e q =
+      let a : s ≡ written (set .own) x = cc in
+      let b : x ≡ u = sym (reads set vw x (r .0)) ∙ ap (read (set .own)) (sym a) ∙ q in
+      (xs, ap (λ (y : Frame). y ∷ xs) b)
+
+  pub oldest-word : (lo hi : ℕ) (l : List Word) (s : List ℕ) (ws : List (List ℕ)) → Wds (set .n) lo hi l → s ∷ ws ≡ map (wordOctets (set .own)) l
+      → (w : Word) × (more : List Word) × (l ≡ w ∷ more) × (s ≡ wordOctets (set .own) w) × (readWord (set .own) s ≡ valid w)
+  oldest-word lo hi [] s ws h e = let z : _≡_ {A = ℕ} 0 1 = cc in absurd (omega arith)
+  oldest-word lo hi (w ∷ more) s ws h e =
+      let a : s ≡ wordOctets (set .own) w = cc in
+      (w, more, refl, a, ap (readWord (set .own)) a ∙ word-back (set .own) (vw .spacecraft) (vw .channel) w (h .3) (omega (arith, h .1)))
+
+module _ (set : Settings) (vw : Within set) (m : Ends) (t : Tied set m) (σ : Linked m) (γ : Linked (tables set)) (κ : Session)
+    (R : Rel set vw m t σ κ) (G : Rel set vw (tables set) (tables-tied set) γ κ) (I : Inv set κ) where
+  next : (e : Event) → Rel set vw m t (ses.step set m e σ) (core.step set e κ)
+  next e = same-step set vw m t e σ κ R I
+
+  down : (e : Event) (u : Fdu) → (core.step set e κ) .frames ≡ κ .frames ++ (AD u ∷ [])
+      → (ses.step set m e σ) .frames ≡ σ .frames ++ (written (set .own) (AD u) ∷ [])
+  down e u d =
+      next e .frames ∙ ap (map (written (set .own))) d ∙ map-append (written (set .own)) (κ .frames) (AD u ∷ [])
+      ∙ ap (λ (l : List (List ℕ)). l ++ (written (set .own) (AD u) ∷ [])) (sym (R .frames))
+
+  sends : (e : Event) (u : Fdu) → Sent u κ (core.step set e κ) → Sends set u σ (ses.step set m e σ)
+  sends e u s =
+      record {
+        down = down e u (s .down);
+        counted = ap (λ (h : History). h .sent) (next e .history) ∙ s .counted ∙ ap (λ (h : History). h .sent ++ (u ∷ [])) (sym (R .history));
+      }
+
+  resends : (e : Event) (u : Fdu) → Resent u κ (core.step set e κ) → Resends set u σ (ses.step set m e σ)
+  resends e u s =
+      record {
+        down = down e u (s .down);
+        counted = ap (λ (h : History). h .sent) (next e .history) ∙ s .counted ∙ ap (λ (h : History). h .sent) (sym (R .history));
+        place = s .place;
+        out = rw (R .history) (s .out);
+        is = rw (R .history) (s .is);
+      }
+
+  -- the histories are the same
+  by : (P : History → Type 0) → P (historyOf κ) → P (σ .history)
+  by P h = subst P (sym (R .history)) h
+
+  lent-is : (e : SenderEvent) (lent : ℕ) → needed (set .own) e (γ .sender) ≤ lent → needed (set .own) e (κ .fop) ≤ lent
+  lent-is e lent h = subst (λ (f : Fop). needed (set .own) e f ≤ lent) (G .fop) h
+
+  pub either : (e : Event) (i : ℕ) → Resent (getD (κ .sent) i nobody) κ (core.step set e κ) ⊎ Marked (getD (κ .sent) i nobody) ((core.step set e κ) .fop)
+      → Resends set (getD (κ .sent) i nobody) σ (ses.step set m e σ) ⊎ Marked (getD (κ .sent) i nobody) ((ses.step set (tables set) e γ) .sender)
+  either e i (inl s) = inl (resends e _ s)
+  either e i (inr k) = inr (subst (Marked (getD (κ .sent) i nobody)) (sym (same-step set vw (tables set) (tables-tied set) e γ κ G I .fop)) k)
+
+  pub claims : Claims set m σ γ
+  claims =
+      record {
+        inOrder = rw (R .history) (
+          drop (length (κ .accepted)) (κ .sent),
+          ap (λ (x : List Fdu). x ++ drop (length (κ .accepted)) (κ .sent)) (I .base .order)
+              ∙ take-append-drop (length (κ .accepted)) (κ .sent),
+        );
+        truly = rw (R .history) (
+          map some (drop (length (κ .confirmed)) (κ .accepted)),
+          ap (λ (x : List (Option Fdu)). x ++ map some (drop (length (κ .confirmed)) (κ .accepted))) (confirmed-are set κ I)
+              ∙ sym (map-append some (take (length (κ .confirmed)) (κ .accepted)) (drop (length (κ .confirmed)) (κ .accepted)))
+              ∙ ap (map some) (take-append-drop (length (κ .confirmed)) (κ .accepted)),
+        );
+        never = (
+          ap (λ (h : History). h .lockedOut) (R .history),
+          ap (λ (h : History). h .lockedOut) (G .history),
+          ap (λ (f : Receiver). f .variables .lockout) (G .farm) ∙ I .receiver .noLock,
+          λ e. true≢false (ap isLocked (sym e ∙ ap (λ (f : Receiver). f .variables .state) (G .farm)) ∙ I .receiver .unlocked),
+        );
+        accepts = λ s fs u e q.
+            let l = oldest-frame set vw (κ .frames) s fs (AD u) (fly-reads (set .n) (set .k) (κ .sent) (I .base .num) _ _ (κ .frames) (I .base .fly))
+            (sym e ∙ R .frames) q in
+            let a = accepts set vw κ I u (l .0) (l .1) in
+            let n = ap (λ (h : History). h .accepted) (next frameIn .history) in
+            let g = ap (λ (f : Receiver). f .variables .state) (G .farm) in
+            by (λ h. ((ses.step set m frameIn σ) .history .accepted ≡ h .accepted ++ (u ∷ [])) ↔
+            ((γ .receiver .variables .state ≡ Open) × (u .ns ≡ expected set h) × BufferFree set h))
+            (λ x. let r = a .0 (sym n ∙ x) in (g ∙ r .0, r .1, r .2), λ x. n ∙ a .1 (sym g ∙ x .0, x .1, x .2));
+        offered = λ o lent g r a b c d k.
+            by (λ h. Sends set (nextUnit set h o) σ (ses.step set m (adRequest o lent) σ))
+            (sends (adRequest o lent) _ (offers set κ I o lent g (lent-is (requestAd o) lent r) (rw (G .fop) at a) (rw (G .fop) at b)
+            (rw (G .fop) at c) (rw (G .fop) at d) (rw (R .history) at k)));
+        readyAgain = λ u lent r a b.
+            resends (lowerSays adAccept lent) u (ready-again set κ I u lent (lent-is (lower adAccept) lent r) (rw (G .fop) at a) (rw (G .fop) at b));
+        readyNew = λ o lent r a b k w.
+            by (λ h. Sends set (nextUnit set h o) σ (ses.step set m (lowerSays adAccept lent) σ))
+            (sends (lowerSays adAccept lent) _
+            (ready-new set κ I o lent (lent-is (lower adAccept) lent r) (rw (G .fop) at a) (rw (G .fop) at b) (rw (R .history) at k) (rw (G .fop) at w)));
+        expires = λ i lent r a b c o.
+            by (λ h. Resends set (getD (h .sent) i nobody) σ (ses.step set m (ticks lent) σ)
+            ⊎ Marked (getD (h .sent) i nobody) ((ses.step set (tables set) (ticks lent) γ) .sender))
+            (either (ticks lent) i (expires set κ I i lent (lent-is fop.tick lent r) (rw (G .fop) at a) (rw (G .fop) at b) (rw (G .fop) at c)
+            (rw (R .history) at o)));
+        clears = λ s ws w lent e q r a b c d f.
+            let l = oldest-word set vw _ _ (κ .words) s ws (I .words) (sym e ∙ R .words) in
+            let same : l .0 ≡ w = cc (l .4, q) in
+            let k : κ .words ≡ w ∷ l .1 = l .2 ∙ ap (λ (x : Word). x ∷ l .1) same in
+            let so : s ≡ wordOctets (set .own) w = l .3 ∙ ap (wordOctets (set .own)) same in
+            let r' : needed (set .own) (wordArrives (wordOctets (set .own) w)) (κ .fop) ≤ lent =
+            subst (λ (x : List ℕ). needed (set .own) (wordArrives x) (κ .fop) ≤ lent) so (lent-is (wordArrives s) lent r) in
+            let a' : serves (κ .fop .state) ≡ true = rw (G .fop) at a in
+            let f' : w .nr ≡ nextNumber set (historyOf κ) = rw (R .history) at f in (
+              λ i o. ap (λ (h : History). member i (h .confirmed)) (next (wordIn lent) .history)
+                  ∙ clears-all set vw κ I a' w (l .1) lent k r' b c d f' i (rw (R .history) at o),
+              λ o p x y. by (λ h. Sends set (nextUnit set h o) σ (ses.step set m (wordIn lent) σ))
+                  (sends (wordIn lent) _
+                  (clears-sends set vw κ I a' w (l .1) lent k r' b c d f' o (rw (R .history) at p) (rw (G .fop) at x) (rw (G .fop) at y))),
+            );
+      }
+
+-- the two sessions after a list of events, both seen as one
+pub together : (set : Settings) (vw : Within set) (m : Ends) (t : Tied set m) (es : List Event) (σ : Linked m) (γ : Linked (tables set)) (κ : Session)
+    → Rel set vw m t σ κ → Rel set vw (tables set) (tables-tied set) γ κ → Inv set κ
+    → (κ' : Session) × Rel set vw m t (run set m es σ) κ' × Rel set vw (tables set) (tables-tied set) (run set (tables set) es γ) κ' × Inv set κ'
+unfolding run
+together set vw m t [] σ γ κ R G I = (κ, R, G, I)
+together set vw m t (e ∷ es) σ γ κ R G I =
+    together set vw m t es (ses.step set m e σ) (ses.step set (tables set) e γ) (core.step set e κ) (same-step set vw m t e σ κ R I)
+    (same-step set vw (tables set) (tables-tied set) e γ κ G I) (step-keeps set vw e κ I)
+
+-- Demand 3, whole: for all settings within their limits and all ends that do as the tables say, after every list of events and at whatever
+-- event comes next.
+pub demand3 : (set : Settings) → Within set → (m : Ends) → Tied set m → (es : List Event)
+    → Claims set m (run set m es (begins m)) (run set (tables set) es (begins (tables set)))
+demand3 set vw m t es =
+    let k = together set vw m t es (begins m) (begins (tables set)) (begun set) (at-start set vw m t) (at-start set vw (tables set) (tables-tied set))
+    (start-inv set vw) in
+    claims set vw m t (run set m es (begins m)) (run set (tables set) es (begins (tables set))) (k .0) (k .1) (k .2) (k .3)
+
+-- and the table machines are such ends
+pub demand3-tables : (set : Settings) → Within set → (es : List Event)
+    → Claims set (tables set) (run set (tables set) es (begins (tables set))) (run set (tables set) es (begins (tables set)))
+demand3-tables set vw es = demand3 set vw (tables set) (tables-tied set) es

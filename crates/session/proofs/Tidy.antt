@@ -1,0 +1,334 @@
+-- Every event keeps the flags' invariant.
+use mathlib.Core.Logic.{_≢_}
+use mathlib.Core.Path.{_≡_, refl, ap, _∙_}
+use mathlib.Core.Bool.{Bool, true, false, not, true≢false, false≢true}
+use mathlib.Core.List.{List, [], _∷_, _++_}
+use mathlib.Core.Option.{none, some}
+use Prim.Native.Nat.{ℕ, _+_, _-_, _*_, _≤_, _<_}
+use native.Mathlib.Omega.{arith}
+use lib.Dec.{leb, ltb, eqb, T, leb→le}
+use lib.ListN.{length, length-append}
+use Rattle.base.specs.Choice.{pick}
+use Rattle.base.specs.Modulo.{advanced}
+use Rattle.fop.specs.Units.{Fdu, Frame, AD, BD, Unlock, SetVR, Refused, Word, wordOctets}
+use Rattle.fop.specs.Table.{State, Cell, cell, NotApplicable, FopEvent, table78, cell78}
+use Rattle.fop.specs.Variables.{Work, begin}
+use Rattle.fop.specs.Machine.{fopDo, performCell, performAll, perform}
+use Rattle.fop.specs.Variables.{setClock}
+use Rattle.fop.specs.Events.{Seen, seen, wordEvent, fopWord, fopTick, fopExpiry, fopAd, fopBd, fopLower, fopDirective, directiveEvent}
+use Rattle.fop.specs.Events.{when, first, Lower, lowerEvent, isEmpty, SenderEvent, requestAd, requestBd, lower, directive, wordArrives, work}
+use Rattle.fop.specs.Answers.{judged}
+use Rattle.session.specs.Ends.{Settings, Within, startSender, startReceiver}
+use Rattle.session.specs.Session.{Event, adRequest, bdRequest, ticks, lowerSays, terminate, wordIn, wordLost, wordMade, frameIn, frameLost, release, places}
+use Rattle.session.specs.Session.{rest, addSent}
+use Rattle.fop.specs.Events as fop
+use Rattle.session.proofs.Core.{Session, addAll, firstOf, answered, sender, goes, channels, wordCome, frameCome, receiver, taken, step, stepWith}
+use Rattle.session.proofs.Core.{releases, frameEvent, isHanded, free, isHeld}
+use Rattle.session.proofs.Chan.{Fly, Wds}
+use Rattle.session.proofs.Values.{Given, word, unit, nothing, Reports}
+use Rattle.session.proofs.Rows.{modeOf, sound, atAll, at-cell, rowOk, first-all, word-ok, timer-ok, ad-ok, bd-ok, lower-ok, terminate-ok}
+use Rattle.session.proofs.Inv.{Inv, alerting, is-sound, isLocked, row-bound, pickS, pickW, withFop, timed, fit, hears, legal-of}
+use Rattle.session.proofs.Receiver.{ad-cases, begun, at}
+use Rattle.session.proofs.Clear.{length-places}
+use Rattle.session.proofs.Keys.{bit, bit-le, rank, rank-le, floor, waits, Keys, keys-le, keys-mono, keys-add, Tidy}
+use Rattle.session.proofs.Every.{implies, implied, everySeen, seen-at}
+use Rattle.fop.specs.Table.{ifNotSuspended}
+use Rattle.fop.specs.Events.{expiryLines}
+use Rattle.farm.specs.Table as t79
+use Rattle.farm.specs.Table.{stepOf}
+use Rattle.farm.specs.Receiver.{unitOf}
+use Rattle.farm.specs.declared.State.{State as FarmState}
+use Rattle.farm.specs.declared.State.the-variants.{Open, Wait, Lockout}
+use Rattle.farm.specs.declared.Event.{Event as FarmEvent}
+use Rattle.farm.specs.declared.Event.the-variants as farm
+use Rattle.farm.specs.declared.Variables.{Variables}
+
+-- the next state is not one of resending
+abbrev forward : State → Cell → Bool
+forward s NotApplicable = false
+forward s (cell xs u) = leb (rank u) 0
+forward s (ifNotSuspended xs ys u) = false
+
+-- the next state is one of resending only if the last was
+abbrev holds : State → Cell → Bool
+holds s NotApplicable = true
+holds s (cell xs u) = leb (rank u) (rank s)
+holds s (ifNotSuspended xs ys u) = false
+
+abbrev rowHolds : FopEvent → Bool
+rowHolds e = atAll holds (table78 e)
+
+forward-next : (c : Cell) (w : Work) (s : State) → T (forward s c) → rank ((performCell c w) .fop .state) ≤ 0
+unfolding performCell
+forward-next NotApplicable w s t = absurd t
+forward-next (ifNotSuspended xs ys u) w s t = absurd t
+forward-next (cell xs u) w s t = leb→le (rank u) 0 t
+
+holds-next : (c : Cell) (w : Work) → T (holds (w .fop .state) c) → rank ((performCell c w) .fop .state) ≤ rank (w .fop .state)
+unfolding performCell
+holds-next NotApplicable w t = omega arith
+holds-next (ifNotSuspended xs ys u) w t = absurd t
+holds-next (cell xs u) w t = leb→le (rank u) (rank (w .fop .state)) t
+
+-- without the retransmit flag a word leads to no state of resending
+abbrev forwardAt : Seen → Bool
+forwardAt x = implies (not (x .retransmit)) (atAll forward (table78 (wordEvent x)))
+
+forward-all : T (everySeen forwardAt)
+unfolding table78 wordEvent
+forward-all = tt
+
+word-forward : (x : Seen) → x .retransmit ≡ false → T (atAll forward (table78 (wordEvent x)))
+word-forward x r = implied (not (x .retransmit)) _ (seen-at forwardAt x forward-all) (rw r)
+
+-- the table's rows that no word brings
+timer-holds : (c d : Bool) → d ≡ true → T (rowHolds (first (expiryLines c d) FopEvent.E18))
+unfolding table78
+timer-holds true true e = tt
+timer-holds false true e = tt
+timer-holds c false e = absurd (false≢true e)
+
+ad-holds : (c : Bool) → T (rowHolds (first (when c FopEvent.E19 ∷ []) FopEvent.E20))
+unfolding table78
+ad-holds c = first-all rowHolds (when c FopEvent.E19 ∷ []) FopEvent.E20 tt
+
+bd-holds : (c : Bool) → T (rowHolds (first (when c FopEvent.E21 ∷ []) FopEvent.E22))
+unfolding table78
+bd-holds c = first-all rowHolds (when c FopEvent.E21 ∷ []) FopEvent.E22 tt
+
+lower-holds : (l : Lower) → T (rowHolds (lowerEvent l))
+unfolding table78
+lower-holds Lower.adAccept = tt
+lower-holds Lower.adReject = tt
+lower-holds Lower.bcAccept = tt
+lower-holds Lower.bcReject = tt
+lower-holds Lower.bdAccept = tt
+lower-holds Lower.bdReject = tt
+
+terminate-holds : T (rowHolds FopEvent.E29)
+unfolding table78
+terminate-holds = tt
+
+-- the sender's answers
+one-grows : (n : ℕ) (s : List Fdu) (f : Frame) → length s ≤ length (addSent n s f)
+one-grows n s (AD u) = go (eqb (u .ns) (advanced n (length s)))
+  where
+    go : (b : Bool) → length s ≤ length (pick b (s ++ (u ∷ [])) s)
+    go true = omega (arith, length-append s (u ∷ []))
+    go false = omega arith
+one-grows n s (BD o) = omega arith
+one-grows n s Unlock = omega arith
+one-grows n s (SetVR v) = omega arith
+one-grows n s (Refused r) = omega arith
+
+sent-grows : (n : ℕ) (s : List Fdu) (fs : List Frame) → length s ≤ length (addAll n s fs)
+sent-grows n s [] = omega arith
+sent-grows n s (f ∷ fs) = omega (arith, one-grows n s f, sent-grows n (addSent n s f) fs)
+
+tidy-answered : (n : ℕ) (σ : Session) (ws : List Word) (w : Work) (low : ℕ) → Tidy n σ
+    → Keys n (length (σ .sent)) low (2 * length (σ .accepted) + bit (σ .farm .retransmit)) ws
+    → floor (w .fop .state) (length (σ .confirmed) + length (w .confirmed)) ≤ low → low ≤ 2 * length (σ .sent)
+    → Tidy n (answered n w (channels (σ .frames) ws σ))
+unfolding answered channels
+tidy-answered n σ ws w low t k a b =
+    let g = sent-grows n (σ .sent) (w .frames) in
+    let c : length (σ .confirmed ++ places (addAll n (σ .sent) (w .frames)) (firstOf (w .confirmed)) (length (w .confirmed)))
+    ≡ length (σ .confirmed) + length (w .confirmed) =
+    length-append (σ .confirmed) _ ∙ ap (λ (x : ℕ). length (σ .confirmed) + x) (length-places _ _ _) in
+    record {
+      keys = keys-mono n _ _ low _ _ _ ws g (omega (arith, a, c)) (omega arith) k;
+      waitFlag = t .waitFlag;
+      waitMissing = t .waitMissing;
+      missing = omega (arith, t .missing, g);
+      below = omega (arith, a, b, c, g);
+    }
+
+-- a row that confirms nothing
+plain-tidy : (set : Settings) (σ : Session) (given : Given) (e : FopEvent) (o : List ℕ) → Inv set σ → Tidy (set .n) σ → T (rowOk given e) → T (rowHolds e)
+    → Reports given (set .n) (length (σ .confirmed)) (length (σ .accepted)) 0 o
+    → Tidy (set .n) (answered (set .n) (fopDo e o 0 (σ .fop)) (channels (σ .frames) (σ .words) σ))
+unfolding fopDo
+plain-tidy set σ given e o I t ok h r =
+    let g : T (sound (modeOf (σ .fop .state))) = is-sound (modeOf (σ .fop .state)) (set .n) _ _ _ _ _ _ (I .side) in
+    let rk : rank ((fopDo e o 0 (σ .fop)) .fop .state) ≤ rank (σ .fop .state) =
+    holds-next (cell78 (table78 e) (σ .fop .state)) (begin (some e) o 0 (σ .fop)) (at-cell holds (table78 e) (σ .fop .state) h g) in
+    let cb = row-bound set σ given (length (σ .confirmed)) e o 0 I ok (omega arith) r in
+    tidy-answered (set .n) σ (σ .words) (fopDo e o 0 (σ .fop)) (floor (σ .fop .state) (length (σ .confirmed))) t (t .keys) (omega (arith, rk, cb)) (t .below)
+
+sender-tidy : (set : Settings) (e : SenderEvent) (lent : ℕ) (σ : Session) → Tidy (set .n) σ
+    → (judged (set .own) e ≡ 0 → Tidy (set .n) (answered (set .n) (work (set .own) e (σ .fop)) σ)) → Tidy (set .n) (sender set e lent σ)
+unfolding sender
+sender-tidy set e lent σ t h =
+    pickS (Tidy (set .n)) (goes (set .own) e lent (σ .fop)) (λ b. h (fit (set .own) e lent (σ .fop) b .0)) (λ b. t)
+
+tick-tidy : (set : Settings) (σ : Session) → Inv set σ → Tidy (set .n) σ → Tidy (set .n) (answered (set .n) (fopTick (σ .fop)) σ)
+unfolding fopTick fopExpiry answered channels
+tick-tidy set σ I t =
+    let τ : Session = withFop (setClock (σ .fop .clock .timer - 1) (σ .fop .clock .transmissionCount) (σ .fop)) σ in
+    let c : Bool = ltb (σ .fop .clock .transmissionCount) (σ .fop .preset .transmissionLimit) in
+    let t' : Tidy (set .n) τ = record { keys = t .keys; waitFlag = t .waitFlag; waitMissing = t .waitMissing; missing = t .missing; below = t .below } in
+    pickW (λ (w : Work). Tidy (set .n) (answered (set .n) w σ)) (eqb (σ .fop .clock .timer) 1) {x = fopExpiry (τ .fop)} {y = begin none [] 0 (τ .fop)}
+    (plain-tidy set τ nothing (first (expiryLines (ltb (σ .fop .clock .transmissionCount) (σ .fop .preset .transmissionLimit))
+    (eqb (σ .fop .preset .timeoutType) 0)) FopEvent.E18) [] (timed set _ _ σ I) t'
+    (timer-ok (ltb (σ .fop .clock .transmissionCount) (σ .fop .preset .transmissionLimit)) (eqb (σ .fop .preset .timeoutType) 0) (alerting set σ I))
+    (timer-holds (ltb (σ .fop .clock .transmissionCount) (σ .fop .preset .transmissionLimit)) (eqb (σ .fop .preset .timeoutType) 0) (alerting set σ I)) tt)
+    (tidy-answered (set .n) τ (σ .words) (begin none [] 0 (τ .fop)) (floor (σ .fop .state) (length (σ .confirmed))) t' (t .keys) (omega arith) (t .below))
+
+words-tidy : (n : ℕ) (σ : Session) (fs : List Frame) (ws : List Word) → Tidy n σ
+    → Keys n (length (σ .sent)) (floor (σ .fop .state) (length (σ .confirmed))) (2 * length (σ .accepted) + bit (σ .farm .retransmit)) ws
+    → Tidy n (channels fs ws σ)
+unfolding channels
+words-tidy n σ fs ws t k =
+    record { keys = k; waitFlag = t .waitFlag; waitMissing = t .waitMissing; missing = t .missing; below = t .below }
+
+word-tidy : (set : Settings) → Within set → (lent : ℕ) (σ : Session) (l : List Word) → Inv set σ → Tidy (set .n) σ
+    → Wds (set .n) (length (σ .confirmed)) (length (σ .accepted)) l
+    → Keys (set .n) (length (σ .sent)) (floor (σ .fop .state) (length (σ .confirmed))) (2 * length (σ .accepted) + bit (σ .farm .retransmit)) l
+    → Tidy (set .n) (wordCome set lent l σ)
+unfolding wordCome fopWord fopDo channels
+word-tidy set vw lent σ [] I t h k = t
+word-tidy set vw lent σ (w ∷ ws) I t h k =
+    let b1 = bit-le (w .retransmit) in
+    let b2 = bit-le (σ .farm .retransmit) in
+    let ca : length (σ .confirmed) ≤ k .0 = omega (arith, k .2, b1) in
+    let al : k .0 ≤ length (σ .accepted) = omega (arith, keys-le (set .n) _ _ _ ws (k .6), b2) in
+    let g : T (sound (modeOf (σ .fop .state))) = is-sound (modeOf (σ .fop .state)) (set .n) _ _ _ _ _ _ (I .side) in
+    let cb = row-bound set σ word (k .0) (wordEvent (seen w (σ .fop))) [] (w .nr) I (word-ok (seen w (σ .fop))) ca (k .1, al) in
+    sender-tidy set (wordArrives (wordOctets (set .own) w)) lent (channels (σ .frames) ws σ)
+    (words-tidy (set .n) σ (σ .frames) ws t (keys-mono (set .n) _ _ _ _ _ _ ws (omega arith) (k .2) (omega arith) (k .6)))
+    (λ j. rw (hears set vw w (σ .fop) (h .3) (omega (arith, h .1)))
+    (tidy-answered (set .n) σ ws (fopWord w (σ .fop)) (2 * k .0 + bit (w .retransmit)) t (k .6) (low g (w .retransmit) refl cb) (omega (arith, k .5))))
+  where
+    low : T (sound (modeOf (σ .fop .state))) → (b : Bool) → w .retransmit ≡ b → length (σ .confirmed) + length ((fopWord w (σ .fop)) .confirmed) ≤ k .0
+        → floor ((fopWord w (σ .fop)) .fop .state) (length (σ .confirmed) + length ((fopWord w (σ .fop)) .confirmed)) ≤ 2 * k .0 + bit (w .retransmit)
+    low g true e c = omega (arith, rank-le ((fopWord w (σ .fop)) .fop .state), ap bit e, c)
+    low g false e c =
+        omega (
+          arith,
+          c,
+          forward-next (cell78 (table78 (wordEvent (seen w (σ .fop)))) (σ .fop .state))
+              (begin (some (wordEvent (seen w (σ .fop)))) [] (w .nr) (σ .fop)) (σ .fop .state)
+              (at-cell forward (table78 (wordEvent (seen w (σ .fop)))) (σ .fop .state) (word-forward (seen w (σ .fop)) e) g),
+        )
+
+-- the receiver
+tidy-received : (n : ℕ) (σ : Session) (v : Variables) (acc : List Fdu) (bda : List (List ℕ)) (r : ℕ) (fs : List Frame) → Tidy n σ
+    → bit (v .wait) ≤ waits (v .state) → waits (v .state) ≤ bit (v .retransmit)
+    → length acc + bit (v .retransmit) ≤ length (σ .sent)
+    → 2 * length (σ .accepted) + bit (σ .farm .retransmit) ≤ 2 * length acc + bit (v .retransmit) → Tidy n (receiver v acc bda r fs σ)
+unfolding receiver
+tidy-received n σ v acc bda r fs t a b m k =
+    record {
+      keys = keys-mono n _ _ _ _ _ _ (σ .words) (omega arith) (omega arith) k (t .keys);
+      waitFlag = a;
+      waitMissing = b;
+      missing = m;
+      below = t .below;
+    }
+
+no : {A : Type 0} → true ≡ false → A
+no e = absurd (true≢false e)
+
+module _ (n : ℕ) (σ : Session) (fs : List Frame) (t : Tidy n σ) where
+  -- what the invariant says of the flags, at a state named s
+  abbrev At : FarmState → Type 0
+  At s = (isLocked s ≡ false) × (bit (σ .farm .wait) ≤ waits s) × (waits s ≤ bit (σ .farm .retransmit))
+
+  as-it-was : (v : Variables) (b : List (List ℕ)) (r : ℕ) → bit (v .wait) ≤ waits (v .state) → waits (v .state) ≤ bit (v .retransmit)
+      → v .retransmit ≡ σ .farm .retransmit → Tidy n (receiver v (σ .accepted) b r fs σ)
+  as-it-was v b r w h q = tidy-received n σ v (σ .accepted) b r fs t w h (rw q (t .missing)) (rw q (omega arith))
+
+  -- the event e in the state s, for an AD frame
+  abbrev RT : Fdu → FarmEvent → FarmState → Type 0
+  RT u e s = Tidy n (receiver (stepOf e 0 (at s (σ .farm))) (taken (AD u) (isHanded (unitOf e s)) (σ .accepted)) (σ .acceptedBd) (σ .released) fs σ)
+
+  takes-tidy : (u : Fdu) → length (σ .accepted) < length (σ .sent) → (s : FarmState) → At s → RT u farm.E1 s
+  unfolding t79.table stepOf t79.performAll t79.perform t79.accepts
+  takes-tidy u b Open h =
+      tidy-received n σ _ _ _ _ fs t (h .1) (omega arith) (omega (arith, length-append (σ .accepted) (u ∷ [])))
+      (omega (arith, length-append (σ .accepted) (u ∷ []), bit-le (σ .farm .retransmit)))
+  takes-tidy u b Wait h = as-it-was _ _ _ (h .1) (h .2) refl
+  takes-tidy u b Lockout h = no (h .0)
+
+  e2-tidy : (u : Fdu) → length (σ .accepted) < length (σ .sent) → (s : FarmState) → At s → RT u farm.E2 s
+  unfolding t79.table stepOf t79.performAll t79.perform t79.accepts
+  e2-tidy u b Open h = tidy-received n σ _ _ _ _ fs t (omega arith) (omega arith) (omega arith) (omega (arith, bit-le (σ .farm .retransmit)))
+  e2-tidy u b Wait h = as-it-was _ _ _ (h .1) (h .2) refl
+  e2-tidy u b Lockout h = no (h .0)
+
+  e3-tidy : (u : Fdu) → length (σ .accepted) < length (σ .sent) → (s : FarmState) → At s → RT u farm.E3 s
+  unfolding t79.table stepOf t79.performAll t79.perform t79.accepts
+  e3-tidy u b Open h = tidy-received n σ _ _ _ _ fs t (h .1) (omega arith) (omega arith) (omega (arith, bit-le (σ .farm .retransmit)))
+  e3-tidy u b Wait h = as-it-was _ _ _ (h .1) (h .2) refl
+  e3-tidy u b Lockout h = no (h .0)
+
+  e4-tidy : (u : Fdu) (s : FarmState) → At s → RT u farm.E4 s
+  unfolding t79.table stepOf t79.performAll t79.perform t79.accepts
+  e4-tidy u Open h = as-it-was _ _ _ (h .1) (h .2) refl
+  e4-tidy u Wait h = as-it-was _ _ _ (h .1) (h .2) refl
+  e4-tidy u Lockout h = no (h .0)
+
+  e6-tidy : (b : List (List ℕ)) (s : FarmState) → At s → Tidy n (receiver (stepOf farm.E6 0 (at s (σ .farm))) (σ .accepted) b (σ .released) fs σ)
+  unfolding t79.table stepOf t79.performAll t79.perform t79.accepts
+  e6-tidy b Open h = as-it-was _ _ _ (h .1) (h .2) refl
+  e6-tidy b Wait h = as-it-was _ _ _ (h .1) (h .2) refl
+  e6-tidy b Lockout h = no (h .0)
+
+  e10-tidy : (r : ℕ) (s : FarmState) → At s → Tidy n (receiver (stepOf farm.E10 0 (at s (σ .farm))) (σ .accepted) (σ .acceptedBd) r fs σ)
+  unfolding t79.table stepOf t79.performAll t79.perform
+  e10-tidy r Open h = as-it-was _ _ _ (h .1) (h .2) refl
+  e10-tidy r Wait h = as-it-was _ _ _ (omega arith) (omega arith) refl
+  e10-tidy r Lockout h = no (h .0)
+
+frame-tidy : (set : Settings) → Within set → (σ : Session) (room : Bool) (l : List Frame) → Inv set σ → Tidy (set .n) σ
+    → Fly (set .k) (σ .sent) (length (σ .accepted)) (length (σ .accepted)) l → Tidy (set .n) (frameCome set room l σ)
+unfolding frameCome frameEvent
+frame-tidy set vw σ room [] I t h = t
+frame-tidy set vw σ room (AD u ∷ fs) I t h =
+    let it : At (set .n) σ fs t (σ .farm .state) = (I .receiver .unlocked, t .waitFlag, t .waitMissing) in
+    ad-cases set vw σ room u fs I h (λ e. RT (set .n) σ fs t u e (σ .farm .state))
+    (λ i p. takes-tidy (set .n) σ fs t u (omega (arith, h .2)) (σ .farm .state) it)
+    (λ i p. e2-tidy (set .n) σ fs t u (omega (arith, h .2)) (σ .farm .state) it)
+    (λ i. e3-tidy (set .n) σ fs t u (omega (arith, h .2)) (σ .farm .state) it)
+    (λ i. e4-tidy (set .n) σ fs t u (σ .farm .state) it)
+frame-tidy set vw σ room (BD o ∷ fs) I t h = e6-tidy (set .n) σ fs t _ (σ .farm .state) (I .receiver .unlocked, t .waitFlag, t .waitMissing)
+frame-tidy set vw σ room (Unlock ∷ fs) I t h = absurd h
+frame-tidy set vw σ room (SetVR v ∷ fs) I t h = absurd h
+frame-tidy set vw σ room (Refused r ∷ fs) I t h = absurd h
+
+release-tidy : (set : Settings) (σ : Session) → Inv set σ → Tidy (set .n) σ
+    → Tidy (set .n) (receiver (stepOf farm.E10 0 (σ .farm)) (σ .accepted) (σ .acceptedBd) (σ .released + 1) (σ .frames) σ)
+release-tidy set σ I t = e10-tidy (set .n) σ (σ .frames) t _ (σ .farm .state) (I .receiver .unlocked, t .waitFlag, t .waitMissing)
+
+rest-keys : (n S lo hi : ℕ) (ws : List Word) → Keys n S lo hi ws → Keys n S lo hi (rest ws)
+rest-keys n S lo hi [] h = h
+rest-keys n S lo hi (w ∷ ws) h = keys-mono n S S (2 * h .0 + bit (w .retransmit)) lo hi hi ws (omega arith) (h .2) (omega arith) (h .6)
+
+pub step-tidy : (set : Settings) → Within set → (e : Event) (σ : Session) → Inv set σ → Tidy (set .n) σ → Tidy (set .n) (step set e σ)
+unfolding step stepWith releases work judged fopAd fopBd fopLower fopDirective directiveEvent channels
+step-tidy set vw (adRequest o lent) σ I t =
+    sender-tidy set (requestAd o) lent σ t
+    (λ j. plain-tidy set σ unit (first (when (isEmpty (σ .fop .waitQueue)) FopEvent.E19 ∷ []) FopEvent.E20) o I t
+    (ad-ok (isEmpty (σ .fop .waitQueue))) (ad-holds (isEmpty (σ .fop .waitQueue))) (legal-of o j))
+step-tidy set vw (bdRequest o lent) σ I t =
+    sender-tidy set (requestBd o) lent σ t
+    (λ j. plain-tidy set σ unit (first (when (σ .fop .out .bd) FopEvent.E21 ∷ []) FopEvent.E22) o I t (bd-ok (σ .fop .out .bd))
+    (bd-holds (σ .fop .out .bd)) (legal-of o j))
+step-tidy set vw (ticks lent) σ I t = sender-tidy set fop.tick lent σ t (λ j. tick-tidy set σ I t)
+step-tidy set vw (lowerSays l lent) σ I t = sender-tidy set (lower l) lent σ t
+    (λ j. plain-tidy set σ nothing (lowerEvent l) [] I t (lower-ok l) (lower-holds l) tt)
+step-tidy set vw (terminate lent) σ I t =
+    sender-tidy set (directive 5 0) lent σ t (λ j. plain-tidy set σ nothing FopEvent.E29 [] I t terminate-ok terminate-holds tt)
+step-tidy set vw (wordIn lent) σ I t = word-tidy set vw lent σ (σ .words) I t (I .words) (t .keys)
+step-tidy set vw wordLost σ I t = words-tidy (set .n) σ (σ .frames) (rest (σ .words)) t (rest-keys (set .n) _ _ _ (σ .words) (t .keys))
+step-tidy set vw wordMade σ I t =
+    words-tidy (set .n) σ (σ .frames) _ t
+    (keys-add (set .n) _ _ (length (σ .accepted)) (σ .farm) (σ .words) (I .receiver .isVr) (I .receiver .noLock)
+    (omega (arith, t .waitFlag, t .waitMissing)) (t .missing) (t .keys))
+step-tidy set vw frameIn σ I t = frame-tidy set vw σ (free set σ) (σ .frames) I t (I .base .fly)
+step-tidy set vw frameLost σ I t = words-tidy (set .n) σ (rest (σ .frames)) (σ .words) t (t .keys)
+step-tidy set vw release σ I t = pickS (Tidy (set .n)) (isHeld σ) (λ e. release-tidy set σ I t) (λ e. t)
+
+pub start-tidy : (set : Settings) → Tidy (set .n) (begun set)
+unfolding startSender startReceiver
+start-tidy set = record { keys = omega arith; waitFlag = omega arith; waitMissing = omega arith; missing = omega arith; below = omega arith }

@@ -1,0 +1,99 @@
+-- The settings of a session, the start, and a pair of ends: whatever they do, and what it is that they do as the tables say.
+use mathlib.Core.Path.{_≡_}
+use mathlib.Core.List.{List}
+use Prim.Native.Nat.{ℕ, _/_, _%_, _≤_}
+use Rattle.base.specs.Limits.{largestSpacecraft, largestChannel}
+use Rattle.fop.specs.Limits.{largestK, largestTransmissionLimit, largestTimer, largestNumber}
+use Rattle.fop.specs.Units.{Own}
+use Rattle.fop.specs.Table.{S1}
+use Rattle.fop.specs.Variables.{Fop, atStart, setState}
+use Rattle.fop.specs.Events.{SenderEvent}
+use Rattle.fop.specs.Answers.{Answer, senderNext, senderAnswer}
+use Rattle.farm.specs.Receiver.{atStart as receiverAtStart, largestBuffers}
+use Rattle.farm.specs.declared.Receiver.{Receiver}
+use Rattle.session.specs.Receiver.{ReceiverEvent, ReceiverAnswer, receiverNext, receiverAnswer, receiverWord}
+
+-- n is V(S), NN(R) and V(R) at the start ("n is V(S) at the start"); k the sender's window K and w the receiver's W; the count of AD
+-- buffers; T1_Initial in ticks; Transmission_Limit; the address of both ends
+pub record Settings : Type 0 where
+  pub n : ℕ
+  pub k : ℕ
+  pub w : ℕ
+  pub buffers : ℕ
+  pub t1 : ℕ
+  pub limit : ℕ
+  pub own : Own
+
+-- "settings within limits, K at most PW", by document 01, "Limits"
+pub record Within (s : Settings) : Type 0 where
+  pub number : s .n ≤ largestNumber
+  pub windowLeast : 1 ≤ s .k
+  pub windowMost : s .k ≤ largestK
+  pub even : s .w % 2 ≡ 0
+  pub farmLeast : 2 ≤ s .w
+  pub farmMost : s .w ≤ 254
+  pub fits : s .k ≤ s .w / 2
+  pub buffersLeast : 1 ≤ s .buffers
+  pub buffersMost : s .buffers ≤ largestBuffers
+  pub timerLeast : 1 ≤ s .t1
+  pub timerMost : s .t1 ≤ largestTimer
+  pub limitLeast : 1 ≤ s .limit
+  pub limitMost : s .limit ≤ largestTransmissionLimit
+  pub spacecraft : s .own .spacecraft ≤ largestSpacecraft
+  pub channel : s .own .channel ≤ largestChannel
+
+-- "Synchronised and active": "sender Active, queues empty, flags ready, timer stopped, V(S) = NN(R) = V(R), receiver as at its start, both
+-- of one spacecraft and channel"
+unfoldable pub startSender : Settings → Fop
+startSender s =
+    setState S1 (atStart (s .n) (s .n) (record { k = s .k; transmissionLimit = s .limit; t1Initial = s .t1; timeoutType = 0 }))
+
+-- the receiver's part: crate farm's `atStart`
+unfoldable pub startReceiver : Settings → Receiver
+startReceiver s = receiverAtStart (s .own .spacecraft) (s .own .channel) (s .w) (s .n) (s .buffers)
+
+-- A sender and a receiver, whatever they are: how they stand at the start, and the next state, answer and control word that they give. A
+-- number is the room lent for a frame.
+pub record Ends : Type 1 where
+  pub Sender : Type 0
+  pub Receiver : Type 0
+  pub sender : Sender
+  pub receiver : Receiver
+  pub next : SenderEvent → ℕ → Sender → Sender
+  pub answer : SenderEvent → ℕ → Sender → Answer
+  pub nextReceiver : ReceiverEvent → Receiver → Receiver
+  pub answerReceiver : ReceiverEvent → Receiver → ReceiverAnswer
+  pub word : Receiver → List ℕ
+
+-- the ends that the tables themselves are: table 7-8 by crate fop, table 7-9 by crate farm
+abbrev pub tables : Settings → Ends
+tables s = record {
+  Sender = Fop;
+  Receiver = Receiver;
+  sender = startSender s;
+  receiver = startReceiver s;
+  next = senderNext (s .own);
+  answer = senderAnswer (s .own);
+  nextReceiver = receiverNext;
+  answerReceiver = receiverAnswer;
+  word = receiverWord;
+}
+
+-- What the contracts of the ends' functions give: of a well-formed state, which every event keeps well-formed, the state seen as the
+-- tables' state, and the answer, are what the tables give.
+pub record Tied (s : Settings) (m : Ends) : Type 1 where
+  pub fop : m .Sender → Fop
+  pub farm : m .Receiver → Receiver
+  pub Good : m .Sender → Type 0
+  pub GoodReceiver : m .Receiver → Type 0
+  pub good : Good (m .sender)
+  pub goodReceiver : GoodReceiver (m .receiver)
+  pub keeps : (e : SenderEvent) (lent : ℕ) (x : m .Sender) → Good x → Good (m .next e lent x)
+  pub keepsReceiver : (e : ReceiverEvent) (x : m .Receiver) → GoodReceiver x → GoodReceiver (m .nextReceiver e x)
+  pub start : fop (m .sender) ≡ startSender s
+  pub startReceiver : farm (m .receiver) ≡ startReceiver s
+  pub next : (e : SenderEvent) (lent : ℕ) (x : m .Sender) → Good x → fop (m .next e lent x) ≡ senderNext (s .own) e lent (fop x)
+  pub answer : (e : SenderEvent) (lent : ℕ) (x : m .Sender) → Good x → m .answer e lent x ≡ senderAnswer (s .own) e lent (fop x)
+  pub nextReceiver : (e : ReceiverEvent) (x : m .Receiver) → GoodReceiver x → farm (m .nextReceiver e x) ≡ receiverNext e (farm x)
+  pub answerReceiver : (e : ReceiverEvent) (x : m .Receiver) → GoodReceiver x → m .answerReceiver e x ≡ receiverAnswer e (farm x)
+  pub word : (x : m .Receiver) → GoodReceiver x → m .word x ≡ receiverWord (farm x)

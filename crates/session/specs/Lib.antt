@@ -1,0 +1,6 @@
+pub mod Frames
+pub mod Receiver
+pub mod Ends
+pub mod Session
+pub mod Claims
+pub mod Stronger

@@ -1,0 +1,60 @@
+-- The receiver's end of the session: crate farm's definitions, as events and answers.
+use mathlib.Core.List.{List}
+use mathlib.Core.Option.{Option, none, some}
+use Prim.Native.Nat.{ℕ}
+use Rattle.clcw.specs.Clcw.{clcwOf}
+use Rattle.farm.specs.Receiver.{receiveOf, unitPart, releaseOf, wordOf}
+use Rattle.farm.specs.declared.Event.{Event as FarmEvent}
+use Rattle.farm.specs.declared.Receiver.{Receiver}
+use Rattle.farm.specs.declared.Received.{Received}
+use Rattle.farm.specs.declared.Unit.{Unit as AcceptedUnit}
+use Rattle.farm.specs.declared.Unit.the-variants.{None, AdUnit, BdUnit}
+use Rattle.farm.specs.declared.Released.{Released}
+use Rattle.farm.specs.declared.Released.the-variants.{Done, NoneTaken}
+
+-- what the receiver is asked: "to the receiver the oldest frame or a release"
+pub data ReceiverEvent : Type 0 where
+  frameArrives : List ℕ → ReceiverEvent
+  releaseBuffer : ReceiverEvent
+
+-- the refusal (with E9 the frame's, which is still an event; 13 for a release when none is taken), the event of table 7-9 if any, and the
+-- unit handed out if any
+pub record ReceiverAnswer : Type 0 where
+  pub refusal : ℕ
+  pub event : Option FarmEvent
+  pub unit : Option (List ℕ)
+
+-- the receiver after a release: refused, it is as it was
+abbrev pub afterRelease : Released → Receiver → Receiver
+afterRelease (Done received) r = received .next
+afterRelease NoneTaken r = r
+
+-- the receiver after an event
+unfoldable pub receiverNext : ReceiverEvent → Receiver → Receiver
+receiverNext (frameArrives s) r = receiveOf r s .next
+receiverNext releaseBuffer r = afterRelease (releaseOf r) r
+
+-- the unit handed out: the frame's data part where a unit is accepted
+abbrev pub handedOut : AcceptedUnit → List ℕ → Option (List ℕ)
+handedOut None part = none
+handedOut AdUnit part = some part
+handedOut BdUnit part = some part
+
+-- the answer to a frame; one that is refused is E9 with the refusal's number
+abbrev pub frameAnswer : Received → List ℕ → ReceiverAnswer
+frameAnswer received part =
+    record { refusal = received .refusal; event = some (received .event); unit = handedOut (received .unit) part }
+
+-- the answer to a release: E10, or 13
+abbrev pub releaseAnswer : Released → ReceiverAnswer
+releaseAnswer (Done received) = record { refusal = received .refusal; event = some (received .event); unit = none }
+releaseAnswer NoneTaken = record { refusal = 13; event = none; unit = none }
+
+-- what the receiver answers
+unfoldable pub receiverAnswer : ReceiverEvent → Receiver → ReceiverAnswer
+receiverAnswer (frameArrives s) r = frameAnswer (receiveOf r s) (unitPart r s)
+receiverAnswer releaseBuffer r = releaseAnswer (releaseOf r)
+
+-- "the receiver's control word, with V(R), flags and counter as table 7-9 gives them", as octets
+unfoldable pub receiverWord : Receiver → List ℕ
+receiverWord r = clcwOf (wordOf r)
