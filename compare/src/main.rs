@@ -1,16 +1,24 @@
-//! Compares the proved library with the independent side on fixed and random inputs.
+//! Compares the proved library with the independent side on fixed and random inputs, or
+//! the proved program of FARM-1 with the independent one.
 //!
 //!   compare [COUNT] [--seed N] [--fault NAME]
 //!   compare --faults
+//!   compare --program [RUNS] [--seed N] [--fault NAME]
+//!   compare --program --lines LINES [--seed N] [--fault NAME]
+//!   compare --program --faults
 //!
-//! COUNT is the number of inputs, the fixed ones included, which are always compared.
-//! Exit status: 0 no difference; 1 differences; 2 bad usage; 3 no difference, but no
-//! random input met a number, or a kind, that the operation can answer.
+//! COUNT is the number of inputs, RUNS that of runs of the program, the fixed ones
+//! included, which are always compared; LINES is the length of one run, whose speed is
+//! told. Exit status: 0 no difference; 1 differences; 2 bad usage; 3 no difference, but
+//! no random input met a number, or a kind, that the operation can answer, or no run met
+//! something that FARM-1 can come to; 4 the proved program can't be started, or does not
+//! end.
 
 mod cases;
 mod check;
 mod inputs;
 mod library;
+mod program;
 mod random;
 
 use cases::OPERATIONS;
@@ -36,8 +44,12 @@ fn main() -> ExitCode {
         }
         return ExitCode::from(0);
     }
+    if words.first().is_some_and(|word| word == "--program") {
+        return program::main(&words[1..]);
+    }
     let Some(settings) = read_settings(&words) else {
         eprintln!("usage: compare [COUNT] [--seed N] [--fault NAME]\n       compare --faults");
+        eprintln!("{}", program::USAGE);
         return ExitCode::from(2);
     };
     println!(

@@ -37,9 +37,46 @@ pub enum Fault {
     ClcwSpareTaken,
     /// The Lockout Flag stands in the neighbouring bit 17 (clause 6.3.1).
     ClcwFlagAtNeighbour,
+    /// N(S) and V(R) are compared as plain numbers, not modulo 256 (clause 7.9.3.2).
+    FarmPlainNumbers,
+    /// The positive window ends at V(R) + PW (clause 7.2.3.8).
+    FarmWindowOneWider,
+    /// A buffer release clears the Retransmit_Flag (Table 7-9).
+    FarmReleaseClearsRetransmit,
+    /// Set V(R) is executed in Lockout as in Wait (clause 7.9.3.6).
+    FarmSetVrLeavesLockout,
+    /// The FARM-B_Counter stays at three (clause 7.2.3.7).
+    FarmCounterStuck,
+    /// A last line without a newline is dropped.
+    ProgramLastLineDropped,
+    /// A line is taken in pieces of 64 octets, each answered as a line. A limit of 64
+    /// for that of 63 octets could not be seen: no good line has more than 13.
+    ProgramSixtyFour,
+    /// The sender queues and never sends a unit (document 01, Promises).
+    FopNeverSends,
+    /// The sender never resends: no frame is marked (clause 7.9.2.11).
+    FopNeverResends,
+    /// Transmit type-AD frame starts no timer (clause 7.9.2.6).
+    FopNoTimer,
+    /// The run of confirmed units is one longer than the units acknowledged.
+    FopConfirmsOneMore,
+    /// NN(R), N(R) and V(S) are compared as plain numbers (clause 7.9.2.3).
+    FopPlainNumbers,
+    /// A unit waiting is sent before the frames to be retransmitted (figure 7-5).
+    FopNewBeforeMarked,
+    /// The window test of Look for FDU goes by the length of the Sent_Queue.
+    FopWindowByLength,
+    /// Look for FDU starts the timer when it resends (clause 7.2.2.9, not the actions).
+    FopTimerOnResend,
+    /// No Abort request is passed to the lower procedures (clause 7.9.2.11).
+    FopNoAbort,
+    /// The purge of the Sent_Queue denies no unit (clause 7.9.2.4).
+    FopDeniesNone,
+    /// A tick that is refused for want of room lowers the timer.
+    FopRefusedTickCounts,
 }
 
-/// The faults by name.
+/// The faults of the operations, by name.
 pub const FAULTS: [(&str, Fault); 16] = [
     ("fill_zero", Fault::FillZero),
     ("randomizer_through", Fault::RandomizerThrough),
@@ -57,4 +94,33 @@ pub const FAULTS: [(&str, Fault); 16] = [
     ("fecf_preset_zero", Fault::FecfPresetZero),
     ("clcw_spare_taken", Fault::ClcwSpareTaken),
     ("clcw_flag_at_neighbour", Fault::ClcwFlagAtNeighbour),
+];
+
+/// The faults of FARM-1 and its program, by name.
+pub const PROGRAM_FAULTS: [(&str, Fault); 7] = [
+    ("farm_plain_numbers", Fault::FarmPlainNumbers),
+    ("farm_window_one_wider", Fault::FarmWindowOneWider),
+    (
+        "farm_release_clears_retransmit",
+        Fault::FarmReleaseClearsRetransmit,
+    ),
+    ("farm_set_vr_leaves_lockout", Fault::FarmSetVrLeavesLockout),
+    ("farm_counter_stuck", Fault::FarmCounterStuck),
+    ("program_last_line_dropped", Fault::ProgramLastLineDropped),
+    ("program_sixty_four", Fault::ProgramSixtyFour),
+];
+
+/// The faults of FOP-1, by name.
+pub const FOP_FAULTS: [(&str, Fault); 11] = [
+    ("fop_never_sends", Fault::FopNeverSends),
+    ("fop_never_resends", Fault::FopNeverResends),
+    ("fop_no_timer", Fault::FopNoTimer),
+    ("fop_confirms_one_more", Fault::FopConfirmsOneMore),
+    ("fop_plain_numbers", Fault::FopPlainNumbers),
+    ("fop_new_before_marked", Fault::FopNewBeforeMarked),
+    ("fop_window_by_length", Fault::FopWindowByLength),
+    ("fop_timer_on_resend", Fault::FopTimerOnResend),
+    ("fop_no_abort", Fault::FopNoAbort),
+    ("fop_denies_none", Fault::FopDeniesNone),
+    ("fop_refused_tick_counts", Fault::FopRefusedTickCounts),
 ];

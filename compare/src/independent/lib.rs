@@ -6,9 +6,21 @@ pub mod bits;
 pub mod clcw;
 pub mod cltu;
 pub mod codeblock;
+pub mod farm1;
 pub mod fault;
 pub mod fecf;
+pub mod fop1;
 pub mod frame;
 pub mod output;
+pub mod program;
 pub mod randomizer;
 pub mod refusal;
+pub mod session;
+pub mod session_check;
+pub mod session_random;
+pub mod table_7_8;
+
+#[cfg(test)]
+#[allow(dead_code)]
+#[path = "../random.rs"]
+mod random;

@@ -13,3 +13,4 @@ pub const COMMAND: u8 = 9;
 pub const LENGTH: u8 = 10;
 pub const ROOM: u8 = 11;
 pub const SETTING: u8 = 12;
+pub const RELEASE: u8 = 13;

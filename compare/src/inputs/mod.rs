@@ -4,7 +4,9 @@ use crate::random::Random;
 
 pub mod clcw;
 pub mod cltu;
+pub mod farm1;
 pub mod frame;
+pub mod text;
 
 /// A kind of input to a reader, and its share of these inputs.
 struct Kind<T> {

@@ -1,0 +1,495 @@
+//! The claims about a session, each checked after each event. The histories come from
+//! what an outcome shows; states, flags, marks, the wait queue, timer and
+//! Transmission_Count come from the tables, run over the same events with channels of
+//! their own (document 01, The session).
+
+use std::collections::BTreeSet;
+
+use crate::clcw;
+use crate::farm1;
+use crate::fault::Fault;
+use crate::fop1::{self, Answer, Run, Sender, UNIT_MOST};
+use crate::frame;
+use crate::refusal::{DONE, LENGTH, ROOM};
+use crate::session::{carried, Carried, Event, Outcome, Session, Settings};
+use crate::table_7_8::{Reason, State};
+
+/// A unit: its N(S) and its octets.
+#[derive(Clone, PartialEq, Eq, Debug)]
+pub struct Unit {
+    pub number: u8,
+    pub octets: Vec<u8>,
+}
+
+/// How often the premises of a claim were met.
+#[derive(Clone, Copy, PartialEq, Eq, Debug, Default)]
+pub struct Met {
+    pub accepts: usize,
+    pub discards: usize,
+    pub sends_at_once: usize,
+    pub sends_marked: usize,
+    pub sends_waiting: usize,
+    pub expiries: usize,
+    pub confirms_all: usize,
+    pub confirms_and_sends: usize,
+}
+
+pub struct Checker {
+    pub settings: Settings,
+    /// The tables, run over the same events.
+    pub table: Session,
+    pub sent: Vec<Unit>,
+    pub accepted: Vec<Unit>,
+    pub confirmed: Vec<Unit>,
+    pub denied: Vec<Unit>,
+    /// The places in sent.
+    pub outstanding: BTreeSet<usize>,
+    /// The releases done.
+    pub releases: usize,
+    /// The BD units handed down and not yet passed by an accepted one.
+    bd_ahead: Vec<Vec<u8>>,
+    bd_accepted: usize,
+    pub met: Met,
+}
+
+/// What held before the event.
+struct Before {
+    sender: Sender,
+    receiver_open: bool,
+    sent: usize,
+    accepted: usize,
+    confirmed: usize,
+    outstanding: BTreeSet<usize>,
+    /// The octets of the frame that the table hands down at the event.
+    need: usize,
+}
+
+type Claim = Result<(), String>;
+
+fn claim(holds: bool, words: &str) -> Claim {
+    match holds {
+        true => Ok(()),
+        false => Err(words.to_string()),
+    }
+}
+
+fn unit_of(carried: &Carried) -> Unit {
+    Unit {
+        number: carried.value,
+        octets: carried.data.clone(),
+    }
+}
+
+impl Checker {
+    pub fn new(settings: &Settings) -> Result<Checker, u8> {
+        Ok(Checker {
+            settings: *settings,
+            table: Session::start(settings)?,
+            sent: Vec::new(),
+            accepted: Vec::new(),
+            confirmed: Vec::new(),
+            denied: Vec::new(),
+            outstanding: BTreeSet::new(),
+            releases: 0,
+            bd_ahead: Vec::new(),
+            bd_accepted: 0,
+            met: Met::default(),
+        })
+    }
+
+    /// Checks the next event of a session and what it gave.
+    pub fn check(&mut self, event: &Event, outcome: &Outcome) -> Claim {
+        let before = self.before(event);
+        self.table.step(event, Fault::None);
+        self.write_histories(outcome)?;
+        self.never_locked_out(outcome)?;
+        match event {
+            Event::Frame => self.accepts_exactly(&before, outcome)?,
+            Event::AdRequest { unit, room } => self.sends_at_once(&before, unit, *room, outcome)?,
+            Event::Lower { response, room } if *response == fop1::Event::AdAccept => {
+                self.sends_when_ready(&before, *room, outcome)?
+            }
+            Event::Tick { room } => self.resends_at_expiry(&before, *room, outcome)?,
+            Event::Word { room } => self.confirms_all(&before, *room, outcome)?,
+            _ => (),
+        }
+        self.stronger(&before, outcome)
+    }
+
+    fn before(&self, event: &Event) -> Before {
+        let unlimited = match event.clone() {
+            Event::AdRequest { unit, .. } => Event::AdRequest {
+                unit,
+                room: usize::MAX,
+            },
+            Event::Lower { response, .. } => Event::Lower {
+                response,
+                room: usize::MAX,
+            },
+            Event::Tick { .. } => Event::Tick { room: usize::MAX },
+            Event::Word { .. } => Event::Word { room: usize::MAX },
+            other => other,
+        };
+        let answer = self.table.clone().step(&unlimited, Fault::None).sender;
+        let frame = answer.and_then(|answer| answer.frame);
+        Before {
+            sender: self.table.sender.clone(),
+            receiver_open: self.table.receiver.state == farm1::State::Open,
+            sent: self.sent.len(),
+            accepted: self.accepted.len(),
+            confirmed: self.confirmed.len(),
+            outstanding: self.outstanding.clone(),
+            need: frame.map_or(0, |frame| frame.len()),
+        }
+    }
+
+    /// n plus a count, modulo 256.
+    fn number(&self, count: usize) -> u8 {
+        ((self.settings.number + count) % 256) as u8
+    }
+
+    fn carried(&self, octets: &Option<Vec<u8>>) -> Option<Carried> {
+        let (spacecraft, channel) = (self.settings.spacecraft, self.settings.channel);
+        carried(octets.as_ref()?, spacecraft as u16, channel as u8)
+    }
+
+    /// The AD unit that the answer hands down.
+    fn ad_unit(&self, outcome: &Outcome) -> Option<Unit> {
+        let carried = self.carried(&outcome.sender.as_ref()?.frame)?;
+        (carried.kind == frame::AD).then(|| unit_of(&carried))
+    }
+
+    fn write_histories(&mut self, outcome: &Outcome) -> Claim {
+        if let Some(answer) = &outcome.sender {
+            for place in self.places(answer.confirmed)? {
+                claim(self.outstanding.remove(&place), "confirmed is outstanding")?;
+                let unit = self.sent[place].clone();
+                let same = self.accepted.get(self.confirmed.len()) == Some(&unit);
+                claim(same, "confirmed is a first part of accepted")?;
+                self.confirmed.push(unit);
+            }
+            for place in self.places(answer.denied)? {
+                claim(self.outstanding.remove(&place), "denied is outstanding")?;
+                self.denied.push(self.sent[place].clone());
+            }
+            self.write_handed_down(answer)?;
+        }
+        if let Some(received) = &outcome.receiver {
+            if received.event == Ok(farm1::Event::E10) {
+                self.releases += 1;
+            }
+            if let Some(carried) = &received.accepted {
+                self.write_accepted(carried)?;
+            }
+        }
+        Ok(())
+    }
+
+    /// The places of a run: a number means the unit last sent with it.
+    fn places(&self, run: Run) -> Result<Vec<usize>, String> {
+        claim(run.count > 0 || run.first == 0, "an empty run is 0 and 0")?;
+        let mut places = Vec::new();
+        for n in 0..run.count {
+            let number = run.first.wrapping_add(n);
+            let place = self.sent.iter().rposition(|unit| unit.number == number);
+            places.push(place.ok_or("the number of a run was sent")?);
+        }
+        Ok(places)
+    }
+
+    fn write_handed_down(&mut self, answer: &Answer) -> Claim {
+        if answer.frame.is_none() {
+            return Ok(());
+        }
+        let carried = self.carried(&answer.frame);
+        let carried = carried.ok_or("a frame handed down can be read")?;
+        match carried.kind {
+            frame::AD if carried.value == self.number(self.sent.len()) => {
+                self.outstanding.insert(self.sent.len());
+                self.sent.push(unit_of(&carried));
+            }
+            frame::AD => (),
+            frame::BD => self.bd_ahead.push(carried.data),
+            _ => return Err("no type-BC frame is handed down".to_string()),
+        }
+        Ok(())
+    }
+
+    fn write_accepted(&mut self, carried: &Carried) -> Claim {
+        if carried.kind == frame::BD {
+            let ahead = self.bd_ahead.iter().position(|unit| *unit == carried.data);
+            let passed = ahead.ok_or("accepted BD units are some of those handed down")?;
+            self.bd_ahead.drain(..=passed);
+            self.bd_accepted += 1;
+            return Ok(());
+        }
+        let unit = unit_of(carried);
+        let same = self.sent.get(self.accepted.len()) == Some(&unit);
+        claim(same, "accepted is a first part of sent")?;
+        self.accepted.push(unit);
+        Ok(())
+    }
+
+    fn never_locked_out(&self, outcome: &Outcome) -> Claim {
+        let words = "the receiver has never locked out";
+        claim(self.table.receiver.state != farm1::State::Lockout, words)?;
+        claim(!self.table.receiver.lockout_flag, words)?;
+        if let Some(received) = &outcome.receiver {
+            claim(received.state != farm1::State::Lockout, words)?;
+        }
+        if let Some(word) = &outcome.report {
+            let read = clcw::read(word, self.settings.channel as u8, Fault::None);
+            claim((read.number, read.valid) == (DONE, 1), "a word can be read")?;
+            claim(read.flags & 4 == 0, words)?;
+            claim(
+                read.report == self.number(self.accepted.len()),
+                "a word reports V(R)",
+            )?;
+            let counted = read.counter as usize == self.bd_accepted % 4;
+            claim(counted, "the counter is the count of BD units accepted")?;
+        }
+        Ok(())
+    }
+
+    /// The receiver accepts an AD frame exactly when it is Open, the frame expected and
+    /// a buffer free.
+    fn accepts_exactly(&mut self, before: &Before, outcome: &Outcome) -> Claim {
+        let Some(carried) = self.carried(&outcome.frame) else {
+            return claim(outcome.frame.is_none(), "a frame that arrives can be read");
+        };
+        if carried.kind != frame::AD {
+            return Ok(());
+        }
+        let expected = carried.value == self.number(before.accepted);
+        let buffer_free = before.accepted < self.settings.buffers + self.releases;
+        let accepted = self.accepted.len() > before.accepted;
+        match accepted {
+            true => self.met.accepts += 1,
+            false => self.met.discards += 1,
+        }
+        claim(
+            accepted == (before.receiver_open && expected && buffer_free),
+            "accepted exactly when Open, expected and a buffer free",
+        )
+    }
+
+    /// The unit is handed down, new.
+    fn sends(&self, before: &Before, octets: &[u8], outcome: &Outcome) -> bool {
+        let unit = Unit {
+            number: self.number(before.sent),
+            octets: octets.to_vec(),
+        };
+        self.ad_unit(outcome).as_ref() == Some(&unit) && self.sent.len() == before.sent + 1
+    }
+
+    /// An active sender with a ready lower layer, an empty wait queue, nothing marked and
+    /// fewer than K outstanding sends at once a legal unit offered to it.
+    fn sends_at_once(
+        &mut self,
+        before: &Before,
+        unit: &[u8],
+        room: usize,
+        outcome: &Outcome,
+    ) -> Claim {
+        let sender = &before.sender;
+        let due = sender.state == State::S1
+            && sender.ad_out_ready
+            && sender.wait_queue.is_none()
+            && oldest_marked(sender).is_none()
+            && before.outstanding.len() < self.settings.k
+            && (1..=UNIT_MOST).contains(&unit.len());
+        if !due || room < before.need {
+            return Ok(());
+        }
+        self.met.sends_at_once += 1;
+        claim(
+            self.sends(before, unit, outcome),
+            "a unit offered is sent at once",
+        )
+    }
+
+    /// When the lower layer comes ready, a sender active or resending without wait first
+    /// sends its oldest marked unit again; with none marked and fewer than K outstanding,
+    /// it sends the unit waiting, if any.
+    fn sends_when_ready(&mut self, before: &Before, room: usize, outcome: &Outcome) -> Claim {
+        let sender = &before.sender;
+        if !active_or_resending(sender) || room < before.need {
+            return Ok(());
+        }
+        if let Some(number) = oldest_marked(sender) {
+            self.met.sends_marked += 1;
+            let place = self.sent.iter().rposition(|unit| unit.number == number);
+            let unit = place.map(|place| self.sent[place].clone());
+            let again = unit.is_some() && self.ad_unit(outcome) == unit;
+            return claim(again, "the oldest marked unit is sent again");
+        }
+        match &sender.wait_queue {
+            Some(unit) if before.outstanding.len() < self.settings.k => {
+                self.met.sends_waiting += 1;
+                claim(
+                    self.sends(before, unit, outcome),
+                    "the unit waiting is sent",
+                )
+            }
+            _ => Ok(()),
+        }
+    }
+
+    /// A timer expiry short of the transmission limit resends or marks every outstanding
+    /// unit.
+    fn resends_at_expiry(&mut self, before: &Before, room: usize, outcome: &Outcome) -> Claim {
+        let sender = &before.sender;
+        let short = (sender.transmission_count as usize) < self.settings.transmission_limit;
+        let due = active_or_resending(sender) && sender.timer == 1 && short;
+        if !due || room < before.need {
+            return Ok(());
+        }
+        self.met.expiries += 1;
+        let resent = self.ad_unit(outcome);
+        for place in &before.outstanding {
+            let unit = &self.sent[*place];
+            let marked = self
+                .table
+                .sender
+                .sent_queue
+                .iter()
+                .any(|frame| frame.to_be_retransmitted && frame.number() == Some(unit.number));
+            let again = resent.as_ref() == Some(unit);
+            claim(
+                marked || again,
+                "an expiry resends or marks every outstanding unit",
+            )?;
+        }
+        Ok(())
+    }
+
+    /// A clear control word reporting the next number to send confirms all outstanding
+    /// units and, if there were any and the lower layer is ready, sends the unit waiting,
+    /// if any.
+    fn confirms_all(&mut self, before: &Before, room: usize, outcome: &Outcome) -> Claim {
+        let Some(word) = &outcome.word else {
+            return Ok(());
+        };
+        let read = clcw::read(word, self.settings.channel as u8, Fault::None);
+        let due = active_or_resending(&before.sender)
+            && read.flags == 0
+            && read.report == self.number(before.sent);
+        if !due || room < before.need {
+            return Ok(());
+        }
+        self.met.confirms_all += 1;
+        let confirmed = &self.confirmed[before.confirmed..];
+        let all = before.outstanding.iter().map(|place| &self.sent[*place]);
+        claim(
+            confirmed.iter().eq(all),
+            "all outstanding units are confirmed",
+        )?;
+        match &before.sender.wait_queue {
+            Some(unit) if !before.outstanding.is_empty() && before.sender.ad_out_ready => {
+                self.met.confirms_and_sends += 1;
+                claim(
+                    self.sends(before, unit, outcome),
+                    "the unit waiting is sent too",
+                )
+            }
+            _ => Ok(()),
+        }
+    }
+}
+
+/// More than is asked for, and true as well.
+impl Checker {
+    fn stronger(&self, before: &Before, outcome: &Outcome) -> Claim {
+        let Some(answer) = &outcome.sender else {
+            return Ok(());
+        };
+        self.told_apart(answer)?;
+        self.hands_down(before, answer, outcome)?;
+        self.confirms_what_is_reported(before, answer, outcome)?;
+        let refusals = [DONE, LENGTH, ROOM];
+        claim(refusals.contains(&answer.refusal), "refusals are 10 and 11")?;
+        let limit = self.settings.transmission_limit;
+        let alert = match answer.alert {
+            None | Some(Reason::Term | Reason::T1 | Reason::Llif) => true,
+            Some(Reason::Limit) => limit == 1,
+            Some(_) => false,
+        };
+        claim(
+            alert,
+            "alerts are term, T1, LLIF, and limit at a limit of 1",
+        )
+    }
+
+    /// Sent is confirmed and outstanding in S1 to S3, confirmed and denied in S6.
+    fn told_apart(&self, answer: &Answer) -> Claim {
+        let confirmed = self.confirmed.len();
+        claim(
+            self.outstanding.len() <= self.settings.k,
+            "at most K are outstanding",
+        )?;
+        if answer.state != State::S6 {
+            let last = self
+                .outstanding
+                .iter()
+                .copied()
+                .eq(confirmed..self.sent.len());
+            claim(self.denied.is_empty(), "denied units end the session")?;
+            return claim(last, "sent is confirmed and outstanding");
+        }
+        claim(self.outstanding.is_empty(), "none is outstanding in S6")?;
+        let rest = self.denied == self.sent[confirmed..];
+        claim(rest, "sent is confirmed and denied")
+    }
+
+    /// Each AD frame handed down is the next new unit or an outstanding one, unchanged;
+    /// none where the event leaves the sender in S3 or S6; none again at a limit of 1.
+    fn hands_down(&self, before: &Before, answer: &Answer, outcome: &Outcome) -> Claim {
+        let Some(unit) = self.ad_unit(outcome) else {
+            return Ok(());
+        };
+        let sending = matches!(answer.state, State::S1 | State::S2);
+        claim(sending, "no AD frame is handed down into S3 or S6")?;
+        if self.sent.len() > before.sent {
+            return Ok(());
+        }
+        let again = self.settings.transmission_limit > 1;
+        claim(again, "at a limit of 1 nothing is handed down twice")?;
+        let known = self
+            .outstanding
+            .iter()
+            .any(|place| self.sent[*place] == unit);
+        claim(known, "a frame handed down again is an outstanding unit")
+    }
+
+    /// A word makes the count of confirmed units exactly what it reports.
+    fn confirms_what_is_reported(
+        &self,
+        before: &Before,
+        answer: &Answer,
+        outcome: &Outcome,
+    ) -> Claim {
+        let Some(word) = &outcome.word else {
+            return Ok(());
+        };
+        let serving = matches!(before.sender.state, State::S1 | State::S2 | State::S3);
+        if !serving || answer.refusal != DONE {
+            return Ok(());
+        }
+        let read = clcw::read(word, self.settings.channel as u8, Fault::None);
+        let exact = self.number(self.confirmed.len()) == read.report;
+        claim(exact, "confirmed is what the word reports")
+    }
+}
+
+fn active_or_resending(sender: &Sender) -> bool {
+    matches!(sender.state, State::S1 | State::S2)
+}
+
+/// The number of the oldest marked unit.
+fn oldest_marked(sender: &Sender) -> Option<u8> {
+    let marked = sender
+        .sent_queue
+        .iter()
+        .find(|frame| frame.to_be_retransmitted);
+    marked.and_then(|frame| frame.number())
+}

@@ -1,0 +1,227 @@
+//! Random sessions, and random events of a sender alone. Each draw gives a number below its
+//! limit.
+
+use crate::bits;
+use crate::clcw;
+use crate::fault::Fault;
+use crate::fop1::{self, Sender, UNIT_MOST};
+use crate::session::{Event, Session, Settings};
+use crate::table_7_8::State;
+
+pub type Draw<'a> = &'a mut dyn FnMut(usize) -> usize;
+
+/// Room for any frame.
+const ROOM_MOST: usize = 256;
+
+/// What a session is like.
+pub struct Manner {
+    /// The shares of its events, in the order of `drawn`.
+    shares: [usize; 15],
+    /// With so many frames or words under way, the oldest arrives before the next enters.
+    under_way: usize,
+}
+
+fn between(draw: Draw, least: usize, most: usize) -> usize {
+    least + draw(most - least + 1)
+}
+
+/// Settings within their limits, K at most PW.
+pub fn settings(draw: Draw) -> Settings {
+    let half_window = match draw(3) {
+        0 => between(draw, 1, 4),
+        1 => between(draw, 1, 32),
+        _ => between(draw, 1, 127),
+    };
+    let k_most = half_window.min(fop1::K_MOST);
+    let k = match draw(3) {
+        0 => k_most,
+        1 => between(draw, 1, k_most.min(4)),
+        _ => between(draw, 1, k_most),
+    };
+    Settings {
+        spacecraft: draw(1024),
+        channel: draw(64),
+        number: draw(256),
+        k,
+        t1_initial: match draw(4) {
+            0 => 1,
+            1 => between(draw, 1, 5),
+            2 => between(draw, 1, 40),
+            _ => between(draw, 1, 65_535),
+        },
+        transmission_limit: match draw(8) {
+            0 => 1,
+            1 | 2 => between(draw, 2, 4),
+            _ => between(draw, 1, 255),
+        },
+        window: 2 * half_window,
+        buffers: between(draw, 1, 8),
+    }
+}
+
+/// How busy a session is, how lossy, how soon it ends.
+pub fn manner(draw: Draw) -> Manner {
+    let mut shares = [0; 15];
+    let most = [
+        2000, 300, 800, 2500, 50, 300, 1, 1, 1, 1, 2000, 2500, 2000, 2000, 400,
+    ];
+    for (share, most) in shares.iter_mut().zip(most) {
+        *share = match draw(4) {
+            0 => most,
+            1 => most / 4,
+            _ => draw(most + 1),
+        };
+    }
+    // The events without which nothing moves.
+    for moving in [0, 3, 10, 11, 12, 13] {
+        shares[moving] = shares[moving].max(100);
+    }
+    let under_way = match draw(3) {
+        0 => usize::MAX,
+        1 => between(draw, 1, 40),
+        _ => between(draw, 1, 4),
+    };
+    Manner { shares, under_way }
+}
+
+fn unit(draw: Draw) -> Vec<u8> {
+    let length = match draw(40) {
+        0 => 0,
+        1 => between(draw, UNIT_MOST + 1, 260),
+        2 => UNIT_MOST,
+        3 | 4 => between(draw, 1, UNIT_MOST),
+        _ => between(draw, 1, 6),
+    };
+    (0..length).map(|_| draw(256) as u8).collect()
+}
+
+fn room(draw: Draw) -> usize {
+    match draw(20) {
+        0 => draw(16),
+        1 => draw(ROOM_MOST + 1),
+        _ => ROOM_MOST,
+    }
+}
+
+/// The next event of a session.
+pub fn event(draw: Draw, manner: &Manner, session: &Session) -> Event {
+    let event = drawn(draw, &manner.shares);
+    match event {
+        Event::Report if session.words.len() >= manner.under_way => Event::Word { room: ROOM_MOST },
+        Event::Lower { .. } if session.frames.len() >= manner.under_way => Event::Frame,
+        _ => event,
+    }
+}
+
+fn drawn(draw: Draw, shares: &[usize; 15]) -> Event {
+    let mut rest = draw(shares.iter().sum());
+    let mut kind = 0;
+    while rest >= shares[kind] {
+        rest -= shares[kind];
+        kind += 1;
+    }
+    let lower = |response, room| Event::Lower { response, room };
+    match kind {
+        0 => Event::AdRequest {
+            unit: unit(draw),
+            room: room(draw),
+        },
+        1 => Event::BdRequest {
+            unit: unit(draw),
+            room: room(draw),
+        },
+        2 => Event::Tick { room: room(draw) },
+        3 => lower(fop1::Event::AdAccept, room(draw)),
+        4 => lower(fop1::Event::BcAccept, room(draw)),
+        5 => lower(fop1::Event::BdAccept, room(draw)),
+        6 => lower(fop1::Event::AdReject, room(draw)),
+        7 => lower(fop1::Event::BcReject, room(draw)),
+        8 => lower(fop1::Event::BdReject, room(draw)),
+        9 => Event::Terminate,
+        10 => Event::Word { room: room(draw) },
+        11 => Event::Frame,
+        12 => Event::Release,
+        13 => Event::Report,
+        _ if draw(2) == 0 => Event::FrameLost,
+        _ => Event::WordLost,
+    }
+}
+
+/// The next event of a sender alone, with its room: any directive, any word.
+pub fn sender_event(draw: Draw, sender: &Sender) -> (fop1::Event, usize) {
+    let initial = sender.state == State::S6;
+    let event = match draw(32) {
+        0..=7 => fop1::Event::AdRequest(unit(draw)),
+        8 | 9 => fop1::Event::BdRequest(unit(draw)),
+        10..=13 => directive(draw, initial),
+        14..=20 => fop1::Event::ControlWord(word(draw, sender)),
+        21..=23 => fop1::Event::Tick,
+        24..=28 => fop1::Event::AdAccept,
+        29 => fop1::Event::BcAccept,
+        30 => fop1::Event::BdAccept,
+        _ => match draw(60) {
+            0 => fop1::Event::AdReject,
+            1 => fop1::Event::BcReject,
+            2 => fop1::Event::BdReject,
+            _ => fop1::Event::AdAccept,
+        },
+    };
+    (event, room(draw))
+}
+
+fn directive(draw: Draw, initial: bool) -> fop1::Event {
+    let number = match draw(10) {
+        0 => draw(20),
+        1 => usize::MAX - draw(3),
+        2 => between(draw, 5, 11),
+        _ if initial => between(draw, 1, 4),
+        3 if draw(4) == 0 => 5,
+        3 | 4 => between(draw, 1, 4),
+        _ => between(draw, 6, 11),
+    };
+    let value = match draw(8) {
+        0 => draw(70_000),
+        1 => draw(2),
+        2 => usize::MAX - draw(2),
+        3 => [1, 32, 33, 255, 256, 65_535, 65_536][draw(7)],
+        4 => draw(256),
+        _ => between(draw, 1, 8),
+    };
+    fop1::Event::Directive { number, value }
+}
+
+/// A control word: most of them good, with N(R) about the window.
+fn word(draw: Draw, sender: &Sender) -> Vec<u8> {
+    let beyond = match draw(8) {
+        0 if draw(4) == 0 => draw(256) as u8,
+        0..=2 => 0,
+        3 | 4 => sender.unacknowledged(),
+        _ => draw(sender.unacknowledged() as usize + 1) as u8,
+    };
+    let flags = match draw(12) {
+        0 if draw(4) == 0 => draw(8) as u8,
+        0..=2 => 3,
+        3..=5 => 1,
+        _ => 0,
+    };
+    let report = clcw::Report {
+        channel: match draw(24) {
+            0 => draw(64) as u8,
+            _ => sender.channel,
+        },
+        lockout: flags & 4,
+        wait: flags & 2,
+        retransmit: flags & 1,
+        counter: draw(4) as u8,
+        value: sender.nn_r.wrapping_add(beyond),
+    };
+    let mut word = bits::to_octets(&clcw::encode(&report, Fault::None));
+    match draw(48) {
+        0 => word.truncate(draw(4)),
+        1 => word.push(0),
+        2 => word[draw(4)] ^= 1 << draw(8),
+        3 => word = (0..4).map(|_| draw(256) as u8).collect(),
+        _ => (),
+    }
+    word
+}

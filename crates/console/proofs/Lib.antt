@@ -1,0 +1,5 @@
+pub mod Words
+pub mod Told
+pub mod Placing
+pub mod Feeding
+pub mod Program

@@ -1,0 +1,30 @@
+-- A number of an octet, or none.
+use borrow.Author.Needs.{needs}
+use native.Mathlib.Omega.{arith}
+use denote.Ref.{now}
+use Rattle.console.proofs.Words.{octet, ad-told}
+use Rattle.console.proofs.lines.ad.Statement.{statement}
+use Rattle.console.proofs.lines.ad.Tie as tie
+
+number-requires : tie.Need-number-requires
+number-requires c κs = search needs
+
+enum-known-n : tie.Need-enum-known-n
+enum-known-n c = search needs
+
+cast-t5 : tie.Need-cast-t5
+cast-t5 c =
+    let n = c .before .before .before .number in
+    omega (arith, octet (n .result) (now (c .before .before .before .before .before .args .number)) _ (n .ensures) (c .before .n .given .1))
+
+enum-told : tie.Need-enum-told
+enum-told c = search needs
+
+returns : tie.Need-returns
+returns c = search ad-told
+
+returns-2 : tie.Need-returns-2
+returns-2 c = search ad-told
+
+pub ad-spec : {M : Type 1} → statement M
+ad-spec = tie.close (tie.spec number-requires enum-known-n cast-t5 enum-told returns returns-2)

@@ -1,0 +1,39 @@
+-- Three flags, and a tab.
+use borrow.Author.Needs.{needs}
+use native.Mathlib.Omega.{arith}
+use Rattle.console.proofs.Told.{flags-told}
+use Rattle.console.proofs.rows.put_flags.Statement.{statement}
+use Rattle.console.proofs.rows.put_flags.Tie as tie
+
+flag-requires : tie.Need-flag-requires
+flag-requires c κs = search needs
+
+flag-requires-2 : tie.Need-flag-requires-2
+flag-requires-2 c κs = search needs
+
+flag-requires-3 : tie.Need-flag-requires-3
+flag-requires-3 c κs = search needs
+
+slice-aggregate-put : tie.Need-slice-aggregate-put
+slice-aggregate-put c = search needs
+
+put-requires : tie.Need-put-requires
+put-requires c κs = search needs
+
+same-length : tie.Need-same-length
+same-length c = search needs
+
+returns : tie.Need-returns
+returns c = (search flags-told, omega arith)
+
+pub put-flags-spec : {M : Type 1} → statement M
+put-flags-spec =
+    tie.close
+    (tie.spec
+    flag-requires
+    flag-requires-2
+    flag-requires-3
+    slice-aggregate-put
+    put-requires
+    same-length
+    returns)

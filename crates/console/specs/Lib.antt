@@ -1,0 +1,4 @@
+pub mod Line
+pub mod Console
+pub mod Feed
+pub mod Steps

@@ -1,0 +1,74 @@
+-- What the console wrote lies within the output.
+use borrow.Author.Needs.{needs}
+use denote.Ref.{now}
+use lib.ListN.{length, take}
+use Rattle.console.specs.Feed.{progressOf, feeding}
+use Rattle.text.proofs.Outcomes.{count-within}
+use Rattle.farm1.proofs.some.Statement.{statement}
+use Rattle.farm1.proofs.some.Tie as tie
+
+read-requires : tie.Need-read-requires
+read-requires c κs = search needs
+
+same-length : tie.Need-same-length
+same-length c = search needs
+
+returns : tie.Need-returns
+returns c = search needs
+
+count-requires : tie.Need-count-requires
+count-requires c κs = search needs
+
+slice-reshare-prefix-feed : tie.Need-slice-reshare-prefix-feed
+slice-reshare-prefix-feed c = search needs
+
+slice-aggregate-feed : tie.Need-slice-aggregate-feed
+slice-aggregate-feed c = search needs
+
+feed-requires : tie.Need-feed-requires
+feed-requires c κs = search needs
+
+emit-requires : tie.Need-emit-requires
+emit-requires c κs =
+    let a = c .before .before .before .before .before .before .before .before .before .before .before .before .before .before .before .before .args in
+    let chunk = take (c .before .before .before .before .before .before .before .count .result) (c .before .before .before .before .before .before .before .before .before .before .before .before .read .last .1 .0) in
+    let f = c .before .before .before .before .feed in
+    count-within (feeding (progressOf (a .console)) chunk (length (now (a .out)))) (now (a .out)) (f .last .1 .1 .0) (f .result .written) (f .ensures .0) (f .ensures .1 .0)
+    (c .before .before .before .out .given)
+
+same-length-2 : tie.Need-same-length-2
+same-length-2 c = search needs
+
+same-length-3 : tie.Need-same-length-3
+same-length-3 c = search needs
+
+returns-2 : tie.Need-returns-2
+returns-2 c = search needs
+
+same-length-4 : tie.Need-same-length-4
+same-length-4 c = search needs
+
+same-length-5 : tie.Need-same-length-5
+same-length-5 c = search needs
+
+returns-3 : tie.Need-returns-3
+returns-3 c = search needs
+
+pub some-spec : {M : Type 1} → statement M
+some-spec =
+    tie.close
+    (tie.spec
+    read-requires
+    same-length
+    returns
+    count-requires
+    slice-reshare-prefix-feed
+    slice-aggregate-feed
+    feed-requires
+    emit-requires
+    same-length-2
+    same-length-3
+    returns-2
+    same-length-4
+    same-length-5
+    returns-3)

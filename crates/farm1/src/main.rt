@@ -1,0 +1,104 @@
+// Reads lines of events from standard input, and writes a row for each (document 01, "The program"). What is written is the
+// console's: see proofs/Program of that crate. Here are only the reading and the writing.
+use console::Console;
+use libc::STDIN_FILENO;
+use libc::STDOUT_FILENO;
+use text::Written;
+ghost use Prim.Native.Nat.{_≤_};
+ghost use lib.ListN.{length};
+ghost use Rattle.base.specs.Outcome.{countOf};
+ghost use Rattle.text.specs.Answers.{writtenAnswer};
+
+// Octets read at once, and 20 octets of output for each.
+const CHUNK: usize = 2048;
+
+const ROOM: usize = 40960;
+
+enum Went {
+    On,
+    Ended,
+    Failed,
+}
+
+// The console behind a read, and how the read and the writing of its rows went.
+struct Step {
+    console: Console,
+    went: Went,
+}
+
+// Writes what stands at the front of the output; false where that fails.
+fn emit(written: Written, out: &[u8]) -> bool
+    requires { ⌜ countOf (writtenAnswer written) ≤ length (now out) ⌝ }
+{
+    match written {
+        Written::Done(n) => io::write_all(STDOUT_FILENO, &out[..n]),
+        Written::Room => false,
+    }
+}
+
+// One read of the input. A read that fails counts as the end.
+fn some(console: Console, input: &mut [u8], out: &mut [u8]) -> Step {
+    let got = libc::read(STDIN_FILENO, input);
+    if got <= 0 {
+        return Step {
+            console: console,
+            went: Went::Ended,
+        };
+    }
+    let n = io::count(got, input);
+    let fed = console.feed(&input[..n], out);
+    let written = fed.written;
+    let next = fed.console;
+    if emit(written, out) {
+        return Step {
+            console: next,
+            went: Went::On,
+        };
+    }
+    Step {
+        console: next,
+        went: Went::Failed,
+    }
+}
+
+// All of the input. A proved loop has to end, so the reads are counted down from a number that no run uses up.
+fn all(input: &mut [u8], out: &mut [u8]) -> Step {
+    let start = Console::new();
+    let mut step = Step {
+        console: start,
+        went: Went::On,
+    };
+    let mut reads = u64::MAX;
+    while reads > 0 {
+        let console = step.console;
+        step = some(console, input, out);
+        let went = step.went;
+        let Went::On = went else {
+            return step;
+        };
+        reads -= 1;
+    }
+    step
+}
+
+// The header, the rows, and the row of a last line without a newline.
+fn run(input: &mut [u8], out: &mut [u8]) {
+    let header = console::rows::header(out);
+    if !emit(header, out) {
+        return;
+    }
+    let step = all(input, out);
+    let went = step.went;
+    let console = step.console;
+    if let Went::Failed = went {
+        return;
+    }
+    let last = console.finish(out);
+    emit(last, out);
+}
+
+fn main() {
+    let mut input = [0u8; CHUNK];
+    let mut out = [0u8; ROOM];
+    run(&mut input, &mut out);
+}
