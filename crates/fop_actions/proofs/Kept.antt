@@ -1,0 +1,335 @@
+-- Every action keeps the work well formed. Most leave V(S), NN(R), the counts and the lengths alone; the others change them within their
+-- bounds.
+use mathlib.Core.Path.{_≡_, refl, _∙_}
+use mathlib.Core.Bool.{Bool, true, false}
+use mathlib.Core.List.{List, [], _∷_, _++_}
+use Prim.Native.Nat.{ℕ, zero, suc, _+_, _-_, _*_, _≤_, _<_}
+use native.Mathlib.Omega.{arith}
+use borrow.Author.Tests.{ltb-true}
+use lib.Dec.{ltb}
+use lib.ListN.{length, drop, getD, set, length-set}
+use lib.Seq.{getD-drop}
+use Rattle.base.specs.Choice.{pick}
+use Rattle.base.specs.Limits.{largestUnit}
+use Rattle.base.specs.Modulo.{advanced, offset}
+use Rattle.store.specs.Slid.{slid}
+use Rattle.store.proofs.Parts.{slid-length}
+use Rattle.fop.specs.Limits.{largestK}
+use Rattle.fop_actions.specs.declared.Alert.{Alert}
+use Rattle.fop_actions.specs.declared.Control.{Control}
+use Rattle.fop_actions.specs.declared.Control.the-variants as control
+use Rattle.fop_actions.specs.declared.Handed.{Handed}
+use Rattle.fop_actions.specs.declared.Response.{Response}
+use Rattle.fop_actions.specs.declared.Response.the-variants.{AcceptAdUnit, RejectAdUnit}
+use Rattle.fop_actions.specs.declared.State.{State}
+use Rattle.fop_actions.specs.declared.Work.{Work}
+use Rattle.fop_actions.specs.Parts.{withSettings, withVariables, withQueues, withTold}
+use Rattle.fop_actions.specs.Actions as act
+use Rattle.fop_actions.specs.Actions.{least, staying, removed}
+use Rattle.fop_actions.specs.Limits.{places}
+use Rattle.fop_actions.specs.View.{Formed, WellFormed}
+use Rattle.fop_actions.proofs.Offsets.{offset-between}
+
+-- The actions that leave them alone.
+module _ (w : Work) (store : List ℕ) (well : WellFormed w store) where
+  pub to-state : (s : State) → WellFormed (act.toState s w) store
+  unfolding act.toState
+  to-state s = well
+
+  pub start-timer : WellFormed (act.startTimer w) store
+  unfolding act.startTimer withVariables
+  start-timer = well
+
+  pub cancel-timer : WellFormed (act.cancelTimer w) store
+  unfolding act.cancelTimer withVariables
+  cancel-timer = well
+
+  pub ad-out-ready : WellFormed (act.adOutReady w) store
+  unfolding act.adOutReady withVariables
+  ad-out-ready = well
+
+  pub bc-out-ready : WellFormed (act.bcOutReady w) store
+  unfolding act.bcOutReady withVariables
+  bc-out-ready = well
+
+  pub bd-out-ready : WellFormed (act.bdOutReady w) store
+  unfolding act.bdOutReady withVariables
+  bd-out-ready = well
+
+  pub set-suspend-state : (n : ℕ) → WellFormed (act.setSuspendState n w) store
+  unfolding act.setSuspendState withVariables
+  set-suspend-state n = well
+
+  pub resume : WellFormed (act.resumed w) store
+  unfolding act.resumed act.setSuspendState act.startTimer withVariables
+  resume = well
+
+  pub set-k : (n : ℕ) → WellFormed (act.setK n w) store
+  unfolding act.setK withSettings
+  set-k n = well
+
+  pub set-t1-initial : (n : ℕ) → WellFormed (act.setT1Initial n w) store
+  unfolding act.setT1Initial withSettings
+  set-t1-initial n = well
+
+  pub set-transmission-limit : (n : ℕ) → WellFormed (act.setTransmissionLimit n w) store
+  unfolding act.setTransmissionLimit withSettings
+  set-transmission-limit n = well
+
+  pub set-timeout-type : (n : ℕ) → WellFormed (act.setTimeoutType n w) store
+  unfolding act.setTimeoutType withSettings
+  set-timeout-type n = well
+
+  pub respond : (r : Response) → WellFormed (act.respond r w) store
+  unfolding act.respond withTold
+  respond r = well
+
+  pub suspend : WellFormed (act.suspend w) store
+  unfolding act.suspend withTold
+  suspend = well
+
+  pub release-bc-frame : WellFormed (act.releaseBcFrame w) store
+  unfolding act.releaseBcFrame act.holdControl withQueues
+  release-bc-frame = well
+
+  transmit-bc : (c : Control) (h : Handed) → WellFormed (act.transmitBcFrame c h w) store
+  unfolding act.transmitBcFrame act.startTimer act.handDown act.holdControl withVariables withQueues withTold
+  transmit-bc c h = well
+
+  pub transmit-unlock : WellFormed (act.transmitUnlock w) store
+  unfolding act.transmitUnlock
+  transmit-unlock = transmit-bc _ _
+
+  pub transmit-set-vr : (n : ℕ) → WellFormed (act.transmitSetVr n w) store
+  unfolding act.transmitSetVr
+  transmit-set-vr n = transmit-bc _ _
+
+  pub transmit-bd : WellFormed (act.transmitBdFrame w) store
+  unfolding act.transmitBdFrame act.handDown withVariables withTold
+  transmit-bd = well
+
+  send-marked-control : (h : Handed) → WellFormed (act.sendMarkedControl h w) store
+  unfolding act.sendMarkedControl act.sendControl act.handDown act.holdControl withVariables withQueues withTold
+  send-marked-control h = by (w .variables .«bc_out») (w .queues .«control_marked») where
+    by : (a m : Bool) → WellFormed (pick a (pick m (act.sendControl h w) w) w) store
+    by true true = well
+    by true false = well
+    by false m = well
+
+  looked : (k : Control) → WellFormed (act.lookForDirectiveOf k w) store
+  unfolding act.lookForDirectiveOf
+  looked control.None = well
+  looked control.Unlock = send-marked-control _
+  looked (control.SetVr x) = send-marked-control _
+
+  pub look-for-directive : WellFormed (act.lookForDirective w) store
+  look-for-directive = looked (w .queues .control)
+
+  pub initiate-bc-retransmission : WellFormed (act.initiateBcRetransmission w) store
+  unfolding act.initiateBcRetransmission act.again act.startTimer act.abort act.holdControl withVariables withQueues withTold
+  initiate-bc-retransmission = well
+
+  -- The marks.
+  pub initiate-ad-retransmission : WellFormed (act.initiateAdRetransmission w) store
+  unfolding act.initiateAdRetransmission act.again act.startTimer act.abort withVariables withQueues withTold
+  initiate-ad-retransmission = record {
+    vs-octet = well .vs-octet;
+    nnr-octet = well .nnr-octet;
+    window = well .window;
+    outstanding = well .outstanding;
+    last = omega arith;
+    all-places = well .all-places;
+    units = well .units;
+    room = well .room;
+  }
+
+  one-fewer : (m s : ℕ) → 0 < m → m ≤ s → s ≤ largestK → offset m 1 ≤ s
+  one-fewer m s a b c = omega arith
+
+  send-marked : 0 < w .queues .marked → WellFormed (act.sendMarked w) store
+  unfolding act.sendMarked act.handDown withVariables withQueues withTold
+  send-marked h = record {
+    vs-octet = well .vs-octet;
+    nnr-octet = well .nnr-octet;
+    window = well .window;
+    outstanding = well .outstanding;
+    last = one-fewer (w .queues .marked) (w .queues .sent) h (well .last) (omega (arith, well .outstanding, well .window));
+    all-places = well .all-places;
+    units = well .units;
+    room = well .room;
+  }
+
+  -- One unit more.
+  next-octet : (n : ℕ) → advanced n 1 < 256
+  next-octet n = omega arith
+
+  next-offset : (vs nnr : ℕ) → vs < 256 → nnr < 256 → offset vs nnr < largestK → offset (advanced vs 1) nnr ≡ offset vs nnr + 1
+  next-offset vs nnr a b c = omega arith
+
+  next-count : (n : ℕ) → n ≤ largestK → advanced n 1 ≡ n + 1
+  next-count n h = omega arith
+
+  transmit-ad : w .settings .k ≤ largestK → act.inWindow w ≡ true → WellFormed (act.transmitAdFrame (act.respond AcceptAdUnit w)) store
+  unfolding act.transmitAdFrame act.inWindow act.respond act.startTimer act.handDown withVariables withQueues withTold
+  transmit-ad k i =
+      let a : offset (w .variables .vs) (w .variables .nnr) < largestK = omega (arith, ltb-true (offset (w .variables .vs) (w .variables .nnr)) (w .settings .k) i, k) in
+      let b : offset (advanced (w .variables .vs) 1) (w .variables .nnr) ≡ offset (w .variables .vs) (w .variables .nnr) + 1 =
+      next-offset (w .variables .vs) (w .variables .nnr) (well .vs-octet) (well .nnr-octet) a in
+      let c : advanced (w .queues .sent) 1 ≡ w .queues .sent + 1 = next-count (w .queues .sent) (omega (arith, well .outstanding, well .window)) in
+      record {
+        vs-octet = next-octet (w .variables .vs);
+        nnr-octet = well .nnr-octet;
+        window = rw b (omega arith);
+        outstanding = rw (b, c) (omega (arith, well .outstanding));
+        last = rw c (omega (arith, well .last));
+        all-places = well .all-places;
+        units = well .units;
+        room = well .room;
+      }
+
+  pub look-for-fdu : w .settings .k ≤ largestK → WellFormed (act.lookForFdu w) store
+  unfolding act.lookForFdu
+  look-for-fdu k = by (w .variables .«ad_out») (ltb 0 (w .queues .marked)) refl (w .queues .waiting) (act.inWindow w) refl where
+    by : (a m : Bool) → ltb 0 (w .queues .marked) ≡ m → (i r : Bool) → act.inWindow w ≡ r
+        → WellFormed (pick a (pick m (act.sendMarked w) (pick i (pick r (act.transmitAdFrame (act.respond AcceptAdUnit w)) w) w)) w) store
+    by false m x i r g = well
+    by true true x i r g = send-marked (ltb-true 0 (w .queues .marked) x)
+    by true false x true true g = transmit-ad k g
+    by true false x true false g = well
+    by true false x false r g = well
+
+  -- No unit.
+  empty : Formed (w .variables .vs) (w .variables .nnr) 0 0 (w .queues .lengths) store
+  empty = record {
+    vs-octet = well .vs-octet;
+    nnr-octet = well .nnr-octet;
+    window = well .window;
+    outstanding = omega arith;
+    last = omega arith;
+    all-places = well .all-places;
+    units = well .units;
+    room = well .room;
+  }
+
+  sent-purged : (k : Control) → WellFormed (act.denyControl k (act.emptied w)) store
+  unfolding act.denyControl act.respond act.emptied act.releaseBcFrame act.holdControl withQueues withTold
+  sent-purged control.None = empty
+  sent-purged control.Unlock = empty
+  sent-purged (control.SetVr x) = empty
+
+  pub purge-sent-queue : WellFormed (act.purgeSentQueue w) store
+  unfolding act.purgeSentQueue
+  purge-sent-queue = sent-purged (w .queues .control)
+
+  pub purge-wait-queue : WellFormed (act.purgeWaitQueue w) store
+  unfolding act.purgeWaitQueue act.notWaiting act.respond withQueues withTold
+  purge-wait-queue = by (w .queues .waiting) where
+    by : (b : Bool) → WellFormed (pick b (act.respond RejectAdUnit (act.notWaiting w)) w) store
+    by true = well
+    by false = well
+
+-- Both queues purged.
+both-purged : (w : Work) (store : List ℕ) → WellFormed w store → WellFormed (act.purgeWaitQueue (act.purgeSentQueue w)) store
+both-purged w store well = purge-wait-queue (act.purgeSentQueue w) store (purge-sent-queue w store well)
+
+pub alert : (w : Work) (store : List ℕ) (a : Alert) → WellFormed w store → WellFormed (act.alert a w) store
+unfolding act.alert act.notify withTold
+alert w store a well = both-purged (act.cancelTimer w) store (cancel-timer w store well)
+
+pub initialise : (w : Work) (store : List ℕ) → WellFormed w store → WellFormed (act.initialise w) store
+unfolding act.initialise act.countOne act.setSuspendState withVariables
+initialise w store well = both-purged w store well
+
+-- V(S) and NN(R) set to one number, with nothing on the sent queue.
+no-offset : (n : ℕ) → n < 256 → offset n n ≡ 0
+no-offset n h = omega arith
+
+pub set-numbers : (w : Work) (store : List ℕ) (n : ℕ) → WellFormed w store → w .queues .sent ≡ 0 → n < 256 → WellFormed (act.setNnr n (act.setVs n w)) store
+unfolding act.setNnr act.setVs withVariables
+set-numbers w store n well z h = record {
+  vs-octet = h;
+  nnr-octet = h;
+  window = rw (no-offset n h) (omega arith);
+  outstanding = rw (no-offset n h) (omega arith);
+  last = well .last;
+  all-places = well .all-places;
+  units = well .units;
+  room = well .room;
+}
+
+-- A list of lengths of units moved down, and one with a length more.
+append-units : (xs ys : List ℕ) → ((i : ℕ) → getD xs i 0 ≤ largestUnit) → ((i : ℕ) → getD ys i 0 ≤ largestUnit) → (i : ℕ) → getD (xs ++ ys) i 0 ≤ largestUnit
+append-units [] ys a b i = b i
+append-units (x ∷ xs) ys a b zero = a zero
+append-units (x ∷ xs) ys a b (suc i) = append-units xs ys (λ j. a (suc j)) b i
+
+drop-units : (k : ℕ) (xs : List ℕ) → ((i : ℕ) → getD xs i 0 ≤ largestUnit) → (i : ℕ) → getD (drop k xs) i 0 ≤ largestUnit
+drop-units k xs a i = rw (getD-drop k xs i 0) (a (k + i))
+
+slid-units : (k : ℕ) (xs : List ℕ) → ((i : ℕ) → getD xs i 0 ≤ largestUnit) → (i : ℕ) → getD (slid k xs) i 0 ≤ largestUnit
+unfolding slid
+slid-units k xs a = append-units (drop k xs) (drop (length xs - k) xs) (drop-units k xs a) (drop-units (length xs - k) xs a)
+
+set-units : (xs : List ℕ) (k x : ℕ) → x ≤ largestUnit → ((i : ℕ) → getD xs i 0 ≤ largestUnit) → (i : ℕ) → getD (set xs k x) i 0 ≤ largestUnit
+set-units [] k x h a i = a i
+set-units (y ∷ ys) zero x h a zero = h
+set-units (y ∷ ys) zero x h a (suc i) = a (suc i)
+set-units (y ∷ ys) (suc k) x h a zero = a zero
+set-units (y ∷ ys) (suc k) x h a (suc i) = set-units ys k x h (λ j. a (suc j)) i
+
+-- Remove acknowledged frames, by a number from NN(R) to V(S).
+least-second : (a b : ℕ) → least a b ≤ b
+least-second a b = by (ltb a b) refl where
+  by : (x : Bool) → ltb a b ≡ x → pick x a b ≤ b
+  by true e = omega (arith, ltb-true a b e)
+  by false e = omega arith
+
+module _ (w : Work) (store : List ℕ) (well : WellFormed w store) where
+  pub remove-acknowledged-frames : (n : ℕ) → n < 256 → offset n (w .variables .nnr) ≤ offset (w .variables .vs) (w .variables .nnr)
+      → WellFormed (act.removeAcknowledgedFrames n w) (slid (largestUnit * (w .queues .sent - staying n w)) store)
+  unfolding act.removeAcknowledgedFrames withVariables withQueues withTold
+  remove-acknowledged-frames n h i =
+      let b : offset (w .variables .vs) n ≡ offset (w .variables .vs) (w .variables .nnr) - offset n (w .variables .nnr) =
+      offset-between (w .variables .vs) (w .variables .nnr) n (well .vs-octet) (well .nnr-octet) h i in
+      record {
+        vs-octet = well .vs-octet;
+        nnr-octet = h;
+        window = rw b (omega (arith, well .window));
+        outstanding = least-second (w .queues .sent) (offset (w .variables .vs) n);
+        last = least-second (w .queues .marked) (staying n w);
+        all-places = slid-length (removed n w) (w .queues .lengths) ∙ well .all-places;
+        units = slid-units (removed n w) (w .queues .lengths) (well .units);
+        room = rw (slid-length (largestUnit * (w .queues .sent - staying n w)) store) (well .room);
+      }
+
+  -- Add to Wait_Queue.
+  set-lengths : (b : Bool) (x : ℕ) → x ≤ largestUnit
+      → Formed (w .variables .vs) (w .variables .nnr) (w .queues .sent) (w .queues .marked) (pick b (set (w .queues .lengths) (w .queues .sent) x) (w .queues .lengths)) store
+  set-lengths true x h = record {
+    vs-octet = well .vs-octet;
+    nnr-octet = well .nnr-octet;
+    window = well .window;
+    outstanding = well .outstanding;
+    last = well .last;
+    all-places = length-set (w .queues .lengths) (w .queues .sent) x ∙ well .all-places;
+    units = set-units (w .queues .lengths) (w .queues .sent) x h (well .units);
+    room = well .room;
+  }
+  set-lengths false x h = well
+
+  pub add-to-wait-queue : (x : ℕ) → x ≤ largestUnit → WellFormed (act.addToWaitQueue x w) store
+  unfolding act.addToWaitQueue withQueues
+  add-to-wait-queue x h = set-lengths (ltb (w .queues .sent) places) x h
+
+-- the store after a unit is put into it, or any other of its length
+pub other-store : (w : Work) (store after : List ℕ) → WellFormed w store → length after ≡ length store → WellFormed w after
+other-store w store after well e = record {
+  vs-octet = well .vs-octet;
+  nnr-octet = well .nnr-octet;
+  window = well .window;
+  outstanding = well .outstanding;
+  last = well .last;
+  all-places = well .all-places;
+  units = well .units;
+  room = rw e (well .room);
+}

@@ -1,0 +1,15 @@
+-- What the callees ensure, put together, is the definition.
+use Rattle.fop_actions.specs.Actions.{inWindow}
+use borrow.Author.Needs.{needs}
+use Rattle.fop_actions.proofs.transmit.in_window.Statement.{statement}
+use Rattle.fop_actions.proofs.transmit.in_window.Tie as tie
+
+difference-requires : tie.Need-difference-requires
+difference-requires c κs = search needs
+
+returns : tie.Need-returns
+unfolding inWindow
+returns c = cc
+
+pub in-window-spec : {M : Type 1} → statement M
+in-window-spec = tie.close (tie.spec difference-requires returns)

@@ -1,0 +1,16 @@
+-- What the callees ensure, put together, is the definition.
+use Rattle.fop_actions.specs.Parts.{withQueues}
+use Rattle.fop_actions.specs.Actions.{initiateAdRetransmission}
+use borrow.Author.Needs.{needs}
+use Rattle.fop_actions.proofs.transmit.initiate_ad_retransmission.Statement.{statement}
+use Rattle.fop_actions.proofs.transmit.initiate_ad_retransmission.Tie as tie
+
+again-requires : tie.Need-again-requires
+again-requires c κs = search needs
+
+returns : tie.Need-returns
+unfolding initiateAdRetransmission withQueues
+returns c = cc
+
+pub initiate-ad-retransmission-spec : {M : Type 1} → statement M
+initiate-ad-retransmission-spec = tie.close (tie.spec again-requires returns)

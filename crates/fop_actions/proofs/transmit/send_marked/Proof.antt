@@ -1,0 +1,32 @@
+-- What the callees ensure, put together, is the definition.
+use Rattle.fop_actions.specs.Parts.{withQueues, withVariables}
+use Rattle.fop_actions.specs.Actions.{sendMarked}
+use borrow.Author.Needs.{needs}
+use Rattle.fop_actions.proofs.transmit.send_marked.Statement.{statement}
+use Rattle.fop_actions.proofs.transmit.send_marked.Tie as tie
+
+difference-requires : tie.Need-difference-requires
+difference-requires c κs = search needs
+
+difference-requires-2 : tie.Need-difference-requires-2
+difference-requires-2 c κs = search needs
+
+difference-requires-3 : tie.Need-difference-requires-3
+difference-requires-3 c κs = search needs
+
+hand-down-requires : tie.Need-hand-down-requires
+hand-down-requires c κs = search needs
+
+returns : tie.Need-returns
+unfolding sendMarked withQueues withVariables
+returns c = cc
+
+pub send-marked-spec : {M : Type 1} → statement M
+send-marked-spec =
+    tie.close
+    (tie.spec
+    difference-requires
+    difference-requires-2
+    difference-requires-3
+    hand-down-requires
+    returns)

@@ -1,0 +1,42 @@
+-- A turn of the loop that moves a list down: the first i numbers are those of the rest, and the others are as they were.
+use mathlib.Core.Path.{_≡_, sym, ap, _∙_}
+use mathlib.Core.List.{List, _++_}
+use Prim.Native.Nat.{ℕ, _+_, _-_, _<_, _≤_}
+use native.Mathlib.Nat.{add-comm}
+use native.Mathlib.Omega.{arith}
+use lib.ListN.{length, getD, take, drop, set, length-drop, drop-of-length-le}
+use lib.Seq.{getD-drop, getD-append-add, length-take-le}
+use Rattle.base.proofs.Lists.{store-by, stored}
+use Rattle.store.specs.Slid.{slid}
+
+-- what the loop has not reached yet is as it was
+ahead : (s l : List ℕ) (count i : ℕ) → count + i < length s → l ≡ take i (drop count s) ++ drop i s → getD l (count + i) 0 ≡ getD (drop count s) i 0
+ahead s l count i h e =
+    let p : List ℕ = take i (drop count s) in
+    let lp : length p ≡ i = length-take-le i (drop count s) (rw (length-drop count s) (omega arith)) in
+    ap (λ (x : List ℕ). getD x (count + i) 0) e
+    ∙ ap (λ (n : ℕ). getD (p ++ drop i s) n 0) (add-comm count i ∙ ap (λ (n : ℕ). n + count) (sym lp))
+    ∙ getD-append-add p (drop i s) count 0
+    ∙ getD-drop i s count 0
+    ∙ ap (λ (n : ℕ). getD s n 0) (add-comm i count)
+    ∙ sym (getD-drop count s i 0)
+
+pub step : (s l : List ℕ) (count i : ℕ) → count + i < length s → l ≡ take i (drop count s) ++ drop i s
+    → set l i (getD l (count + i) 0) ≡ take (i + 1) (drop count s) ++ drop (i + 1) s
+step s l count i h e =
+    store-by (drop count s) s l i (getD l (count + i) 0) e (ahead s l count i h e) (rw (length-drop count s) (omega arith)) (omega arith)
+
+-- all are moved
+pub end : (s l : List ℕ) (count i : ℕ) → i ≤ length s - count → length s - count ≤ i → l ≡ take i (drop count s) ++ drop i s → l ≡ slid count s
+unfolding slid
+end s l count i a b e =
+    let n : length (drop count s) ≡ length s - count = length-drop count s in
+    let q : i ≡ length (drop count s) = omega arith in
+    e ∙ stored (drop count s) s i q ∙ ap (λ (k : ℕ). drop count s ++ drop k s) n
+
+-- a list that is shorter stays
+pub short : (s : List ℕ) (count : ℕ) → length s < count → s ≡ slid count s
+unfolding slid
+short s count h =
+    let q : length s - count ≡ 0 = omega arith in
+    sym (ap (λ (x : List ℕ). x ++ drop (length s - count) s) (drop-of-length-le s {i = count} (omega arith)) ∙ ap (λ (k : ℕ). drop k s) q)

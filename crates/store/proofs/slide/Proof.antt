@@ -1,0 +1,67 @@
+-- The loop's invariant: the first i numbers are those of the rest, and the others are as they were.
+use mathlib.Core.Path.{_≡_, refl}
+use mathlib.Core.List.{_++_}
+use Prim.Native.Nat.{_-_, _≤_}
+use native.Mathlib.Omega.{arith}
+use borrow.Author.Needs.{needs}
+use lib.ListN.{length, take, drop, length-set}
+use Rattle.store.proofs.Steps.{step, end, short}
+use Rattle.store.proofs.slide.Statement.{statement}
+use Rattle.store.proofs.slide.Tie as tie
+
+abbrev Inv-loop : tie.InvT-loop
+Inv-loop s₀ count rest i₀ s i = (s ≡ take i (drop count s₀) ++ drop i s₀) × (i ≤ rest) × (length s ≡ length s₀)
+
+abbrev μ-loop : tie.MeasureT-loop
+μ-loop s₀ count rest i₀ s i = rest - i
+
+sub-rest : tie.Need-sub-rest Inv-loop μ-loop
+sub-rest c = omega arith
+
+loop-holds : tie.Need-loop-holds Inv-loop μ-loop
+loop-holds c = (refl, search needs, refl)
+
+add-octet : tie.Need-add-octet Inv-loop μ-loop
+add-octet c = omega arith
+
+slice-read-octet : tie.Need-slice-read-octet Inv-loop μ-loop
+slice-read-octet c = omega arith
+
+slice-write-memory : tie.Need-slice-write-memory Inv-loop μ-loop
+slice-write-memory c = omega arith
+
+add-i : tie.Need-add-i Inv-loop μ-loop
+add-i c = omega arith
+
+loop-less : tie.Need-loop-less Inv-loop μ-loop
+loop-less c = omega arith
+
+loop-again : tie.Need-loop-again Inv-loop μ-loop
+loop-again c = (step _ _ _ _ (omega arith) (c .before .before .loop .inv .0), omega arith, simp length-set (search needs))
+
+same-length : tie.Need-same-length Inv-loop μ-loop
+same-length c = search needs
+
+returns : tie.Need-returns Inv-loop μ-loop
+returns c = search end
+
+returns-2 : tie.Need-returns-2 Inv-loop μ-loop
+returns-2 c = search short
+
+pub slide-spec : {M : Type 1} → statement M
+slide-spec =
+    tie.close
+    (tie.spec
+    Inv-loop
+    μ-loop
+    sub-rest
+    loop-holds
+    add-octet
+    slice-read-octet
+    slice-write-memory
+    add-i
+    loop-less
+    loop-again
+    same-length
+    returns
+    returns-2)
