@@ -24,7 +24,7 @@ progress session line = record { session = session; line = line }
 abbrev pub atStart : Progress
 atStart = progress Fresh []
 
--- of a console
+-- of a console: what its array holds behind the octets kept shows nowhere
 abbrev pub progressOf : Console → Progress
 progressOf c = progress (c .session) (take (c .len) (c .kept))
 

@@ -18,6 +18,12 @@ ghost use Rattle.console.specs.Console.{textOf};
 ghost use Rattle.console.specs.Feed.{progress, progressOf, atStart, keptWith, endOf, lastText, rowRoom, feeding, fedNext};
 ghost use Rattle.console.specs.Steps.{Stepped, Ran};
 
+// A row's octets at the most.
+pub const ROW_ROOM: usize = 20;
+
+// Octets of a line that are kept: one more than a line may have, so that a longer one still shows.
+const MOST_KEPT: usize = 64;
+
 // What a line says.
 pub enum Line {
     Set(u8, u8, u8),
@@ -49,10 +55,10 @@ pub struct Turn {
     pub output: Output,
 }
 
-// The session, and the line under way, of which len octets are kept, 64 at the most. No other crate can write one.
+// The session, and the line under way, of which len octets are kept. No other crate can write one.
 pub struct Console {
     session: Session,
-    kept: [u8; 64],
+    kept: [u8; MOST_KEPT],
     len: usize,
 }
 
@@ -86,7 +92,7 @@ impl Console {
     {
         Console {
             session: Session::Fresh,
-            kept: [0; 64],
+            kept: [0; MOST_KEPT],
             len: 0,
         }
     }
@@ -98,7 +104,7 @@ impl Console {
         let session = self.session;
         let kept = self.kept;
         let len = self.len;
-        if len < 64 {
+        if len < MOST_KEPT {
             return session.turn(Line::read(&kept[..len]));
         }
         session.turn(Line::read(&kept))
@@ -111,7 +117,7 @@ impl Console {
         let session = self.session;
         let mut kept = self.kept;
         let len = self.len;
-        if len < 64 {
+        if len < MOST_KEPT {
             kept[len] = octet;
             return Console {
                 session: session,
@@ -176,7 +182,7 @@ impl Console {
         ensures memory { λ r. ⌜ now (out .exit) ≡ after (feeding (progressOf self) (now (chunk .entry)) (length (now (out .entry)))) (now (out .entry)) ⌝ }
         ensures next { λ r. ⌜ progressOf (r .console) ≡ fedNext (progressOf self) (now (chunk .entry)) (length (now (out .entry))) ⌝ }
     {
-        if out.len() / 20 < chunk.len() {
+        if out.len() / ROW_ROOM < chunk.len() {
             return Fed {
                 written: Written::Room,
                 console: self,
@@ -191,10 +197,11 @@ impl Console {
         }
     }
 
-    // The end of the input: writes the row of a last line without a newline. A refusal changes nothing.
+    // The end of the input: writes the row of a last line without a newline, 20 octets at the most. A refusal changes nothing.
     pub fn finish(self, out: &mut [u8]) -> Written
         ensures answer { λ r. ⌜ writtenAnswer r ≡ answer (written (lastText (progressOf self)) (length (now (out .entry)))) ⌝ }
         ensures memory { λ r. ⌜ now (out .exit) ≡ after (written (lastText (progressOf self)) (length (now (out .entry)))) (now (out .entry)) ⌝ }
+        ensures most { λ r. ⌜ length (lastText (progressOf self)) ≤ rowRoom ⌝ }
     {
         if self.len == 0 {
             return Written::Done(0);

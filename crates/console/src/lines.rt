@@ -6,6 +6,9 @@ ghost use mathlib.Core.List.{[], _∷_};
 ghost use Rattle.text.specs.Fields.{fieldsOf};
 ghost use Rattle.console.specs.Line.{numberOf, adLine, setVrLine, setLine, byFields, lineOf};
 
+// Document 01: a line over 63 octets is refused.
+const LONGEST_LINE: usize = 63;
+
 // One field.
 fn one(word: &[u8]) -> Line
     ensures { λ r. ⌜ r ≡ byFields (now (word .entry) ∷ []) ⌝ }
@@ -111,7 +114,7 @@ impl Line {
     pub fn read(line: &[u8]) -> Line
         ensures { λ r. ⌜ r ≡ lineOf (now (line .entry)) ⌝ }
     {
-        if 63 < line.len() {
+        if LONGEST_LINE < line.len() {
             return Line::Malformed;
         }
         let c = text::cut(line);

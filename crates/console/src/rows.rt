@@ -1,5 +1,6 @@
 // A row's octets, and the header's.
 use crate::Output;
+use crate::ROW_ROOM;
 use farm::Event;
 use farm::State;
 use farm::Variables;
@@ -140,7 +141,7 @@ impl Output {
         ensures memory { λ r. ⌜ now (out .exit) ≡ after (written (textOf self) (length (now (out .entry)))) (now (out .entry)) ⌝ }
         ensures most { λ r. ⌜ length (textOf self) ≤ rowRoom ⌝ }
     {
-        let mut row = [0u8; 20];
+        let mut row = [0u8; ROW_ROOM];
         let n = compose(&mut row, self);
         send(&row[..n], out)
     }

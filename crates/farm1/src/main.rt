@@ -1,18 +1,23 @@
 // Reads lines of events from standard input, and writes a row for each (document 01, "The program"). What is written is the
 // console's: see proofs/Program of that crate. Here are only the reading and the writing.
 use console::Console;
+use console::ROW_ROOM;
 use libc::STDIN_FILENO;
 use libc::STDOUT_FILENO;
 use text::Written;
-ghost use Prim.Native.Nat.{_≤_};
+ghost use mathlib.Core.Path.{_≡_};
+ghost use Prim.Native.Nat.{_*_, _≤_};
 ghost use lib.ListN.{length};
-ghost use Rattle.base.specs.Outcome.{countOf};
+ghost use Rattle.base.specs.Outcome.{numberOf, countOf};
 ghost use Rattle.text.specs.Answers.{writtenAnswer};
+ghost use Rattle.console.specs.Console.{headerText};
+ghost use Rattle.console.specs.Feed.{rowRoom};
 
-// Octets read at once, and 20 octets of output for each.
+// Octets read at once.
 const CHUNK: usize = 2048;
 
-const ROOM: usize = 40960;
+// Octets of output: a row's for each octet read.
+const ROOM: usize = CHUNK * ROW_ROOM;
 
 enum Went {
     On,
@@ -26,18 +31,20 @@ struct Step {
     went: Went,
 }
 
-// Writes what stands at the front of the output; false where that fails.
+// Writes what stands at the front of the output; false where that fails. Nothing is ever refused here for want of room.
 fn emit(written: Written, out: &[u8]) -> bool
-    requires { ⌜ countOf (writtenAnswer written) ≤ length (now out) ⌝ }
+    requires { ⌜ (numberOf (writtenAnswer written) ≡ 0) × (countOf (writtenAnswer written) ≤ length (now out)) ⌝ }
 {
-    match written {
-        Written::Done(n) => io::write_all(STDOUT_FILENO, &out[..n]),
-        Written::Room => false,
-    }
+    let Written::Done(n) = written else {
+        return false;
+    };
+    io::write_all(STDOUT_FILENO, &out[..n])
 }
 
 // One read of the input. A read that fails counts as the end.
-fn some(console: Console, input: &mut [u8], out: &mut [u8]) -> Step {
+fn some(console: Console, input: &mut [u8], out: &mut [u8]) -> Step
+    requires { ⌜ length (now input) * rowRoom ≤ length (now out) ⌝ }
+{
     let got = libc::read(STDIN_FILENO, input);
     if got <= 0 {
         return Step {
@@ -62,7 +69,9 @@ fn some(console: Console, input: &mut [u8], out: &mut [u8]) -> Step {
 }
 
 // All of the input. A proved loop has to end, so the reads are counted down from a number that no run uses up.
-fn all(input: &mut [u8], out: &mut [u8]) -> Step {
+fn all(input: &mut [u8], out: &mut [u8]) -> Step
+    requires { ⌜ length (now input) * rowRoom ≤ length (now out) ⌝ }
+{
     let start = Console::new();
     let mut step = Step {
         console: start,
@@ -82,7 +91,9 @@ fn all(input: &mut [u8], out: &mut [u8]) -> Step {
 }
 
 // The header, the rows, and the row of a last line without a newline.
-fn run(input: &mut [u8], out: &mut [u8]) {
+fn run(input: &mut [u8], out: &mut [u8])
+    requires { ⌜ (length (now input) * rowRoom ≤ length (now out)) × (length headerText ≤ length (now out)) × (rowRoom ≤ length (now out)) ⌝ }
+{
     let header = console::rows::header(out);
     if !emit(header, out) {
         return;

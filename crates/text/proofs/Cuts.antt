@@ -11,15 +11,6 @@ use Rattle.base.specs.Choice.{pick}
 use Rattle.text.specs.Fields.{tab, before, fieldsOf}
 use Rattle.text.specs.Cut.{cutOf}
 
-pub cut-within : (s : List ℕ) → cutOf s ≤ length s
-unfolding cutOf
-cut-within [] = omega arith
-cut-within (c ∷ s) = go (eqb c tab) (cut-within s)
-  where
-    go : (b : Bool) → cutOf s ≤ length s → pick b 0 (suc (cutOf s)) ≤ suc (length s)
-    go true h = omega arith
-    go false h = omega arith
-
 -- a tab stands there
 pub fields-cut : (s : List ℕ) → cutOf s < length s → fieldsOf s ≡ take (cutOf s) s ∷ fieldsOf (drop (cutOf s + 1) s)
 unfolding cutOf fieldsOf

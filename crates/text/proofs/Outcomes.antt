@@ -36,3 +36,7 @@ within (Outcome.refused number place) old e = omega arith
 pub count-within : (o : Outcome (Unit {0})) (old out : List ℕ) (w : Written) → writtenAnswer w ≡ answer o → out ≡ after o old → length out ≡ length old
     → countOf (writtenAnswer w) ≤ length out
 count-within o old out w a m l = omega (arith, ap countOf a, within o old (ap length (sym m) ∙ l))
+
+-- and nothing is refused where the outcome is done
+pub number-done : (o : Outcome (Unit {0})) (octets : List ℕ) (w : Written) → writtenAnswer w ≡ answer o → o ≡ done octets tt → numberOf (writtenAnswer w) ≡ 0
+number-done o octets w a d = ap numberOf a ∙ ap (λ x. numberOf (answer x)) d

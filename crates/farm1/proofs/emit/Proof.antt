@@ -1,7 +1,7 @@
 -- What was written lies within the output.
 use borrow.Author.Needs.{needs}
-use native.Mathlib.Omega.{arith}
 use mathlib.Core.Path.{ap}
+use native.Mathlib.Omega.{arith}
 use lib.ListN.{length-take}
 use Rattle.base.specs.Outcome.{countOf}
 use Rattle.text.specs.Answers.{writtenAnswer}
@@ -12,6 +12,12 @@ use Rattle.farm1.proofs.emit.Tie as tie
 enum-known-written : tie.Need-enum-known-written
 enum-known-written c = search needs
 
+enum-told : tie.Need-enum-told
+enum-told c = search needs
+
+returns : tie.Need-returns
+returns c = search needs
+
 slice-aggregate-write-all : tie.Need-slice-aggregate-write-all
 slice-aggregate-write-all c =
     let t = ap (λ (w : Written). countOf (writtenAnswer w)) (c .before .before .written .given .1) in
@@ -19,12 +25,6 @@ slice-aggregate-write-all c =
 
 write-all-requires : tie.Need-write-all-requires
 write-all-requires c κs = search needs
-
-enum-told : tie.Need-enum-told
-enum-told c = search needs
-
-returns : tie.Need-returns
-returns c = search needs
 
 returns-2 : tie.Need-returns-2
 returns-2 c = search needs
@@ -34,8 +34,8 @@ emit-spec =
     tie.close
     (tie.spec
     enum-known-written
-    slice-aggregate-write-all
-    write-all-requires
     enum-told
     returns
+    slice-aggregate-write-all
+    write-all-requires
     returns-2)

@@ -1,11 +1,14 @@
--- What the console wrote lies within the output.
+-- The output has room for the header and for a row, so the console never refuses them.
 use borrow.Author.Needs.{needs}
+use Prim.Native.Nat.{_≤_}
+use mathlib.Core.Path.{_≡_}
+use native.Mathlib.Omega.{arith}
 use denote.Ref.{now}
 use lib.ListN.{length}
 use Rattle.text.specs.Answers.{written}
-use Rattle.text.proofs.Outcomes.{count-within}
+use Rattle.text.proofs.Outcomes.{written-done, count-within, number-done}
 use Rattle.console.specs.Console.{headerText}
-use Rattle.console.specs.Feed.{progressOf, lastText}
+use Rattle.console.specs.Feed.{progressOf, lastText, rowRoom}
 use Rattle.farm1.proofs.run.Statement.{statement}
 use Rattle.farm1.proofs.run.Tie as tie
 
@@ -16,7 +19,10 @@ emit-requires : tie.Need-emit-requires
 emit-requires c κs =
     let out = now (c .before .before .before .before .before .before .before .args .out) in
     let h = c .before .before .before .header in
-    count-within (written headerText (length out)) out (h .last .0) (h .result) (h .ensures .0) (h .ensures .1) (c .before .before .out .given)
+    let o = written headerText (length out) in (
+      number-done o headerText (h .result) (h .ensures .0) (written-done headerText (length out) (omega arith)),
+      count-within o out (h .last .0) (h .result) (h .ensures .0) (h .ensures .1) (c .before .before .out .given),
+    )
 
 same-length : tie.Need-same-length
 same-length c = search needs
@@ -47,7 +53,15 @@ emit-requires-2 c κs =
     let l = c .before .before .before .before .before .before .before .before .before .before .before .all in
     let out = l .last .1 .0 in
     let f = c .before .before .before .finish in
-    count-within (written (lastText (progressOf (l .result .console))) (length out)) out (f .last .1 .0) (f .result) (f .ensures .0) (f .ensures .1) (c .before .before .out3 .given)
+    let t = lastText (progressOf (l .result .console)) in
+    let o = written t (length out) in
+    let m : length t ≤ rowRoom = f .ensures .1 .1 in
+    let k : length out ≡ length (c .before .before .before .before .before .before .before .before .before .before .before .before .before .before .before .before .before .before .before .header .last .0) = c .before .before .before .before .before .before .before .before .out2 .given in
+    let j : length (c .before .before .before .before .before .before .before .before .before .before .before .before .before .before .before .before .before .before .before .header .last .0) ≡ length (now (c .before .before .before .before .before .before .before .before .before .before .before .before .before .before .before .before .before .before .before .before .before .before .before .args .out)) = c .before .before .before .before .before .before .before .before .before .before .before .before .before .before .before .before .before .before .out .given in
+    let h : length t ≤ length out = omega (arith, c .before .before .before .before .before .before .before .before .before .before .before .before .before .before .before .before .before .before .before .before .before .before .before .pre .2) in (
+      number-done o t (f .result) (f .ensures .0) (written-done t (length out) h),
+      count-within o out (f .last .1 .0) (f .result) (f .ensures .0) (f .ensures .1 .0) (c .before .before .out3 .given),
+    )
 
 same-length-4 : tie.Need-same-length-4
 same-length-4 c = search needs

@@ -1,9 +1,12 @@
--- What the console wrote lies within the output.
+-- The output has room for the rows of what is read, so the console never refuses it.
 use borrow.Author.Needs.{needs}
+use Prim.Native.Nat.{_*_, _≤_}
+use native.Mathlib.Omega.{arith}
 use denote.Ref.{now}
-use lib.ListN.{length, take}
-use Rattle.console.specs.Feed.{progressOf, feeding}
-use Rattle.text.proofs.Outcomes.{count-within}
+use lib.ListN.{length, take, length-take}
+use Rattle.text.proofs.Outcomes.{count-within, number-done}
+use Rattle.console.specs.Feed.{progressOf, chunkText, rowRoom, feeding}
+use Rattle.console.proofs.Feeding.{fed-done}
 use Rattle.farm1.proofs.some.Statement.{statement}
 use Rattle.farm1.proofs.some.Tie as tie
 
@@ -31,10 +34,16 @@ feed-requires c κs = search needs
 emit-requires : tie.Need-emit-requires
 emit-requires c κs =
     let a = c .before .before .before .before .before .before .before .before .before .before .before .before .before .before .before .before .args in
-    let chunk = take (c .before .before .before .before .before .before .before .count .result) (c .before .before .before .before .before .before .before .before .before .before .before .before .read .last .1 .0) in
+    let n = c .before .before .before .before .before .before .before .count .result in
+    let input = c .before .before .before .before .before .before .before .before .before .before .before .before .read .last .1 .0 in
+    let out = now (a .out) in
     let f = c .before .before .before .before .feed in
-    count-within (feeding (progressOf (a .console)) chunk (length (now (a .out)))) (now (a .out)) (f .last .1 .1 .0) (f .result .written) (f .ensures .0) (f .ensures .1 .0)
-    (c .before .before .before .out .given)
+    let p = progressOf (a .console) in
+    let o = feeding p (take n input) (length out) in
+    let h : length (take n input) * rowRoom ≤ length out = omega (arith, length-take n input, c .before .before .before .before .before .before .before .before .before .before .before .input .given) in (
+      number-done o (chunkText p (take n input)) (f .result .written) (f .ensures .0) (fed-done p (take n input) (length out) h),
+      count-within o out (f .last .1 .1 .0) (f .result .written) (f .ensures .0) (f .ensures .1 .0) (c .before .before .before .out .given),
+    )
 
 same-length-2 : tie.Need-same-length-2
 same-length-2 c = search needs

@@ -22,7 +22,8 @@ returns c =
     let a = c .before .before .before .args in
     let p = progressOf (a .self) in
     let e : lastText p ≡ [] = last-none p (simp length-take (omega arith)) in
-    told (ap (λ (t : List ℕ). written t (length (now (a .out)))) e ∙ written-done [] (length (now (a .out))) (omega arith)) (now (a .out))
+    let t = told (ap (λ (t : List ℕ). written t (length (now (a .out)))) e ∙ written-done [] (length (now (a .out))) (omega arith)) (now (a .out)) in
+    (t .0, (t .1, omega (arith, ap length e)))
 
 end-requires : tie.Need-end-requires
 end-requires c κs = search needs
@@ -40,10 +41,8 @@ returns-2 c =
     let l : length (a .self .kept) ≡ 64 = search needs in
     let n : length (p .line) ≡ 0 → ⊥ = λ z. omega (arith, length-take (a .self .len) (a .self .kept)) in
     let e : textOf (c .before .before .before .before .end .result .output) ≡ lastText p = ap (λ (t : Turn). textOf (t .output)) (c .before .before .before .before .end .ensures) ∙ sym (last-some p n) in
-    let w = c .before .before .write in (
-      w .ensures .0 ∙ ap (λ (t : List ℕ). answer (written t (length (now (a .out))))) e,
-      w .ensures .1 .0 ∙ ap (λ (t : List ℕ). after (written t (length (now (a .out)))) (now (a .out))) e,
-    )
+    let w = c .before .before .write in
+    (w .ensures .0 ∙ ap (λ (t : List ℕ). answer (written t (length (now (a .out))))) e, (w .ensures .1 .0 ∙ ap (λ (t : List ℕ). after (written t (length (now (a .out)))) (now (a .out))) e, omega (arith, w .ensures .1 .1, ap length e)))
 
 pub finish-spec : {M : Type 1} → statement M
 finish-spec = tie.close (tie.spec returns end-requires write-requires same-length returns-2)
