@@ -1,4 +1,5 @@
 -- The actions of clause 7.9.2 and of table 7-8, on the work by value.
+-- They follow the struct's layout. The standard's own rendering is crate fop, specs/Machine; proofs/View… ties each of these to it.
 use Prim.Native.Nat.{ℕ, _+_, _-_}
 use mathlib.Core.Bool.{Bool, true, false}
 use lib.Dec.{eqb, ltb}

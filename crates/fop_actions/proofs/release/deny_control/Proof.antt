@@ -1,5 +1,7 @@
 -- Each way through the function is a case of the definition.
-use Rattle.fop_actions.specs.Actions.{denyControl}
+use mathlib.Core.Path.{_≡_}
+use Rattle.fop_actions.specs.declared.Response.the-variants.{DenyDirective}
+use Rattle.fop_actions.specs.Actions.{denyControl, respond}
 use Rattle.fop_actions.proofs.Ways.{deny-none}
 use borrow.Author.Needs.{needs}
 use Rattle.fop_actions.proofs.release.deny_control.Statement.{statement}
@@ -25,7 +27,9 @@ returns c = search deny-none
 
 returns-2 : tie.Need-returns-2
 unfolding denyControl
-returns-2 c = cc
+returns-2 c =
+    let told : c .respond .result ≡ respond DenyDirective (c .before .before .before .args .work) = c .respond .ensures in
+    cc
 
 returns-3 : tie.Need-returns-3
 unfolding denyControl

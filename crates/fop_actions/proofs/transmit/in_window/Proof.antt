@@ -1,5 +1,8 @@
 -- What the callees ensure, put together, is the definition.
 use Rattle.fop_actions.specs.Actions.{inWindow}
+use mathlib.Core.Path.{ap}
+use Prim.Native.Nat.{ℕ}
+use lib.Dec.{ltb}
 use borrow.Author.Needs.{needs}
 use Rattle.fop_actions.proofs.transmit.in_window.Statement.{statement}
 use Rattle.fop_actions.proofs.transmit.in_window.Tie as tie
@@ -9,7 +12,7 @@ difference-requires c κs = search needs
 
 returns : tie.Need-returns
 unfolding inWindow
-returns c = cc
+returns c = ap (λ (d : ℕ). ltb d (c .before .args .work .settings .k)) (c .difference .ensures)
 
 pub in-window-spec : {M : Type 1} → statement M
 in-window-spec = tie.close (tie.spec difference-requires returns)

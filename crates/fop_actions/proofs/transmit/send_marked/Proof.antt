@@ -1,4 +1,6 @@
 -- What the callees ensure, put together, is the definition.
+use mathlib.Core.Path.{_≡_}
+use Rattle.base.specs.Modulo.{offset}
 use Rattle.fop_actions.specs.Parts.{withQueues, withVariables}
 use Rattle.fop_actions.specs.Actions.{sendMarked}
 use borrow.Author.Needs.{needs}
@@ -19,7 +21,11 @@ hand-down-requires c κs = search needs
 
 returns : tie.Need-returns
 unfolding sendMarked withQueues withVariables
-returns c = cc
+returns c =
+    let w = c .before .before .before .before .before .before .args .work in
+    let oldest : c .before .before .before .before .difference2 .result ≡ offset (w .queues .sent) (w .queues .marked) =
+    c .before .before .before .before .difference2 .ensures in
+    cc
 
 pub send-marked-spec : {M : Type 1} → statement M
 send-marked-spec =
