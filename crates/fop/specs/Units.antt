@@ -4,6 +4,7 @@ use mathlib.Core.List.{List, [], _∷_}
 use Prim.Native.Nat.{ℕ}
 use lib.Dec.{leb, ltb}
 use lib.ListN.{length}
+use Rattle.base.specs.Choice.{pick}
 use Rattle.base.specs.Limits.{largestUnit}
 use Rattle.frame.specs.Frame.{frameOf}
 use Rattle.frame.specs.declared.Kind.the-variants as kind
@@ -81,6 +82,6 @@ heard reading.Invalid = invalid
 heard reading.Address = other 7
 heard reading.Length = other 10
 
--- any octets, heard at our channel
+-- any octets, heard at our channel; a list with a number above 255 is no octets, and so "a CLCW not of four octets"
 unfoldable pub readWord : Own → List ℕ → Heard
-readWord own s = heard (readingOf s (own .channel))
+readWord own s = heard (pick (areOctets s) (readingOf s (own .channel)) reading.Length)

@@ -75,7 +75,7 @@ module _ (lengths store u : List ℕ) (f p sent : ℕ) (few : sent < places) (ll
   abbrev put : List ℕ
   put = placed store (largestUnit * sent) u
 
-  unit-same : (i : ℕ) → i < sent → unitAt (set lengths sent (length u)) i put ≡ unitAt lengths i store
+  pub unit-same : (i : ℕ) → i < sent → unitAt (set lengths sent (length u)) i put ≡ unitAt lengths i store
   unit-same i h =
       ap (λ (x : ℕ). take x (drop (largestUnit * i) put)) (set-other lengths i sent (length u) h (omega arith))
       ∙ part-same store u (largestUnit * sent) room (largestUnit * i) (getD lengths i 0) (omega (arith, units i))

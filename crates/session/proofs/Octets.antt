@@ -1,13 +1,14 @@
 -- What is written reads back: frames of legal units (by crate frame's `frame-back` and `data-back`) and control words (by crate clcw's
 -- `word-back`).
-use mathlib.Core.Path.{_≡_, refl, ap}
+use mathlib.Core.Path.{_≡_, refl, ap, _∙_}
 use mathlib.Core.Bool.{Bool, true, false, _&&_, false≢true}
 use mathlib.Core.List.{List, [], _∷_, append-nil}
-use Prim.Native.Nat.{ℕ, _+_, _≤_, _<_}
+use Prim.Native.Nat.{ℕ, _+_, _*_, _≤_, _<_}
 use native.Mathlib.Omega.{arith}
 use lib.Dec.{leb, ltb}
 use lib.ListN.{length}
-use borrow.Author.Tests.{leb-true, ltb-true}
+use borrow.Author.Tests.{leb-true, ltb-true, lt-ltb}
+use Rattle.base.specs.Choice.{pick}
 use Rattle.base.specs.Octets.{Octets}
 use Rattle.fop.specs.Units.{Fdu, Frame, AD, BD, Word, valid, Own, areOctets, legal, written, wordOctets, readWord, heard}
 use Rattle.frame.specs.Frame.{frameOf, dataOf}
@@ -16,6 +17,11 @@ use Rattle.frame.specs.declared.Kind.{Kind}
 use Rattle.frame.specs.declared.Kind.the-variants as kind
 use Rattle.frame.specs.declared.Reading.the-variants as reading
 use Rattle.frame.proofs.Back as fback
+use Rattle.clcw.specs.Clcw.{bitOf, clcwOf}
+use Rattle.clcw.specs.Answers as wordReading
+use Rattle.clcw.specs.declared.Clcw.{Clcw}
+use Rattle.clcw.specs.declared.Reading.the-variants as clcwReading
+use Rattle.clcw.proofs.Word as word
 use Rattle.clcw.proofs.Back as cback
 use Rattle.session.specs.Frames.{read}
 
@@ -97,15 +103,24 @@ module _ (own : Own) (sc : own .spacecraft ≤ 1023) (ch : own .channel ≤ 63) 
   bd-back o l = rw (bd-reading o l, bd-part o l)
 
   -- a control word
+  abbrev clcw : Word → Clcw
+  clcw w =
+      record { channel = own .channel; lockout = w .lockout; wait = w .wait; retransmit = w .retransmit; counter = w .counter; report = w .nr }
+
+  bit-small : (b : Bool) → bitOf b ≤ 1
+  bit-small true = omega arith
+  bit-small false = omega arith
+
+  word-octets : (w : Word) → w .counter ≤ 3 → w .nr < 256 → areOctets (clcwOf (clcw w)) ≡ true
+  word-octets w c b =
+      let flags : ℕ = bitOf (w .lockout) * 0x20 + bitOf (w .wait) * 0x10 + bitOf (w .retransmit) * 0x08 + w .counter * 2 in
+      let small : flags < 256 = omega (arith, bit-small (w .lockout), bit-small (w .wait), bit-small (w .retransmit), c) in
+      ap areOctets (word.octets-are (clcw w) ch c b)
+      ∙ ap (λ (t : Bool). t && (ltb flags 256 && (ltb (w .nr) 256 && true))) (lt-ltb (own .channel * 4) 256 (omega (arith, ch)))
+      ∙ ap (λ (t : Bool). t && (ltb (w .nr) 256 && true)) (lt-ltb flags 256 small)
+      ∙ ap (λ (t : Bool). t && true) (lt-ltb (w .nr) 256 b)
+
   pub word-back : (w : Word) → w .counter ≤ 3 → w .nr < 256 → readWord own (wordOctets own w) ≡ valid w
   unfolding readWord wordOctets
   word-back w c b =
-      ap heard (cback.word-back (record {
-        channel = own .channel;
-        lockout = w .lockout;
-        wait = w .wait;
-        retransmit = w .retransmit;
-        counter =
-            w .counter;
-        report = w .nr;
-      }) ch c b)
+      ap (λ (t : Bool). heard (pick t (wordReading.readingOf (clcwOf (clcw w)) (own .channel)) clcwReading.Length)) (word-octets w c b) ∙ ap heard (cback.word-back (clcw w) ch c b)

@@ -1,0 +1,5 @@
+pub mod Numbered
+pub mod Once
+pub mod Places
+pub mod Cells
+pub mod Suspended

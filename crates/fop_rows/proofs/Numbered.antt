@@ -1,0 +1,54 @@
+-- An action by its number, and the actions of a cell in turn.
+use mathlib.Core.Path.{_≡_, sym, ap, _∙_}
+use mathlib.Core.List.{List, [], _∷_}
+use Prim.Native.Nat.{ℕ, _+_, _≤_, _<_}
+use native.Mathlib.Omega.{arith}
+use lib.ListN.{length, take, drop, getD, length-take, List·getD-eq-default}
+use lib.Seq.{getD-take, drop-length}
+use Rattle.base.proofs.Lists.{next}
+use Rattle.fop.specs.Table.{Action, Ignore}
+use Rattle.fop_actions.specs.declared.Work.{Work}
+use Rattle.fop_rows.specs.Rows.{done, octet}
+use Rattle.fop_rows.specs.Numbers.{actions, actionOf, doneNumbers}
+
+-- the action of a number that is known
+pub numbered : (k a n l : ℕ) (w r : Work) → a ≡ k → r ≡ done (actionOf k) n l w → r ≡ done (actionOf a) n l w
+numbered k a n l w r p h = h ∙ ap (λ (x : ℕ). done (actionOf x) n l w) (sym p)
+
+-- the same for an action f of one octet
+pub octet-numbered : (f : ℕ → Work → Work) (k a n l x : ℕ) (w r : Work) → a ≡ k → x ≡ octet n → r ≡ f x w → f (octet n) w ≡ done (actionOf k) n l w
+    → r ≡ done (actionOf a) n l w
+octet-numbered f k a n l x w r p q h d = numbered k a n l w r p (h ∙ ap (λ (y : ℕ). f y w) q ∙ d)
+
+-- a number from k on that is not one of the next three
+past : (k a : ℕ) → k ≤ a → (a ≡ k → ⊥) → (a ≡ k + 1 → ⊥) → (a ≡ k + 2 → ⊥) → k + 3 ≤ a
+past k a l p q r = omega arith
+
+-- the second of two
+last : (k a : ℕ) → k ≤ a → (a ≡ k → ⊥) → a < k + 2 → a ≡ k + 1
+last k a l p h = omega arith
+
+-- the last of Alert's numbers
+pub last-alert : (a : ℕ) → 7 ≤ a → a < 15 → (a ≡ 7 → ⊥) → (a ≡ 8 → ⊥) → (a ≡ 9 → ⊥) → (a ≡ 10 → ⊥) → (a ≡ 11 → ⊥) → (a ≡ 12 → ⊥) → (a ≡ 13 → ⊥) → a ≡ 14
+last-alert a l h p q r s t u v = last 13 a (past 10 a (past 7 a l p q r) s t u) v h
+
+-- a number behind the last is Ignore
+pub behind : (a n l : ℕ) (w : Work) → 43 ≤ a → w ≡ done (actionOf a) n l w
+unfolding done actionOf
+behind a n l w h = ap (λ (x : Action). done x n l w) (sym (List·getD-eq-default actions Ignore h))
+
+-- the actions from place i on are the one at i and those behind it
+pub in-turn : (numbers : List ℕ) (i n l : ℕ) (w v : Work) → length numbers ≡ 6 → i < 5 → v ≡ done (actionOf (getD numbers i 0)) n l w
+    → doneNumbers (drop (i + 1) (take 5 numbers)) n l v ≡ doneNumbers (drop i (take 5 numbers)) n l w
+unfolding doneNumbers
+in-turn numbers i n l w v six h e =
+    let k : i < length (take 5 numbers) = simp length-take (omega arith) in
+    let d : drop i (take 5 numbers) ≡ getD numbers i 0 ∷ drop (i + 1) (take 5 numbers) = next (take 5 numbers) i k ∙ ap (λ (x : ℕ). x ∷ drop (i + 1) (take 5 numbers)) (getD-take 5 numbers i 0 h) in
+    ap (doneNumbers (drop (i + 1) (take 5 numbers)) n l) e ∙ ap (λ (s : List ℕ). doneNumbers s n l w) (sym d)
+
+-- behind the fifth there is none
+pub all-done : (numbers : List ℕ) (i n l : ℕ) (w : Work) → length numbers ≡ 6 → i ≡ 5 → doneNumbers (drop i (take 5 numbers)) n l w ≡ w
+unfolding doneNumbers
+all-done numbers i n l w six h =
+    let e : i ≡ length (take 5 numbers) = simp length-take (omega arith) in
+    ap (λ (j : ℕ). doneNumbers (drop j (take 5 numbers)) n l w) e ∙ ap (λ (s : List ℕ). doneNumbers s n l w) (drop-length (take 5 numbers))

@@ -1,0 +1,117 @@
+-- Every cell of table 7-8 is allowed: the mode in which its event begins leads through its actions to one that its next state asks.
+use Prim.Native.Nat.{ℕ}
+use mathlib.Core.Path.{_≡_, refl}
+use mathlib.Core.Bool.{Bool, true, false}
+use mathlib.Core.List.{List}
+use native.Mathlib.Omega.{arith}
+use Rattle.base.specs.Choice.{both}
+use Rattle.fop.specs.Table.{table78, cell78, FopEvent, E1, E2, E3, E4, E5, E6, E7, E8, E9, E10, E11, E12, E13, E14, E15, E16, E17, E18, E19, E20, E21, E22, E23, E24, E25, E26, E27, E28, E29, E30, E31, E32, E33, E34}
+use Rattle.fop.specs.Table.{E35, E36, E37, E38, E39, E40, E41, E42, E43, E44, E45, E46, E101, E102, E103, E104}
+use Rattle.fop_actions.specs.declared.State.{State}
+use Rattle.fop_actions.specs.declared.State.the-variants as state
+use Rattle.fop_actions.specs.declared.Sender.{Sender}
+use Rattle.fop_actions.specs.View.{stateOf}
+use Rattle.fop_view.specs.Rows.{brings, Meets}
+use Rattle.fop_view.proofs.Mode.{same, after, afterAll, allows}
+
+-- both of two tests hold
+pub both-first : (a b : Bool) → both a b ≡ true → a ≡ true
+both-first true b t = refl
+both-first false b t = t
+
+pub both-second : (a b : Bool) → both a b ≡ true → b ≡ true
+both-second true b t = t
+both-second false b t = let z : _≡_ {A = ℕ} 0 1 = cc in absurd (omega arith)
+
+-- a test in every state
+module _ (p : State → Bool) where
+  abbrev two : Bool
+  two = both (p state.S5) (p state.S6)
+
+  abbrev three : Bool
+  three = both (p state.S4) two
+
+  abbrev four : Bool
+  four = both (p state.S3) three
+
+  abbrev five : Bool
+  five = both (p state.S2) four
+
+  abbrev every : Bool
+  every = both (p state.S1) five
+
+  every-in : every ≡ true → (x : State) → p x ≡ true
+  every-in t =
+      let a : five ≡ true = both-second (p state.S1) five t in
+      let b : four ≡ true = both-second (p state.S2) four a in
+      let c : three ≡ true = both-second (p state.S3) three b in
+      let d : two ≡ true = both-second (p state.S4) two c in
+      by (both-first (p state.S1) five t) (both-first (p state.S2) four a) (both-first (p state.S3) three b)
+      (both-first (p state.S4) two c) (both-first (p state.S5) (p state.S6) d) (both-second (p state.S5) (p state.S6) d) where
+        by : p state.S1 ≡ true → p state.S2 ≡ true → p state.S3 ≡ true → p state.S4 ≡ true → p state.S5 ≡ true → p state.S6 ≡ true → (x : State) → p x ≡ true
+        by a b c d e f state.S1 = a
+        by a b c d e f state.S2 = b
+        by a b c d e f state.S3 = c
+        by a b c d e f state.S4 = d
+        by a b c d e f state.S5 = e
+        by a b c d e f state.S6 = f
+
+abbrev cellAllowed : FopEvent → State → Bool
+cellAllowed e x = allows (brings e) x (cell78 (table78 e) (stateOf x))
+
+-- the rows
+rows : (e : FopEvent) (o : List ℕ) (n : ℕ) (s : Sender) → Meets e o n s → every (cellAllowed e) ≡ true
+unfolding table78 allows after afterAll same
+rows E1 o n s h = refl
+rows E2 o n s h = refl
+rows E3 o n s h = refl
+rows E4 o n s h = refl
+rows E5 o n s h = refl
+rows E6 o n s h = refl
+rows E7 o n s h = refl
+rows E8 o n s h = refl
+rows E9 o n s h = refl
+rows E10 o n s h = refl
+rows E11 o n s h = refl
+rows E12 o n s h = refl
+rows E13 o n s h = refl
+rows E14 o n s h = refl
+rows E15 o n s h = refl
+rows E16 o n s h = refl
+rows E17 o n s h = refl
+rows E18 o n s h = absurd h
+rows E19 o n s h = refl
+rows E20 o n s h = refl
+rows E21 o n s h = refl
+rows E22 o n s h = refl
+rows E23 o n s h = refl
+rows E24 o n s h = refl
+rows E25 o n s h = refl
+rows E26 o n s h = refl
+rows E27 o n s h = refl
+rows E28 o n s h = refl
+rows E29 o n s h = refl
+rows E30 o n s h = refl
+rows E31 o n s h = absurd h
+rows E32 o n s h = absurd h
+rows E33 o n s h = absurd h
+rows E34 o n s h = absurd h
+rows E35 o n s h = refl
+rows E36 o n s h = refl
+rows E37 o n s h = refl
+rows E38 o n s h = refl
+rows E39 o n s h = refl
+rows E40 o n s h = refl
+rows E41 o n s h = refl
+rows E42 o n s h = refl
+rows E43 o n s h = refl
+rows E44 o n s h = refl
+rows E45 o n s h = refl
+rows E46 o n s h = refl
+rows E101 o n s h = refl
+rows E102 o n s h = refl
+rows E103 o n s h = refl
+rows E104 o n s h = absurd h
+
+pub allowed : (e : FopEvent) (o : List ℕ) (n : ℕ) (s : Sender) → Meets e o n s → (x : State) → allows (brings e) x (cell78 (table78 e) (stateOf x)) ≡ true
+allowed e o n s h x = every-in (cellAllowed e) (rows e o n s h) x

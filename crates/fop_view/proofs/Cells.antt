@@ -1,0 +1,207 @@
+-- A cell that is allowed shows the machine's work: its actions lead to a mode that its next state asks, and from there the next state is set.
+use Prim.Native.Nat.{ℕ, _<_}
+use mathlib.Core.Path.{_≡_, refl, sym, ap, subst, _∙_}
+use mathlib.Core.Bool.{Bool, true, false}
+use mathlib.Core.List.{List, []}
+use native.Mathlib.Omega.{arith}
+use borrow.Author.Tests.{eq-eqb}
+use lib.Dec.{eqb}
+use lib.ListN.{length}
+use Rattle.base.specs.Choice.{pick}
+use Rattle.store.proofs.Parts.{slid-none}
+use Rattle.fop.specs.Table as table
+use Rattle.fop.specs.Table.{Action, Cell, cell, ifNotSuspended, NotApplicable}
+use Rattle.fop.specs.Variables as machine
+use Rattle.fop.specs.Answers.{runOf}
+use Rattle.fop.specs.Machine.{performAll, performCell}
+use Rattle.fop_actions.specs.declared.Handed.the-variants as handed
+use Rattle.fop_actions.specs.declared.Sender.{Sender}
+use Rattle.fop_actions.specs.declared.State.{State}
+use Rattle.fop_actions.specs.declared.State.the-variants as state
+use Rattle.fop_actions.specs.declared.Work.{Work}
+use Rattle.fop_actions.specs.Actions as act
+use Rattle.fop_actions.specs.Start.{begun, senderOf, noneTold}
+use Rattle.fop_actions.specs.View.{stateOf, fopOf}
+use Rattle.fop_actions.proofs.ViewValues as values
+use Rattle.fop_rows.specs.Rows.{declared, doneAll, doneCell, inMain}
+use Rattle.fop_view.specs.State.{Good}
+use Rattle.fop_view.specs.Rows.{Brings, nothing, acknowledging, again, offering, numbering, widening, limiting, timing, suspending, brings, Needed, storeBy, lengthsBy, Shows}
+use Rattle.fop_view.proofs.Mode.{Stored, kept, moved, put, Mode, fresh, going, half, over, bad, same, same-is, initial, begins, emptyIn, notPut, putWhere, fits, ends, afterAll, allows}
+use Rattle.fop_view.proofs.Allowed.{both-first, both-second}
+use Rattle.fop_view.proofs.Known.{Case, seen, Where, Left, StoreIs, LengthsIs, Shut, At, none-below}
+use Rattle.fop_view.proofs.Actions.{steps}
+
+not-true : {A : Type 0} → false ≡ true → A
+not-true t = let z : _≡_ {A = ℕ} 0 1 = cc in absurd (omega arith)
+
+-- The store and the lengths after the event.
+module _ (count : ℕ) (was : List ℕ) (down : ℕ → List ℕ) (added now : List ℕ) where
+  slid-left : (p : Stored) → down 0 ≡ was → notPut p ≡ true → Left p count was down added now → now ≡ down count
+  slid-left kept none t h = h .0 ∙ sym none ∙ ap down (sym (h .1))
+  slid-left moved none t h = h
+  slid-left put none t h = not-true t
+
+  put-left : (b : Bool) (p : Stored) → putWhere b p ≡ true → Left p count was down added now → now ≡ pick b added was
+  put-left true kept t h = not-true t
+  put-left true moved t h = not-true t
+  put-left true put t h = h
+  put-left false kept t h = h .0
+  put-left false moved t h = not-true t
+  put-left false put t h = not-true t
+
+module _ (x : Case) (store : List ℕ) (w : Work) where
+  abbrev LeftAfter : Brings → Type 0
+  LeftAfter b = (store ≡ storeBy b (x .octets) (x .sender) w (x .store)) × (w .queues .lengths ≡ lengthsBy b (x .octets) (x .sender) w)
+
+  module _ (p : Stored) (s : StoreIs x p (w .told .confirmed .count) store) (l : LengthsIs x p (w .told .confirmed .count) (w .queues .lengths)) where
+    slid-both : notPut p ≡ true → LeftAfter nothing
+    slid-both t = (slid-left _ _ _ _ _ p (slid-none (x .store)) t s, slid-left _ _ _ _ _ p (slid-none (x .sender .queues .lengths)) t l)
+
+    left-after : (b : Brings) → fits b (inMain (x .sender .state)) p ≡ true → LeftAfter b
+    left-after offering t = (put-left _ _ _ _ _ (inMain (x .sender .state)) p t s, put-left _ _ _ _ _ (inMain (x .sender .state)) p t l)
+    left-after nothing t = slid-both t
+    left-after acknowledging t = slid-both t
+    left-after again t = slid-both t
+    left-after numbering t = slid-both t
+    left-after widening t = slid-both t
+    left-after limiting t = slid-both t
+    left-after timing t = slid-both t
+    left-after suspending t = slid-both t
+
+-- The next state.
+declared-is : (t : table.State) → stateOf (declared t) ≡ t
+declared-is table.S1 = refl
+declared-is table.S2 = refl
+declared-is table.S3 = refl
+declared-is table.S4 = refl
+declared-is table.S5 = refl
+declared-is table.S6 = refl
+
+known : {z : Bool} {A : Type 0} → z ≡ true → Where z A → A
+known {z} {A} t h = subst (λ (b : Bool). Where b A) t h
+
+empty-initial : (t : table.State) (z : Bool) (sent : ℕ) → emptyIn t z ≡ true → Where z (sent ≡ 0) → declared t ≡ state.S6 → sent ≡ 0
+empty-initial table.S1 z sent y h q = let k : _≡_ {A = ℕ} 0 1 = cc in omega arith
+empty-initial table.S2 z sent y h q = let k : _≡_ {A = ℕ} 0 1 = cc in omega arith
+empty-initial table.S3 z sent y h q = let k : _≡_ {A = ℕ} 0 1 = cc in omega arith
+empty-initial table.S4 z sent y h q = let k : _≡_ {A = ℕ} 0 1 = cc in omega arith
+empty-initial table.S5 z sent y h q = let k : _≡_ {A = ℕ} 0 1 = cc in omega arith
+empty-initial table.S6 z sent y h q = known y h
+
+-- Suspend_State is 0
+serves : (s : Sender) → s .variables .«suspend_state» ≡ 0 → eqb (begun s .variables .«suspend_state») 0 ≡ true
+unfolding begun
+serves s h = eq-eqb (s .variables .«suspend_state») 0 h
+
+-- the work w of the machine's work m, with the store and the lengths that the event leaves
+pub record Shown (x : Case) (w : Work) (m : machine.Work) : Type 0 where
+  pub shows : Shows (x .own) (x .event) (x .octets) (x .value) w (storeBy (brings (x .event)) (x .octets) (x .sender) w (x .store)) m
+  pub measured : w .queues .lengths ≡ lengthsBy (brings (x .event)) (x .octets) (x .sender) w
+
+shown : (x : Case) (w : Work) (m : machine.Work) (store : List ℕ) → LeftAfter x store w (brings (x .event))
+    → Shows (x .own) (x .event) (x .octets) (x .value) w store m → Shown x w m
+shown x w m store left h = record {
+  shows = subst (λ (s : List ℕ). Shows (x .own) (x .event) (x .octets) (x .value) w s m) (left .0) h;
+  measured = left .1;
+}
+
+module _ (x : Case) (good : Good (x .own) (x .sender) (x .store)) where
+  enters : (p : Stored) (z : Bool) (t : table.State) (w : Work) (m : machine.Work) → fits (brings (x .event)) (inMain (x .sender .state)) p ≡ true → emptyIn t z ≡ true
+      → Shut x p z w m → Shown x (act.toState (declared t) w) (machine.onFop (machine.setState t (m .fop)) m)
+  unfolding act.toState begun senderOf
+  enters p z t w m a b h =
+      let e = h .ended in
+      let v = act.toState (declared t) w in
+      let to : machine.Work → machine.Work = λ y. machine.onFop (machine.setState t (y .fop)) y in
+      let is : to m ≡ seen x (h .c) (h .d) v (h .store) =
+      ap to (h .is)
+      ∙ ap (λ (y : table.State). machine.onFop (machine.setState y (fopOf w (h .store))) (seen x (h .c) (h .d) w (h .store))) (sym (declared-is t))
+      ∙ values.to-state _ _ _ _ _ w (h .store) (declared t) in
+      shown x v (to m) (h .store) (left-after x (h .store) v p (e .runs .stored) (e .runs .measured) (brings (x .event)) a)
+      (record {
+        is = subst (λ (y : machine.Work). y ≡ seen x (y .confirmed) (y .denied) v (h .store)) (sym is) refl;
+        confirmed = ap (λ (y : machine.Work). runOf (y .confirmed)) (h .is) ∙ e .runs .of-confirmed;
+        denied = ap (λ (y : machine.Work). runOf (y .denied)) (h .is) ∙ e .runs .of-denied;
+        good = record {
+          formed = h .formed;
+          window = e .settled .in-window;
+          limit = e .settled .in-limit;
+          alerting = e .settled .alerting;
+          serving = e .settled .serving;
+          initial = empty-initial t z (w .queues .sent) b (e .empty);
+          filled = e .filled;
+          spacecraft = e .settled .own-spacecraft;
+          channel = e .settled .own-channel;
+          spacecraft-most = good .spacecraft-most;
+          channel-most = good .channel-most;
+        };
+        sent = e .below;
+      })
+
+  ended : (mode : Mode) (t : table.State) (w : Work) (m : machine.Work) → ends (brings (x .event)) (x .sender .state) t mode ≡ true → At x mode w m
+      → Shown x (act.toState (declared t) w) (machine.onFop (machine.setState t (m .fop)) m)
+  ended (fresh f z) t w m y h = not-true y
+  ended (going p f z u l) t w m y h =
+      enters p z t w m (both-first _ _ y) (both-second (fits (brings (x .event)) (inMain (x .sender .state)) p) (emptyIn t z) y)
+      (record { store = h .store; c = h .c; d = h .d; is = h .is; formed = h .formed; ended = h .ended })
+  ended (half p u l) t w m y h = not-true y
+  ended (over p z) t w m y h =
+      enters p z t w m (both-first _ _ y) (both-second (fits (brings (x .event)) (inMain (x .sender .state)) p) (emptyIn t z) y) h
+  ended bad t w m y h = not-true y
+
+  -- Not Applicable: nothing is done
+  unchanged : fits (brings (x .event)) (inMain (x .sender .state)) kept ≡ true → Shown x (begun (x .sender)) (seen x [] [] (begun (x .sender)) (x .store))
+  unfolding begun noneTold senderOf
+  unchanged a =
+      shown x (begun (x .sender)) (seen x [] [] (begun (x .sender)) (x .store)) (x .store)
+      (left-after x (x .store) (begun (x .sender)) kept (refl, refl) (refl, refl) (brings (x .event)) a)
+      (record { is = refl; confirmed = refl; denied = refl; good = good; sent = none-below handed.None (x .sender .queues .sent) refl })
+
+  -- the work as it begins
+  few-again : (t : Bool) → same (brings (x .event)) again ≡ t → Needed (brings (x .event)) (x .octets) (x .value) (x .sender)
+      → Where t (x .sender .variables .«transmission_count» < 255)
+  few-again true e h =
+      let n : Needed again (x .octets) (x .value) (x .sender) =
+      subst (λ (y : Brings). Needed y (x .octets) (x .value) (x .sender)) (same-is (brings (x .event)) again e) h in
+      omega (arith, n, good .limit)
+  few-again false e h = tt
+
+  empty-first : (s : State) → x .sender .state ≡ s → Where (initial s) (x .sender .queues .sent ≡ 0)
+  empty-first state.S1 e = tt
+  empty-first state.S2 e = tt
+  empty-first state.S3 e = tt
+  empty-first state.S4 e = tt
+  empty-first state.S5 e = tt
+  empty-first state.S6 e = good .initial e
+
+  module _ (meets : Needed (brings (x .event)) (x .octets) (x .value) (x .sender)) where
+    begin : At x (begins (brings (x .event)) (x .sender .state)) (begun (x .sender)) (seen x [] [] (begun (x .sender)) (x .store))
+    begin = record {
+      begins = refl;
+      is = refl;
+      good = good;
+      few = few-again (same (brings (x .event)) again) refl meets;
+      empty = empty-first (x .sender .state) refl;
+    }
+
+    acted : (acts : List Action) (t : table.State)
+        → ends (brings (x .event)) (x .sender .state) t (afterAll (brings (x .event)) acts (begins (brings (x .event)) (x .sender .state))) ≡ true
+        → Shown x (act.toState (declared t) (doneAll acts (x .value) (length (x .octets)) (begun (x .sender))))
+        (let m : machine.Work = performAll acts (seen x [] [] (begun (x .sender)) (x .store)) in machine.onFop (machine.setState t (m .fop)) m)
+    acted acts t y =
+        let b = brings (x .event) in
+        ended (afterAll b acts (begins b (x .sender .state))) t (doneAll acts (x .value) (length (x .octets)) (begun (x .sender)))
+        (performAll acts (seen x [] [] (begun (x .sender)) (x .store))) y
+        (steps x b meets acts (begins b (x .sender .state)) (begun (x .sender)) (seen x [] [] (begun (x .sender)) (x .store)) begin)
+
+    pub cell-view : (c : Cell) → allows (brings (x .event)) (x .sender .state) c ≡ true
+        → Shown x (doneCell c (x .value) (length (x .octets)) (begun (x .sender))) (performCell c (seen x [] [] (begun (x .sender)) (x .store)))
+    unfolding allows doneCell performCell
+    cell-view NotApplicable y = unchanged y
+    cell-view (cell acts t) y = acted acts t y
+    cell-view (ifNotSuspended acts others t) y =
+        let w = begun (x .sender) in
+        let m = seen x [] [] w (x .store) in
+        subst (λ (b : Bool). Shown x (act.toState (declared t) (pick b (doneAll acts (x .value) (length (x .octets)) w) (doneAll others (x .value) (length (x .octets)) w)))
+        (let v : machine.Work = pick b (performAll acts m) (performAll others m) in machine.onFop (machine.setState t (v .fop)) v))
+        (sym (serves (x .sender) (good .serving))) (acted acts t y)

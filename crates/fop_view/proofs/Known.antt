@@ -1,0 +1,207 @@
+-- What a mode says of the work on an event and of the machine's work on it. The facts are stated of the values of fields, so that an
+-- action that leaves those fields alone keeps them as they stand.
+use Prim.Native.Nat.{ℕ, _*_, _%_, _≤_, _<_}
+use mathlib.Core.Path.{_≡_, refl, sym, subst}
+use mathlib.Core.Bool.{Bool, true, false}
+use mathlib.Core.List.{List, []}
+use mathlib.Core.Option.{some}
+use native.Mathlib.Omega.{arith}
+use lib.ListN.{length, getD, set}
+use Rattle.base.specs.Limits.{largestUnit}
+use Rattle.memory.specs.Placed.{placed}
+use Rattle.store.specs.Slid.{slid}
+use Rattle.fop.specs.Limits.{largestK, largestTransmissionLimit}
+use Rattle.fop.specs.Units.{Fdu, Own}
+use Rattle.fop.specs.Table.{FopEvent}
+use Rattle.fop.specs.Variables as machine
+use Rattle.fop.specs.Answers.{runOf}
+use Rattle.fop_actions.specs.declared.Handed.{Handed}
+use Rattle.fop_actions.specs.declared.Handed.the-variants as handed
+use Rattle.fop_actions.specs.declared.Responses.{Responses}
+use Rattle.fop_actions.specs.declared.Run.{Run}
+use Rattle.fop_actions.specs.declared.Sender.{Sender}
+use Rattle.fop_actions.specs.declared.Work.{Work}
+use Rattle.fop_actions.specs.Limits.{largestResponses}
+use Rattle.fop_actions.specs.Start.{begun, noneTold}
+use Rattle.fop_actions.specs.View.{view, runTold, Formed, WellFormed}
+use Rattle.fop_actions.proofs.ViewAnswers.{Room}
+use Rattle.fop_actions.proofs.ViewStart.{room-begun}
+use Rattle.fop_view.specs.State.{Good, held}
+use Rattle.fop_view.proofs.Mode.{Stored, kept, moved, put, Mode, fresh, going, half, over, bad}
+
+-- an event at a sender and its store
+pub record Case : Type 0 where
+  pub own : Own
+  pub event : FopEvent
+  pub octets : List ℕ
+  pub value : ℕ
+  pub sender : Sender
+  pub store : List ℕ
+
+abbrev pub seen : Case → List Fdu → List Fdu → Work → List ℕ → machine.Work
+seen x c d w store = view (some (x .event)) (x .octets) (x .value) c d w store
+
+-- what is known where a flag is on
+abbrev pub Where : Bool → Type 0 → Type 0
+Where true A = A
+Where false A = Unit {0}
+
+-- a list, where `count` units are confirmed: as it was, moved down by them, or with the unit offered put into it
+abbrev pub Left : Stored → ℕ → List ℕ → (ℕ → List ℕ) → List ℕ → List ℕ → Type 0
+Left kept count was down added now = (now ≡ was) × (count ≡ 0)
+Left moved count was down added now = now ≡ down count
+Left put count was down added now = now ≡ added
+
+-- so the store, and the lengths of its units
+abbrev pub StoreIs : Case → Stored → ℕ → List ℕ → Type 0
+StoreIs x p count store =
+    Left p count (x .store) (λ k. slid (largestUnit * k) (x .store)) (placed (x .store) (largestUnit * x .sender .queues .sent) (x .octets)) store
+
+abbrev pub LengthsIs : Case → Stored → ℕ → List ℕ → Type 0
+LengthsIs x p count lengths =
+    let q = x .sender .queues in
+    Left p count (q .lengths) (λ k. slid k (q .lengths)) (set (q .lengths) (q .sent) (length (x .octets))) lengths
+
+-- the settings and Suspend_State
+pub record Settled (own : Own) (window limit timeout spacecraft channel suspend : ℕ) : Type 0 where
+  pub in-window : window ≤ largestK
+  pub in-limit : limit ≤ largestTransmissionLimit
+  pub alerting : timeout ≡ 0
+  pub serving : suspend ≡ 0
+  pub own-spacecraft : spacecraft ≡ own .spacecraft
+  pub own-channel : channel ≡ own .channel
+
+-- the store, the lengths and the two runs of units
+pub record Runs (x : Case) (p : Stored) (store lengths : List ℕ) (c d : List Fdu) (confirmed denied : Run) : Type 0 where
+  pub stored : StoreIs x p (confirmed .count) store
+  pub measured : LengthsIs x p (confirmed .count) lengths
+  pub of-confirmed : runOf c ≡ runTold confirmed
+  pub of-denied : runOf d ≡ runTold denied
+
+-- what is known all along: z is whether the Sent_Queue is empty
+pub record Ended (x : Case) (p : Stored) (z : Bool) (store : List ℕ) (c d : List Fdu) (window limit timeout spacecraft channel suspend sent : ℕ)
+    (waiting : Bool) (lengths : List ℕ) (down : Handed) (confirmed denied : Run) : Type 0 where
+  pub settled : Settled (x .own) window limit timeout spacecraft channel suspend
+  pub filled : (i : ℕ) → i < held sent waiting → 1 ≤ getD lengths i 0
+  pub runs : Runs x p store lengths c d confirmed denied
+  pub empty : Where z (sent ≡ 0)
+  pub below : (k i : ℕ) → down ≡ handed.Ad k i → i < sent
+
+-- what is known besides, while no frame is handed down: f is whether Transmission_Count is below 255, u whether no unit is denied yet,
+-- l the room left for responses
+pub record Going (f u : Bool) (l : ℕ) (d : List Fdu) (count : ℕ) (down : Handed) (responses : Responses) : Type 0 where
+  pub none : down ≡ handed.None
+  pub room : Room l responses
+  pub undenied : Where u (d ≡ [])
+  pub few : Where f (count < 255)
+
+abbrev pub EndedOf : Case → Stored → Bool → List ℕ → List Fdu → List Fdu → Work → Type 0
+EndedOf x p z store c d w =
+    Ended x p z store c d (w .settings .k) (w .settings .«transmission_limit») (w .settings .«timeout_type») (w .settings .spacecraft) (w .settings .channel)
+    (w .variables .«suspend_state») (w .queues .sent) (w .queues .waiting) (w .queues .lengths) (w .told .handed) (w .told .confirmed) (w .told .denied)
+
+abbrev pub GoingOf : Bool → Bool → ℕ → List Fdu → Work → Type 0
+GoingOf f u l d w = Going f u l d (w .variables .«transmission_count») (w .told .handed) (w .told .responses)
+
+-- The modes, of the work w and the machine's work m.
+pub record Fresh (x : Case) (f z : Bool) (w : Work) (m : machine.Work) : Type 0 where
+  pub begins : w ≡ begun (x .sender)
+  pub is : m ≡ seen x [] [] (begun (x .sender)) (x .store)
+  pub good : Good (x .own) (x .sender) (x .store)
+  pub few : Where f (x .sender .variables .«transmission_count» < 255)
+  pub empty : Where z (x .sender .queues .sent ≡ 0)
+
+pub record Open (x : Case) (p : Stored) (f z u : Bool) (l : ℕ) (w : Work) (m : machine.Work) : Type 0 where
+  pub store : List ℕ
+  pub c : List Fdu
+  pub d : List Fdu
+  pub is : m ≡ seen x c d w store
+  pub formed : WellFormed w store
+  pub ended : EndedOf x p z store c d w
+  pub going : GoingOf f u l d w
+
+pub record Half (x : Case) (p : Stored) (u : Bool) (l : ℕ) (w : Work) (m : machine.Work) : Type 0 where
+  pub store : List ℕ
+  pub c : List Fdu
+  pub d : List Fdu
+  pub is : m ≡ seen x c d w store
+  pub octet : x .value < 256
+  pub numbered : w .variables .vs ≡ x .value % 256
+  pub formed : Formed (x .value % 256) (x .value % 256) (w .queues .sent) (w .queues .marked) (w .queues .lengths) store
+  pub ended : EndedOf x p true store c d w
+  pub going : GoingOf false u l d w
+
+pub record Shut (x : Case) (p : Stored) (z : Bool) (w : Work) (m : machine.Work) : Type 0 where
+  pub store : List ℕ
+  pub c : List Fdu
+  pub d : List Fdu
+  pub is : m ≡ seen x c d w store
+  pub formed : WellFormed w store
+  pub ended : EndedOf x p z store c d w
+
+abbrev pub At : Case → Mode → Work → machine.Work → Type 0
+At x (fresh f z) w m = Fresh x f z w m
+At x (going p f z u l) w m = Open x p f z u l w m
+At x (half p u l) w m = Half x p u l w m
+At x (over p z) w m = Shut x p z w m
+At x bad w m = Unit {0}
+
+-- a number of one octet
+pub octet-is : (n : ℕ) → n < 256 → n % 256 ≡ n
+octet-is n h = omega arith
+
+-- a unit sent is held, whether or not one waits
+pub held-waiting : (sent i : ℕ) (b : Bool) → i < sent → i < held sent b
+held-waiting sent i true h = omega arith
+held-waiting sent i false h = h
+
+-- room for fewer responses
+pub less-room : (j k : ℕ) (r : Responses) → j ≤ k → Room k r → Room j r
+less-room j k r h m = record { few = omega (arith, m .few); all-numbers = m .all-numbers }
+
+-- other settings
+pub resettled : {x : Case} {p : Stored} {z : Bool} {store : List ℕ} {c d : List Fdu} {k l t s n u k' l' t' s' n' u' sent : ℕ} {waiting : Bool} {lengths : List ℕ}
+    {down : Handed} {confirmed denied : Run} → Ended x p z store c d k l t s n u sent waiting lengths down confirmed denied → Settled (x .own) k' l' t' s' n' u'
+    → Ended x p z store c d k' l' t' s' n' u' sent waiting lengths down confirmed denied
+resettled e s = record { settled = s; filled = e .filled; runs = e .runs; empty = e .empty; below = e .below }
+
+-- the settings of a well-formed sender
+pub good-settled : {own : Own} {s : Sender} {store : List ℕ} → Good own s store
+    → Settled own (s .settings .k) (s .settings .«transmission_limit») (s .settings .«timeout_type») (s .settings .spacecraft) (s .settings .channel) (s .variables .«suspend_state»)
+good-settled g = record {
+  in-window = g .window;
+  in-limit = g .limit;
+  alerting = g .alerting;
+  serving = g .serving;
+  own-spacecraft = g .spacecraft;
+  own-channel = g .channel;
+}
+
+-- the work as it begins, with nothing told
+pub none-below : (down : Handed) (sent : ℕ) → down ≡ handed.None → (k i : ℕ) → down ≡ handed.Ad k i → i < sent
+none-below down sent h k i q = let z : _≡_ {A = ℕ} 0 1 = cc in omega arith
+
+opens : (x : Case) (f z : Bool) (m : machine.Work) → Fresh x f z (begun (x .sender)) m → Open x kept f z true largestResponses (begun (x .sender)) m
+unfolding begun noneTold
+opens x f z m h =
+    let g = h .good in
+    record {
+      store = x .store;
+      c = [];
+      d = [];
+      is = h .is;
+      formed = g .formed;
+      ended = record {
+        settled = good-settled g;
+        filled = g .filled;
+        runs = record { stored = (refl, refl); measured = (refl, refl); of-confirmed = refl; of-denied = refl };
+        empty = h .empty;
+        below = none-below handed.None (x .sender .queues .sent) refl;
+      };
+      going = record { none = refl; room = room-begun (x .sender); undenied = refl; few = h .few };
+    }
+
+pub opened : (x : Case) (f z : Bool) (w : Work) (m : machine.Work) → Fresh x f z w m → Open x kept f z true largestResponses w m
+opened x f z w m h =
+    subst (λ (v : Work). Open x kept f z true largestResponses v m) (sym (h .begins))
+    (opens x f z m (record { begins = refl; is = h .is; good = h .good; few = h .few; empty = h .empty }))

@@ -1,0 +1,11 @@
+pub mod Mode
+pub mod Allowed
+pub mod Known
+pub mod Onward
+pub mod Values
+pub mod Handing
+pub mod Purge
+pub mod First
+pub mod Actions
+pub mod Cells
+pub mod Theorem

@@ -1,0 +1,218 @@
+-- What is known of the work on an event from one action of table 7-8 to the next, as a mode: `after` says what each action needs and what
+-- it leaves known, and `allows` goes through a cell. Whether the whole table is allowed is so a matter of computing.
+use Prim.Native.Nat.{ℕ, zero, suc}
+use mathlib.Core.Path.{_≡_, refl, sym, ap, _∙_}
+use mathlib.Core.Bool.{Bool, true, false}
+use mathlib.Core.List.{List, [], _∷_}
+use borrow.Author.Tests.{eqb-true}
+use lib.Dec.{eqb}
+use lib.ListN.{getD}
+use Rattle.base.specs.Choice.{pick, both}
+use Rattle.fop.specs.Table as table
+use Rattle.fop.specs.Table.{Action, Cell, cell, ifNotSuspended, NotApplicable}
+use Rattle.fop.specs.Table.{Ignore, Accept, Reject, Confirm, RejectAd, AcceptBd, RejectBd, AddToWaitQueue, LookForFdu, LookForDirective, RemoveAcknowledgedFrames}
+use Rattle.fop.specs.Table.{InitiateAdRetransmission, InitiateBcRetransmission, ReleaseBcFrame, CancelTimer, StartTimer, Alert, Initialise, TransmitUnlock, TransmitSetVr, TransmitBd}
+use Rattle.fop.specs.Table.{SetSuspendState, Suspend, Resume, SetVs, SetNnr, SetK, SetT1Initial, SetTransmissionLimit, SetTimeoutType, AdOutReady, BcOutReady, BdOutReady}
+use Rattle.fop_actions.specs.declared.State.{State}
+use Rattle.fop_actions.specs.declared.State.the-variants as state
+use Rattle.fop_actions.specs.Limits.{largestResponses}
+use Rattle.fop_rows.specs.Rows.{inMain}
+use Rattle.fop_view.specs.Rows.{Brings, nothing, acknowledging, again, offering, numbering, widening, limiting, timing, suspending}
+
+-- the store: as it was, moved down by the units confirmed, or with the unit offered put into it
+pub data Stored : Type 0 where
+  kept moved put : Stored
+
+pub data Mode : Type 0 where
+  -- the work as it begins; whether Transmission_Count is below 255, and whether the Sent_Queue is empty
+  fresh : Bool → Bool → Mode
+  -- no frame is handed down yet; the store, the same two, whether no unit is denied yet, and the room left for responses
+  going : Stored → Bool → Bool → Bool → ℕ → Mode
+  -- V(S) is set, with the Sent_Queue empty, and NN(R) not yet
+  half : Stored → Bool → ℕ → Mode
+  -- a frame may be handed down; the store, and whether the Sent_Queue is empty
+  over : Stored → Bool → Mode
+  -- an action that is not allowed was done
+  bad : Mode
+
+-- what events bring, told apart by numbers
+abbrev code : Brings → ℕ
+code nothing = 0
+code acknowledging = 1
+code again = 2
+code offering = 3
+code numbering = 4
+code widening = 5
+code limiting = 6
+code timing = 7
+code suspending = 8
+
+abbrev uncode : ℕ → Brings
+uncode k = getD (nothing ∷ acknowledging ∷ again ∷ offering ∷ numbering ∷ widening ∷ limiting ∷ timing ∷ []) k suspending
+
+coded : (b : Brings) → uncode (code b) ≡ b
+coded nothing = refl
+coded acknowledging = refl
+coded again = refl
+coded offering = refl
+coded numbering = refl
+coded widening = refl
+coded limiting = refl
+coded timing = refl
+coded suspending = refl
+
+unfoldable pub same : Brings → Brings → Bool
+same b c = eqb (code b) (code c)
+
+pub same-is : (b c : Brings) → same b c ≡ true → b ≡ c
+unfolding same
+same-is b c t = sym (coded b) ∙ ap uncode (eqb-true (code b) (code c) t) ∙ coded c
+
+-- the mode after an action that is done only from some modes
+abbrev pub onFresh : (Bool → Bool → Mode) → Mode → Mode
+onFresh F (fresh f z) = F f z
+onFresh F (going p f z u l) = bad
+onFresh F (half p u l) = bad
+onFresh F (over p z) = bad
+onFresh F bad = bad
+
+abbrev pub onGoing : (Stored → Bool → Bool → Bool → ℕ → Mode) → Mode → Mode
+onGoing F (fresh f z) = F kept f z true largestResponses
+onGoing F (going p f z u l) = F p f z u l
+onGoing F (half p u l) = bad
+onGoing F (over p z) = bad
+onGoing F bad = bad
+
+abbrev pub onHalf : (Stored → Bool → ℕ → Mode) → Mode → Mode
+onHalf F (fresh f z) = bad
+onHalf F (going p f z u l) = bad
+onHalf F (half p u l) = F p u l
+onHalf F (over p z) = bad
+onHalf F bad = bad
+
+abbrev pub onlyIf : Bool → Mode → Mode
+onlyIf t m = pick t m bad
+
+-- room for a response is taken
+abbrev pub taking : ℕ → (ℕ → Mode) → Mode
+taking zero F = bad
+taking (suc l) F = F l
+
+-- the mode after each group of actions
+abbrev pub answered : Stored → Bool → Bool → Bool → ℕ → Mode
+answered p f z u l = taking l (going p f z u)
+
+abbrev pub repeated : Stored → Bool → Bool → Bool → ℕ → Mode
+repeated p f z u l = onlyIf f (going p false z u l)
+
+abbrev pub purged : Stored → Bool → Bool → Bool → ℕ → Mode
+purged p f z u l = onlyIf u (taking l (λ k. taking k (going p false true false)))
+
+abbrev pub handedDown : Stored → Bool → Bool → Bool → ℕ → Mode
+handedDown p f z u l = over p z
+
+abbrev pub looked : Stored → Bool → Bool → Bool → ℕ → Mode
+looked p f z u l = taking l (λ k. over p false)
+
+abbrev pub given : Bool → Stored → Bool → Bool → Bool → ℕ → Mode
+given t p f z u l = onlyIf t (going p f z u l)
+
+unfoldable pub after : Brings → Action → Mode → Mode
+after b Ignore m = onGoing going m
+after b Accept m = onGoing answered m
+after b Reject m = onGoing answered m
+after b Confirm m = onGoing answered m
+after b RejectAd m = onGoing answered m
+after b AcceptBd m = onGoing answered m
+after b RejectBd m = onGoing answered m
+after b AddToWaitQueue m = onFresh (λ f z. onlyIf (same b offering) (going put f z true largestResponses)) m
+after b LookForFdu m = onGoing looked m
+after b LookForDirective m = onGoing handedDown m
+after b RemoveAcknowledgedFrames m = onFresh (λ f z. onlyIf (same b acknowledging) (going moved true false true largestResponses)) m
+after b InitiateAdRetransmission m = onGoing repeated m
+after b InitiateBcRetransmission m = onGoing repeated m
+after b ReleaseBcFrame m = onGoing going m
+after b CancelTimer m = onGoing going m
+after b StartTimer m = onGoing going m
+after b (Alert r) m = onGoing purged m
+after b Initialise m = onGoing purged m
+after b TransmitUnlock m = onGoing handedDown m
+after b TransmitSetVr m = onGoing (λ p f z u l. onlyIf (same b numbering) (over p z)) m
+after b TransmitBd m = onGoing handedDown m
+after b (SetSuspendState s) m = bad
+after b Suspend m = bad
+after b Resume m = bad
+after b SetVs m = onGoing (λ p f z u l. onlyIf (same b numbering) (onlyIf z (half p u l))) m
+after b SetNnr m = onHalf (λ p u l. going p false true u l) m
+after b SetK m = onGoing (given (same b widening)) m
+after b SetT1Initial m = onGoing going m
+after b SetTransmissionLimit m = onGoing (given (same b limiting)) m
+after b SetTimeoutType m = onGoing (given (same b timing)) m
+after b AdOutReady m = onGoing going m
+after b BcOutReady m = onGoing going m
+after b BdOutReady m = onGoing going m
+
+unfoldable pub afterAll : Brings → List Action → Mode → Mode
+afterAll b [] m = m
+afterAll b (a ∷ more) m = afterAll b more (after b a m)
+
+-- The test of a cell.
+
+-- the mode in which an event begins
+abbrev pub initial : State → Bool
+initial state.S1 = false
+initial state.S2 = false
+initial state.S3 = false
+initial state.S4 = false
+initial state.S5 = false
+initial state.S6 = true
+
+abbrev pub begins : Brings → State → Mode
+begins b x = fresh (same b again) (initial x)
+
+-- the Sent_Queue is empty where the next state is Initial
+abbrev pub emptyIn : table.State → Bool → Bool
+emptyIn table.S1 z = true
+emptyIn table.S2 z = true
+emptyIn table.S3 z = true
+emptyIn table.S4 z = true
+emptyIn table.S5 z = true
+emptyIn table.S6 z = z
+
+-- the store is the one that the event leaves (specs/Rows, storeBy)
+abbrev pub notPut : Stored → Bool
+notPut kept = true
+notPut moved = true
+notPut put = false
+
+abbrev pub putWhere : Bool → Stored → Bool
+putWhere true kept = false
+putWhere true moved = false
+putWhere true put = true
+putWhere false kept = true
+putWhere false moved = false
+putWhere false put = false
+
+abbrev pub fits : Brings → Bool → Stored → Bool
+fits offering x p = putWhere x p
+fits nothing x p = notPut p
+fits acknowledging x p = notPut p
+fits again x p = notPut p
+fits numbering x p = notPut p
+fits widening x p = notPut p
+fits limiting x p = notPut p
+fits timing x p = notPut p
+fits suspending x p = notPut p
+
+abbrev pub ends : Brings → State → table.State → Mode → Bool
+ends b x s (fresh f z) = false
+ends b x s (going p f z u l) = both (fits b (inMain x) p) (emptyIn s z)
+ends b x s (half p u l) = false
+ends b x s (over p z) = both (fits b (inMain x) p) (emptyIn s z)
+ends b x s bad = false
+
+-- the actions of a cell are allowed, and leave the store and the Sent_Queue as they must; with Suspend_State 0 "IF SS = 0" holds
+unfoldable pub allows : Brings → State → Cell → Bool
+allows b x NotApplicable = fits b (inMain x) kept
+allows b x (cell acts s) = ends b x s (afterAll b acts (begins b x))
+allows b x (ifNotSuspended acts others s) = ends b x s (afterAll b acts (begins b x))

@@ -1,0 +1,167 @@
+-- Alert and Initialise: both queues are purged, which denies the units sent and leaves the Sent_Queue empty.
+use Prim.Native.Nat.{ℕ, suc, _<_}
+use mathlib.Core.Path.{_≡_, refl, ap, _∙_}
+use mathlib.Core.Bool.{Bool, true, false}
+use mathlib.Core.List.{List, _++_}
+use mathlib.Core.Option.{some}
+use native.Mathlib.Omega.{arith}
+use Rattle.base.specs.Choice.{pick}
+use Rattle.base.specs.Modulo.{offset}
+use Rattle.fop.specs.Units.{Fdu}
+use Rattle.fop.specs.Table as table
+use Rattle.fop.specs.Variables as machine
+use Rattle.fop.specs.Answers.{runOf}
+use Rattle.fop.specs.Machine.{perform, fdus}
+use Rattle.fop_actions.specs.declared.Alert.the-variants as alert
+use Rattle.fop_actions.specs.declared.Control.{Control}
+use Rattle.fop_actions.specs.declared.Control.the-variants as control
+use Rattle.fop_actions.specs.declared.Response.{Response}
+use Rattle.fop_actions.specs.declared.Response.the-variants.{RejectAdUnit, DenyDirective}
+use Rattle.fop_actions.specs.declared.Work.{Work}
+use Rattle.fop_actions.specs.Parts.{withVariables, withQueues, withTold}
+use Rattle.fop_actions.specs.Actions as act
+use Rattle.fop_actions.specs.Actions.{runFrom, responseNumber}
+use Rattle.fop_actions.specs.View.{entriesOf, reasonOf, runTold}
+use Rattle.fop_actions.proofs.Kept as well
+use Rattle.fop_actions.proofs.ViewAnswers.{Room, room-more}
+use Rattle.fop_actions.proofs.ViewRelease as release
+use Rattle.fop_actions.proofs.ViewRuns.{denied-run}
+use Rattle.fop_rows.specs.Rows.{declaredReason}
+use Rattle.fop_view.specs.State.{held}
+use Rattle.fop_view.proofs.Mode.{Stored}
+use Rattle.fop_view.proofs.Known.{Case, EndedOf, GoingOf, Open, held-waiting, less-room, resettled, none-below}
+use Rattle.fop_view.proofs.Onward.{goes-on}
+
+-- the units on the Sent_Queue
+abbrev pub units : Work → List ℕ → List Fdu
+units w store = fdus (entriesOf (w .queues .lengths) store (w .variables .vs) (w .queues .sent) (w .queues .marked))
+
+-- their run: it is the one that Alert tells where no type-BC frame is on the Sent_Queue and no unit waits
+units-run : (w : Work) (store : List ℕ) → runOf (units w store) ≡ runTold (runFrom (offset (w .variables .vs) (w .queues .sent)) (w .queues .sent))
+unfolding act.alert act.notify act.purgeWaitQueue act.purgeSentQueue act.denyControl act.emptied act.releaseBcFrame act.holdControl act.cancelTimer withVariables withQueues withTold
+units-run w store =
+    let q = w .queues in
+    denied-run
+    (withQueues (record { sent = q .sent; marked = q .marked; waiting = false; control = control.None; «control_marked» = false; lengths = q .lengths }) w) store
+    alert.None
+
+held-fewer : (sent i : ℕ) (b : Bool) → i < held 0 b → i < held sent b
+held-fewer sent i true h = omega arith
+held-fewer sent i false h = omega arith
+
+-- The type-BC frame and the unit waiting are purged: each gives one response more, or leaves its room.
+module _ {u : Bool} {l : ℕ} {d : List Fdu} where
+  answered : (w : Work) (r : Response) → GoingOf false u (suc l) d w → GoingOf false u l d (act.respond r w)
+  unfolding act.respond withTold
+  answered w r g = record { none = g .none; room = room-more l (responseNumber r) (w .told .responses) (g .room); undenied = g .undenied; few = tt }
+
+  unanswered : (w : Work) → GoingOf false u (suc l) d w → GoingOf false u l d w
+  unanswered w g = record { none = g .none; room = less-room l (suc l) (w .told .responses) (omega arith) (g .room); undenied = g .undenied; few = tt }
+
+  denied-going : (k : Control) (w : Work) → GoingOf false u (suc l) d w → GoingOf false u l d (act.denyControl k w)
+  unfolding act.denyControl
+  denied-going control.None w g = unanswered w g
+  denied-going control.Unlock w g = answered w DenyDirective g
+  denied-going (control.SetVr n) w g = answered w DenyDirective g
+
+  wait-going : (w : Work) → GoingOf false u (suc l) d w → GoingOf false u l d (act.purgeWaitQueue w)
+  unfolding act.purgeWaitQueue act.notWaiting withQueues
+  wait-going w g = by (w .queues .waiting) where
+    by : (b : Bool) → GoingOf false u l d (pick b (act.respond RejectAdUnit (act.notWaiting w)) w)
+    by true = answered (act.notWaiting w) RejectAdUnit g
+    by false = unanswered w g
+
+module _ {x : Case} {p : Stored} {z : Bool} {store : List ℕ} {c d : List Fdu} where
+  denied-ended : (k : Control) (w : Work) → EndedOf x p z store c d w → EndedOf x p z store c d (act.denyControl k w)
+  unfolding act.denyControl act.respond withTold
+  denied-ended control.None w e = e
+  denied-ended control.Unlock w e = e
+  denied-ended (control.SetVr n) w e = e
+
+  wait-ended : (w : Work) → EndedOf x p z store c d w → EndedOf x p z store c d (act.purgeWaitQueue w)
+  unfolding act.purgeWaitQueue act.notWaiting act.respond withQueues withTold
+  wait-ended w e = by (w .queues .waiting) where
+    by : (b : Bool) → EndedOf x p z store c d (pick b (act.respond RejectAdUnit (act.notWaiting w)) w)
+    by true = record {
+      settled = e .settled;
+      filled = λ i h. e .filled i (held-waiting (w .queues .sent) i (w .queues .waiting) h);
+      runs = e .runs;
+      empty = e .empty;
+      below = e .below;
+    }
+    by false = e
+
+-- Both queues purged, with nothing denied before.
+module _ {x : Case} {p : Stored} {f z : Bool} {l : ℕ} {store : List ℕ} {c d : List Fdu} (w : Work) (e : EndedOf x p z store c d w) (g : GoingOf f true (suc (suc l)) d w) where
+  emptied-ended : EndedOf x p true store c (d ++ units w store) (act.emptied w)
+  unfolding act.emptied act.releaseBcFrame act.holdControl withQueues withTold
+  emptied-ended = record {
+    settled = e .settled;
+    filled = λ i h. e .filled i (held-fewer (w .queues .sent) i (w .queues .waiting) h);
+    runs = record {
+      stored = e .runs .stored;
+      measured = e .runs .measured;
+      of-confirmed = e .runs .of-confirmed;
+      of-denied = ap (λ (y : List Fdu). runOf (y ++ units w store)) (g .undenied) ∙ units-run w store;
+    };
+    empty = refl;
+    below = none-below (w .told .handed) 0 (g .none);
+  }
+
+  emptied-going : GoingOf false false (suc (suc l)) (d ++ units w store) (act.emptied w)
+  unfolding act.emptied act.releaseBcFrame act.holdControl withQueues withTold
+  emptied-going = record { none = g .none; room = g .room; undenied = tt; few = tt }
+
+  purged-ended : EndedOf x p true store c (d ++ units w store) (act.purgeWaitQueue (act.purgeSentQueue w))
+  unfolding act.purgeSentQueue
+  purged-ended =
+      wait-ended (act.denyControl (w .queues .control) (act.emptied w)) (denied-ended (w .queues .control) (act.emptied w) emptied-ended)
+
+  purged-going : GoingOf false false l (d ++ units w store) (act.purgeWaitQueue (act.purgeSentQueue w))
+  unfolding act.purgeSentQueue
+  purged-going =
+      wait-going (act.denyControl (w .queues .control) (act.emptied w)) (denied-going (w .queues .control) (act.emptied w) emptied-going)
+
+-- Transmission_Count 1 and Suspend_State 0
+serving : {x : Case} {p : Stored} {z : Bool} {store : List ℕ} {c d : List Fdu} (v : Work) → EndedOf x p z store c d v
+    → EndedOf x p z store c d (act.setSuspendState 0 (act.countOne v))
+unfolding act.setSuspendState act.countOne withVariables
+serving v e =
+    let s = e .settled in
+    resettled e (record {
+      in-window = s .in-window;
+      in-limit = s .in-limit;
+      alerting = s .alerting;
+      serving = refl;
+      own-spacecraft = s .own-spacecraft;
+      own-channel = s .own-channel;
+    })
+
+reason-is : (r : table.Reason) → reasonOf (declaredReason r) ≡ some r
+reason-is table.synch = refl
+reason-is table.clcw = refl
+reason-is table.limit = refl
+reason-is table.nnr = refl
+reason-is table.lockout = refl
+reason-is table.t1 = refl
+reason-is table.term = refl
+reason-is table.llif = refl
+
+module _ (x : Case) (w : Work) (m : machine.Work) {p : Stored} {f z : Bool} {l : ℕ} (h : Open x p f z true (suc (suc l)) w m) where
+  room : Room 2 (w .told .responses)
+  room = less-room 2 (suc (suc l)) (w .told .responses) (omega arith) (h .going .room)
+
+  pub alerts : (r : table.Reason) → Open x p false true false l (act.alert (declaredReason r) w) (perform (table.Alert r) m)
+  unfolding act.alert act.notify act.cancelTimer withVariables withTold
+  alerts r =
+      goes-on h (table.Alert r) (act.alert (declaredReason r) w) (h .d ++ units w (h .store))
+      (release.alert _ _ _ _ _ w (h .store) room (declaredReason r) r (reason-is r)) (well.alert w (h .store) (declaredReason r) (h .formed))
+      (purged-ended (act.cancelTimer w) (h .ended) (h .going)) (purged-going (act.cancelTimer w) (h .ended) (h .going))
+
+  pub initialise : Open x p false true false l (act.initialise w) (perform table.Initialise m)
+  unfolding act.initialise act.countOne act.setSuspendState withVariables
+  initialise =
+      let g = purged-going w (h .ended) (h .going) in
+      goes-on h table.Initialise (act.initialise w) (h .d ++ units w (h .store)) (release.initialise _ _ _ _ _ w (h .store) room) (well.initialise w (h .store) (h .formed))
+      (serving (act.purgeWaitQueue (act.purgeSentQueue w)) (purged-ended w (h .ended) (h .going)))
+      (record { none = g .none; room = g .room; undenied = tt; few = tt })

@@ -1,0 +1,33 @@
+-- The row of an event, done to the sender's struct and store, is the table machine's work on what they read as: every cell of the table is
+-- allowed (proofs/Allowed), and an allowed cell shows the machine's work, and leaves the lengths that the event leaves (proofs/Cells).
+use Prim.Native.Nat.{ℕ}
+use mathlib.Core.Path.{_≡_}
+use mathlib.Core.List.{List}
+use lib.ListN.{length}
+use Rattle.fop.specs.Units.{Own}
+use Rattle.fop.specs.Table.{FopEvent, table78, cell78}
+use Rattle.fop.specs.Machine.{fopDo}
+use Rattle.fop_actions.specs.declared.Sender.{Sender}
+use Rattle.fop_actions.specs.Start.{begun, noneTold}
+use Rattle.fop_actions.specs.View.{stateOf, fopOf}
+use Rattle.fop_rows.specs.Rows.{rowOf}
+use Rattle.fop_view.specs.State.{Good}
+use Rattle.fop_view.specs.Rows.{Meets, storeAfter, lengthsAfter, Shows}
+use Rattle.fop_view.proofs.Allowed.{allowed}
+use Rattle.fop_view.proofs.Cells.{Shown, cell-view}
+
+module _ (own : Own) (e : FopEvent) (o : List ℕ) (n : ℕ) (s : Sender) (store : List ℕ) (good : Good own s store) (meets : Meets e o n s) where
+  row-shown : Shown (record { own = own; event = e; octets = o; value = n; sender = s; store = store }) (rowOf e n (length o) (begun s)) (fopDo e o n (fopOf (begun s) store))
+  unfolding rowOf fopDo begun noneTold
+  row-shown =
+      cell-view (record { own = own; event = e; octets = o; value = n; sender = s; store = store }) good meets (cell78 (table78 e) (stateOf (s .state)))
+      (allowed e o n s meets (s .state))
+
+pub row-view : (own : Own) (e : FopEvent) (o : List ℕ) (n : ℕ) (s : Sender) (store : List ℕ) → Good own s store → Meets e o n s
+    → Shows own e o n (rowOf e n (length o) (begun s)) (storeAfter e o s (rowOf e n (length o) (begun s)) store) (fopDo e o n (fopOf (begun s) store))
+row-view own e o n s store good meets = row-shown own e o n s store good meets .shows
+
+-- the lengths of the units after it
+pub row-lengths : (own : Own) (e : FopEvent) (o : List ℕ) (n : ℕ) (s : Sender) (store : List ℕ) → Good own s store → Meets e o n s
+    → rowOf e n (length o) (begun s) .queues .lengths ≡ lengthsAfter e o s (rowOf e n (length o) (begun s))
+row-lengths own e o n s store good meets = row-shown own e o n s store good meets .measured
