@@ -28,7 +28,7 @@ use Rattle.fop_view.specs.State.{Good}
 use Rattle.fop_view.specs.Rows.{Brings, nothing, acknowledging, again, offering, numbering, widening, limiting, timing, suspending, brings, Needed, storeBy, lengthsBy, Shows}
 use Rattle.fop_view.proofs.Mode.{Stored, kept, moved, put, Mode, fresh, going, half, over, bad, same, same-is, initial, begins, emptyIn, notPut, putWhere, fits, ends, afterAll, allows}
 use Rattle.fop_view.proofs.Allowed.{both-first, both-second}
-use Rattle.fop_view.proofs.Known.{Case, seen, Where, Left, StoreIs, LengthsIs, Shut, At, none-below}
+use Rattle.fop_view.proofs.Known.{Case, seen, Where, Left, StoreIs, LengthsIs, NoMore, Shut, At, none-below, no-more-first}
 use Rattle.fop_view.proofs.Actions.{steps}
 
 not-true : {A : Type 0} → false ≡ true → A
@@ -93,16 +93,19 @@ serves : (s : Sender) → s .variables .«suspend_state» ≡ 0 → eqb (begun s
 unfolding begun
 serves s h = eq-eqb (s .variables .«suspend_state») 0 h
 
--- the work w of the machine's work m, with the store and the lengths that the event leaves
+-- the work w of the machine's work m, with the store and the lengths that the event leaves;
+-- the units confirmed and those still held are at most one more than the units sent before it
 pub record Shown (x : Case) (w : Work) (m : machine.Work) : Type 0 where
   pub shows : Shows (x .own) (x .event) (x .octets) (x .value) w (storeBy (brings (x .event)) (x .octets) (x .sender) w (x .store)) m
   pub measured : w .queues .lengths ≡ lengthsBy (brings (x .event)) (x .octets) (x .sender) w
+  pub no-more : NoMore x (w .told .confirmed .count) (w .queues .sent) (w .queues .waiting)
 
 shown : (x : Case) (w : Work) (m : machine.Work) (store : List ℕ) → LeftAfter x store w (brings (x .event))
-    → Shows (x .own) (x .event) (x .octets) (x .value) w store m → Shown x w m
-shown x w m store left h = record {
+    → NoMore x (w .told .confirmed .count) (w .queues .sent) (w .queues .waiting) → Shows (x .own) (x .event) (x .octets) (x .value) w store m → Shown x w m
+shown x w m store left most h = record {
   shows = subst (λ (s : List ℕ). Shows (x .own) (x .event) (x .octets) (x .value) w s m) (left .0) h;
   measured = left .1;
+  no-more = most;
 }
 
 module _ (x : Case) (good : Good (x .own) (x .sender) (x .store)) where
@@ -117,7 +120,7 @@ module _ (x : Case) (good : Good (x .own) (x .sender) (x .store)) where
       ap to (h .is)
       ∙ ap (λ (y : table.State). machine.onFop (machine.setState y (fopOf w (h .store))) (seen x (h .c) (h .d) w (h .store))) (sym (declared-is t))
       ∙ values.to-state _ _ _ _ _ w (h .store) (declared t) in
-      shown x v (to m) (h .store) (left-after x (h .store) v p (e .runs .stored) (e .runs .measured) (brings (x .event)) a)
+      shown x v (to m) (h .store) (left-after x (h .store) v p (e .runs .stored) (e .runs .measured) (brings (x .event)) a) (e .no-more)
       (record {
         is = subst (λ (y : machine.Work). y ≡ seen x (y .confirmed) (y .denied) v (h .store)) (sym is) refl;
         confirmed = ap (λ (y : machine.Work). runOf (y .confirmed)) (h .is) ∙ e .runs .of-confirmed;
@@ -154,7 +157,7 @@ module _ (x : Case) (good : Good (x .own) (x .sender) (x .store)) where
   unfolding begun noneTold senderOf
   unchanged a =
       shown x (begun (x .sender)) (seen x [] [] (begun (x .sender)) (x .store)) (x .store)
-      (left-after x (x .store) (begun (x .sender)) kept (refl, refl) (refl, refl) (brings (x .event)) a)
+      (left-after x (x .store) (begun (x .sender)) kept (refl, refl) (refl, refl) (brings (x .event)) a) (no-more-first x)
       (record { is = refl; confirmed = refl; denied = refl; good = good; sent = none-below handed.None (x .sender .queues .sent) refl })
 
   -- the work as it begins

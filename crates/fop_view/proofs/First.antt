@@ -37,16 +37,12 @@ use Rattle.fop_actions.proofs.ViewStart.{room-begun}
 use Rattle.fop_actions.proofs.ViewWaiting as waiting
 use Rattle.fop_view.specs.State.{Good, held}
 use Rattle.fop_view.proofs.Mode.{moved, put}
-use Rattle.fop_view.proofs.Known.{Case, Fresh, Open, octet-is, held-waiting, good-settled, none-below}
+use Rattle.fop_view.proofs.Known.{Case, Fresh, NoMore, Open, octet-is, held-most, held-waiting, good-settled, none-below}
 
 -- Remove acknowledged frames, by N(R) from NN(R) to V(S).
 held-past : (sent rest gone i : ℕ) (b : Bool) → gone ≡ sent - rest → rest ≤ sent → i < held rest b → gone + i < held sent b
 held-past sent rest gone i true e h k = omega arith
 held-past sent rest gone i false e h k = omega arith
-
-held-most : (sent : ℕ) (b : Bool) → held sent b ≤ suc sent
-held-most sent true = omega arith
-held-most sent false = omega arith
 
 module _ (x : Case) (good : Good (x .own) (x .sender) (x .store)) where
   sent-few : x .sender .queues .sent ≤ largestK
@@ -63,6 +59,13 @@ module _ (x : Case) (good : Good (x .own) (x .sender) (x .store)) where
       held-past (q .sent) (staying n w) (removed n w) i (q .waiting) (gone-is w (x .store) n (good .formed)) (least-first (q .sent) (offset (w .variables .vs) n)) h in
       let some-place : removed n w + i < length (q .lengths) = omega (arith, there, held-most (q .sent) (q .waiting), sent-few, good .formed .all-places) in
       rw (slid-at (removed n w) i (q .lengths) some-place) (good .filled (removed n w + i) there)
+
+  no-more-moved : (n : ℕ) → NoMore x (removed n (begun (x .sender))) (staying n (begun (x .sender))) (x .sender .queues .waiting)
+  unfolding begun
+  no-more-moved n =
+      let q = x .sender .queues in
+      let w = begun (x .sender) in
+      omega (arith, gone-is w (x .store) n (good .formed), least-first (q .sent) (offset (w .variables .vs) n), held-most (staying n w) (q .waiting))
 
   removes : (f z : Bool) (m : machine.Work) → Fresh x f z (begun (x .sender)) m → x .value < 256
       → offset (x .value) (x .sender .variables .nnr) ≤ offset (x .sender .variables .vs) (x .sender .variables .nnr)
@@ -81,6 +84,7 @@ module _ (x : Case) (good : Good (x .own) (x .sender) (x .store)) where
         ended = record {
           settled = good-settled good;
           filled = filled-moved (x .value);
+          no-more = no-more-moved (x .value);
           runs = record {
             stored = ap (λ (k : ℕ). slid (largestUnit * k) (x .store)) (sym (gone-is w (x .store) (x .value) (good .formed)));
             measured = refl;
@@ -134,6 +138,7 @@ module _ (x : Case) (good : Good (x .own) (x .sender) (x .store)) where
         ended = record {
           settled = good-settled good;
           filled = λ j k. subst (λ (ls : List ℕ). 1 ≤ getD ls j 0) longer (filled-set o j k);
+          no-more = omega arith;
           runs = record { stored = refl; measured = sym longer; of-confirmed = refl; of-denied = refl };
           empty = h .empty;
           below = none-below handed.None _ refl;

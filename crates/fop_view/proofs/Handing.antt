@@ -26,7 +26,7 @@ use Rattle.fop_actions.proofs.Kept as well
 use Rattle.fop_actions.proofs.ViewTransmit as transmit
 use Rattle.fop_view.specs.State.{held}
 use Rattle.fop_view.proofs.Mode.{Stored}
-use Rattle.fop_view.proofs.Known.{Case, seen, EndedOf, Open, Shut, octet-is, less-room}
+use Rattle.fop_view.proofs.Known.{Case, seen, NoMore, EndedOf, Open, Shut, octet-is, less-room}
 use Rattle.fop_view.proofs.Onward.{shuts}
 
 -- a frame of another type than AD
@@ -44,7 +44,7 @@ not-ad (handed.SetVr n) t sent k i q = let z : _≡_ {A = ℕ} 0 1 = cc in omega
 module _ (x : Case) (w : Work) (store : List ℕ) (p : Stored) (z : Bool) (c d : List Fdu) (e : EndedOf x p z store c d w) where
   other-handed : (down : Handed) → OtherFrame down → EndedOf x p z store c d (act.handDown down w)
   unfolding act.handDown withTold
-  other-handed down t = record { settled = e .settled; filled = e .filled; runs = e .runs; empty = e .empty; below = not-ad down t (w .queues .sent) }
+  other-handed down t = record { settled = e .settled; filled = e .filled; no-more = e .no-more; runs = e .runs; empty = e .empty; below = not-ad down t (w .queues .sent) }
 
   marked-sent : (down : Handed) → OtherFrame down → EndedOf x p z store c d (act.sendMarkedControl down w)
   unfolding act.sendMarkedControl act.sendControl act.holdControl act.handDown withVariables withQueues withTold
@@ -108,6 +108,7 @@ module _ (x : Case) (w : Work) (store : List ℕ) {p : Stored} {z : Bool} {c d :
       record {
         settled = e .settled;
         filled = e .filled;
+        no-more = e .no-more;
         runs = e .runs;
         empty = tt;
         below = λ k i b. omega (arith, here, ad-place (handed.Ad (offset (w .variables .vs) (q .marked)) (offset (q .sent) (q .marked))) _ _ k i refl b);
@@ -121,13 +122,14 @@ module _ (x : Case) (w : Work) (store : List ℕ) {p : Stored} {z : Bool} {c d :
       record {
         settled = e .settled;
         filled = λ i b. e .filled i (subst (λ (y : Bool). i < held (q .sent) y) (sym t) (omega (arith, more, b)));
+        no-more = omega (arith, more, subst (λ (y : Bool). NoMore x (w .told .confirmed .count) (q .sent) y) t (e .no-more));
         runs = e .runs;
         empty = tt;
         below = λ k i b. omega (arith, more, ad-place (handed.Ad (w .variables .vs) (q .sent)) _ _ k i refl b);
       }
 
   same-sent : EndedOf x p false store c d w
-  same-sent = record { settled = e .settled; filled = e .filled; runs = e .runs; empty = tt; below = e .below }
+  same-sent = record { settled = e .settled; filled = e .filled; no-more = e .no-more; runs = e .runs; empty = tt; below = e .below }
 
   fdu-looked : EndedOf x p false store c d (act.lookForFdu w)
   unfolding act.lookForFdu

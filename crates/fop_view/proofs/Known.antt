@@ -1,6 +1,6 @@
 -- What a mode says of the work on an event and of the machine's work on it. The facts are stated of the values of fields, so that an
 -- action that leaves those fields alone keeps them as they stand.
-use Prim.Native.Nat.{ℕ, _*_, _%_, _≤_, _<_}
+use Prim.Native.Nat.{ℕ, suc, _+_, _*_, _%_, _≤_, _<_}
 use mathlib.Core.Path.{_≡_, refl, sym, subst}
 use mathlib.Core.Bool.{Bool, true, false}
 use mathlib.Core.List.{List, []}
@@ -78,11 +78,16 @@ pub record Runs (x : Case) (p : Stored) (store lengths : List ℕ) (c d : List F
   pub of-confirmed : runOf c ≡ runTold confirmed
   pub of-denied : runOf d ≡ runTold denied
 
+-- the units confirmed and those still held are at most one more than the units sent before the event
+abbrev pub NoMore : Case → ℕ → ℕ → Bool → Type 0
+NoMore x count sent waiting = count + held sent waiting ≤ suc (x .sender .queues .sent)
+
 -- what is known all along: z is whether the Sent_Queue is empty
 pub record Ended (x : Case) (p : Stored) (z : Bool) (store : List ℕ) (c d : List Fdu) (window limit timeout spacecraft channel suspend sent : ℕ)
     (waiting : Bool) (lengths : List ℕ) (down : Handed) (confirmed denied : Run) : Type 0 where
   pub settled : Settled (x .own) window limit timeout spacecraft channel suspend
   pub filled : (i : ℕ) → i < held sent waiting → 1 ≤ getD lengths i 0
+  pub no-more : NoMore x (confirmed .count) sent waiting
   pub runs : Runs x p store lengths c d confirmed denied
   pub empty : Where z (sent ≡ 0)
   pub below : (k i : ℕ) → down ≡ handed.Ad k i → i < sent
@@ -150,10 +155,17 @@ At x bad w m = Unit {0}
 pub octet-is : (n : ℕ) → n < 256 → n % 256 ≡ n
 octet-is n h = omega arith
 
--- a unit sent is held, whether or not one waits
+-- the units sent are held, whether or not one waits, and one more at most
+pub held-least : (sent : ℕ) (b : Bool) → sent ≤ held sent b
+held-least sent true = omega arith
+held-least sent false = omega arith
+
+pub held-most : (sent : ℕ) (b : Bool) → held sent b ≤ suc sent
+held-most sent true = omega arith
+held-most sent false = omega arith
+
 pub held-waiting : (sent i : ℕ) (b : Bool) → i < sent → i < held sent b
-held-waiting sent i true h = omega arith
-held-waiting sent i false h = h
+held-waiting sent i b h = omega (arith, held-least sent b)
 
 -- room for fewer responses
 pub less-room : (j k : ℕ) (r : Responses) → j ≤ k → Room k r → Room j r
@@ -163,7 +175,7 @@ less-room j k r h m = record { few = omega (arith, m .few); all-numbers = m .all
 pub resettled : {x : Case} {p : Stored} {z : Bool} {store : List ℕ} {c d : List Fdu} {k l t s n u k' l' t' s' n' u' sent : ℕ} {waiting : Bool} {lengths : List ℕ}
     {down : Handed} {confirmed denied : Run} → Ended x p z store c d k l t s n u sent waiting lengths down confirmed denied → Settled (x .own) k' l' t' s' n' u'
     → Ended x p z store c d k' l' t' s' n' u' sent waiting lengths down confirmed denied
-resettled e s = record { settled = s; filled = e .filled; runs = e .runs; empty = e .empty; below = e .below }
+resettled e s = record { settled = s; filled = e .filled; no-more = e .no-more; runs = e .runs; empty = e .empty; below = e .below }
 
 -- the settings of a well-formed sender
 pub good-settled : {own : Own} {s : Sender} {store : List ℕ} → Good own s store
@@ -181,6 +193,9 @@ good-settled g = record {
 pub none-below : (down : Handed) (sent : ℕ) → down ≡ handed.None → (k i : ℕ) → down ≡ handed.Ad k i → i < sent
 none-below down sent h k i q = let z : _≡_ {A = ℕ} 0 1 = cc in omega arith
 
+pub no-more-first : (x : Case) → NoMore x 0 (x .sender .queues .sent) (x .sender .queues .waiting)
+no-more-first x = omega (arith, held-most (x .sender .queues .sent) (x .sender .queues .waiting))
+
 opens : (x : Case) (f z : Bool) (m : machine.Work) → Fresh x f z (begun (x .sender)) m → Open x kept f z true largestResponses (begun (x .sender)) m
 unfolding begun noneTold
 opens x f z m h =
@@ -194,6 +209,7 @@ opens x f z m h =
       ended = record {
         settled = good-settled g;
         filled = g .filled;
+        no-more = no-more-first x;
         runs = record { stored = (refl, refl); measured = (refl, refl); of-confirmed = refl; of-denied = refl };
         empty = h .empty;
         below = none-below handed.None (x .sender .queues .sent) refl;

@@ -1,5 +1,5 @@
 -- Alert and Initialise: both queues are purged, which denies the units sent and leaves the Sent_Queue empty.
-use Prim.Native.Nat.{ℕ, suc, _<_}
+use Prim.Native.Nat.{ℕ, suc, _≤_, _<_}
 use mathlib.Core.Path.{_≡_, refl, ap, _∙_}
 use mathlib.Core.Bool.{Bool, true, false}
 use mathlib.Core.List.{List, _++_}
@@ -29,7 +29,7 @@ use Rattle.fop_actions.proofs.ViewRuns.{denied-run}
 use Rattle.fop_rows.specs.Rows.{declaredReason}
 use Rattle.fop_view.specs.State.{held}
 use Rattle.fop_view.proofs.Mode.{Stored}
-use Rattle.fop_view.proofs.Known.{Case, EndedOf, GoingOf, Open, held-waiting, less-room, resettled, none-below}
+use Rattle.fop_view.proofs.Known.{Case, EndedOf, GoingOf, Open, held-least, held-waiting, less-room, resettled, none-below}
 use Rattle.fop_view.proofs.Onward.{goes-on}
 
 -- the units on the Sent_Queue
@@ -45,9 +45,10 @@ units-run w store =
     (withQueues (record { sent = q .sent; marked = q .marked; waiting = false; control = control.None; «control_marked» = false; lengths = q .lengths }) w) store
     alert.None
 
-held-fewer : (sent i : ℕ) (b : Bool) → i < held 0 b → i < held sent b
-held-fewer sent i true h = omega arith
-held-fewer sent i false h = omega arith
+-- with the Sent_Queue empty no more units are held
+held-fewer : (sent : ℕ) (b : Bool) → held 0 b ≤ held sent b
+held-fewer sent true = omega arith
+held-fewer sent false = omega arith
 
 -- The type-BC frame and the unit waiting are purged: each gives one response more, or leaves its room.
 module _ {u : Bool} {l : ℕ} {d : List Fdu} where
@@ -85,6 +86,7 @@ module _ {x : Case} {p : Stored} {z : Bool} {store : List ℕ} {c d : List Fdu} 
     by true = record {
       settled = e .settled;
       filled = λ i h. e .filled i (held-waiting (w .queues .sent) i (w .queues .waiting) h);
+      no-more = omega (arith, e .no-more, held-least (w .queues .sent) (w .queues .waiting));
       runs = e .runs;
       empty = e .empty;
       below = e .below;
@@ -97,7 +99,8 @@ module _ {x : Case} {p : Stored} {f z : Bool} {l : ℕ} {store : List ℕ} {c d 
   unfolding act.emptied act.releaseBcFrame act.holdControl withQueues withTold
   emptied-ended = record {
     settled = e .settled;
-    filled = λ i h. e .filled i (held-fewer (w .queues .sent) i (w .queues .waiting) h);
+    filled = λ i h. e .filled i (omega (arith, h, held-fewer (w .queues .sent) (w .queues .waiting)));
+    no-more = omega (arith, e .no-more, held-fewer (w .queues .sent) (w .queues .waiting));
     runs = record {
       stored = e .runs .stored;
       measured = e .runs .measured;

@@ -1,6 +1,7 @@
 -- The row of an event, done to the sender's struct and store, is the table machine's work on what they read as: every cell of the table is
--- allowed (proofs/Allowed), and an allowed cell shows the machine's work, and leaves the lengths that the event leaves (proofs/Cells).
-use Prim.Native.Nat.{ℕ}
+-- allowed (proofs/Allowed), and an allowed cell shows the machine's work, leaves the lengths that the event leaves, and confirms and still
+-- holds at most one unit more than were sent before it (proofs/Cells).
+use Prim.Native.Nat.{ℕ, suc, _+_, _≤_}
 use mathlib.Core.Path.{_≡_}
 use mathlib.Core.List.{List}
 use lib.ListN.{length}
@@ -11,7 +12,7 @@ use Rattle.fop_actions.specs.declared.Sender.{Sender}
 use Rattle.fop_actions.specs.Start.{begun, noneTold}
 use Rattle.fop_actions.specs.View.{stateOf, fopOf}
 use Rattle.fop_rows.specs.Rows.{rowOf}
-use Rattle.fop_view.specs.State.{Good}
+use Rattle.fop_view.specs.State.{Good, held}
 use Rattle.fop_view.specs.Rows.{Meets, storeAfter, lengthsAfter, Shows}
 use Rattle.fop_view.proofs.Allowed.{allowed}
 use Rattle.fop_view.proofs.Cells.{Shown, cell-view}
@@ -31,3 +32,8 @@ row-view own e o n s store good meets = row-shown own e o n s store good meets .
 pub row-lengths : (own : Own) (e : FopEvent) (o : List ℕ) (n : ℕ) (s : Sender) (store : List ℕ) → Good own s store → Meets e o n s
     → rowOf e n (length o) (begun s) .queues .lengths ≡ lengthsAfter e o s (rowOf e n (length o) (begun s))
 row-lengths own e o n s store good meets = row-shown own e o n s store good meets .measured
+
+-- the units confirmed and those still held are at most one more than the units sent before it
+pub row-few : (own : Own) (e : FopEvent) (o : List ℕ) (n : ℕ) (s : Sender) (store : List ℕ) → Good own s store → Meets e o n s
+    → rowOf e n (length o) (begun s) .told .confirmed .count + held (rowOf e n (length o) (begun s) .queues .sent) (rowOf e n (length o) (begun s) .queues .waiting) ≤ suc (s .queues .sent)
+row-few own e o n s store good meets = row-shown own e o n s store good meets .no-more

@@ -25,11 +25,11 @@ use Rattle.clcw.proofs.Word as word
 use Rattle.clcw.proofs.Back as cback
 use Rattle.session.specs.Frames.{read}
 
-and-both : (a b : Bool) → (a && b) ≡ true → (a ≡ true) × (b ≡ true)
+pub and-both : (a b : Bool) → (a && b) ≡ true → (a ≡ true) × (b ≡ true)
 and-both true b e = (refl, e)
 and-both false b e = absurd (false≢true e)
 
-octets-are : (o : List ℕ) → areOctets o ≡ true → Octets o
+pub octets-are : (o : List ℕ) → areOctets o ≡ true → Octets o
 octets-are [] e = tt
 octets-are (x ∷ o) e = let h = and-both (ltb x 256) (areOctets o) e in (ltb-true x 256 (h .0), octets-are o (h .1))
 

@@ -1,0 +1,372 @@
+-- Every event of the session: our sender's step does what the table machine does on what the sender's state and store read as.
+use Prim.Native.Nat.{ℕ, _+_, _-_, _*_, _^_, _≤_, _<_}
+use mathlib.Core.Path.{_≡_, refl, sym, ap, subst, _∙_}
+use mathlib.Core.Bool.{Bool, true, false, _&&_, true≢false}
+use mathlib.Core.List.{List, [], _∷_}
+use mathlib.Core.Option.{Option, none, some}
+use native.Mathlib.Omega.{arith}
+use borrow.Author.Tests.{leb-true, le-leb, eqb-true}
+use lib.Dec.{T, leb, ltb, eqb}
+use lib.ListN.{length, getD}
+use Rattle.base.specs.Choice.{pick, must}
+use Rattle.base.specs.Limits.{largestUnit}
+use Rattle.base.specs.Fields.{fieldAt}
+use Rattle.base.specs.Outcome.{Outcome, Outcome.done}
+use Rattle.base.specs.Outcome as outcome
+use Rattle.base.proofs.Computed.{is-true}
+use Rattle.base.proofs.Lists.{octets-at}
+use Rattle.store.specs.Slid.{slid}
+use Rattle.store.proofs.Parts.{slid-none}
+use Rattle.clcw.specs.Clcw.{virtualChannel, isValid, wordOf}
+use Rattle.clcw.specs.Answers.{readingOf, receivedOf}
+use Rattle.clcw.specs.declared.Clcw.{Clcw}
+use Rattle.clcw.specs.declared.Reading.{Reading}
+use Rattle.clcw.specs.declared.Reading.the-variants as reading
+use Rattle.clcw.proofs.Word.{word-is}
+use Rattle.fop.specs.Units.{Own, Word, Heard, valid, invalid, other, heard, readWord, areOctets, legal}
+use Rattle.fop.specs.Table.{FopEvent, E15, E16, E17, E18, E19, E20, E21, E22, E39, E40, E41, E42, E43, E44, E45, E46, E103, E104}
+use Rattle.fop.specs.Variables as machine
+use Rattle.fop.specs.Variables.{Fop}
+use Rattle.fop.specs.Machine.{fopDo}
+use Rattle.fop.specs.Events.{Line, when, first, SenderEvent, requestAd, requestBd, tick, lower, directive, wordArrives, isEmpty, seen, wordLines, wordEvent, expiryLines, validDirective, directiveLines, directiveEvent, work, fopAd, fopBd, fopTick, fopExpiry, fopLower, fopDirective, fopHeard, fopWord}
+use Rattle.fop.specs.Events as fop
+use Rattle.fop.specs.Answers.{judged, otherRefusal, octetsDown, refused}
+use Rattle.fop_actions.specs.declared.Sender.{Sender}
+use Rattle.fop_actions.specs.declared.Work.{Work}
+use Rattle.fop_actions.specs.Limits.{places}
+use Rattle.fop_actions.specs.Start.{begun, noneTold, senderOf}
+use Rattle.fop_actions.specs.View.{unitAt, fopOf}
+use Rattle.fop_actions.proofs.Ways.{yes, no}
+use Rattle.fop_rows.specs.Rows.{eventOf, rowIf, rowOf, rowNumbered}
+use Rattle.fop_events.specs.Events.{eventNumber, variablesOf, expiryNumber, adNumber, bdNumber, lowerNumber, directiveNumber, wordNumber, told}
+use Rattle.fop_view.specs.State.{Good}
+use Rattle.fop_view.specs.Rows.{brings, Meets}
+use Rattle.session.proofs.Rows.{first-all}
+use Rattle.session.proofs.Octets.{octets-are}
+use Rattle.sender.specs.Answers.{Step, stepBy, refusedStep}
+use Rattle.sender.specs.Limits.{smallestStore}
+use Rattle.sender.specs.Events.{handedWriting, servedBy, served, offeredBy, bypassedBy, mustBeUnit, requestAdOf, requestBdOf, directiveOf, ticked, tickNumber, tickOf, lowerLayerOf, wordBy, controlWordOf}
+use Rattle.ends.specs.Ours.{Held, ifOctets, stepOf, lowerAnswer, answerBy, lentOutput}
+use Rattle.ends.proofs.Numbers.{number-event, row-event}
+use Rattle.ends.proofs.Writing.{Fits, fitting}
+use Rattle.ends.proofs.Concluding.{Agrees, concludes, refuses-7, refuses-10, refuses-12}
+use Rattle.ends.proofs.Judged.{Does, agreed, refuses, refused-keeps, refused-good}
+use Rattle.ends.proofs.Served.{isOffering, serves}
+use Rattle.ends.proofs.Requested.{offers, rejects-ad, rejects-bd, bypasses-down, lengthless-21, lengthless-22}
+use Rattle.ends.proofs.Meets.{word-meets, directive-meets, expiry-meets, valid-not-40, invalid-is-40}
+
+-- an event that neither offers a unit nor is E21
+abbrev plain : FopEvent → Bool
+plain e = pick (isOffering (brings e)) false (pick (eqb (eventNumber e) 21) false true)
+
+plain-quiet : (e : FopEvent) → plain e ≡ true → isOffering (brings e) ≡ false
+plain-quiet e = by (isOffering (brings e)) (eqb (eventNumber e) 21) where
+  by : (a b : Bool) → pick a false (pick b false true) ≡ true → a ≡ false
+  by true b t = absurd (true≢false (sym t))
+  by false b t = refl
+
+plain-unbypassed : (e : FopEvent) → plain e ≡ true → eqb (eventNumber e) 21 ≡ false
+plain-unbypassed e = by (isOffering (brings e)) (eqb (eventNumber e) 21) where
+  by : (a b : Bool) → pick a false (pick b false true) ≡ true → b ≡ false
+  by true b t = absurd (true≢false (sym t))
+  by false true t = absurd (true≢false (sym t))
+  by false false t = refl
+
+-- the store that is lent is long enough
+stored : (own : Own) (s : Sender) (store : List ℕ) → Good own s store → leb smallestStore (length store) ≡ true
+unfolding begun
+stored own s store g = le-leb smallestStore (length store) (g .formed .room)
+
+-- octets as they are read at our channel
+yes-heard : (own : Own) (octets : List ℕ) → areOctets octets ≡ true → (r : Reading) → readingOf octets (own .channel) ≡ r → readWord own octets ≡ heard r
+unfolding readWord
+yes-heard own octets t r q = ap (λ (b : Bool). heard (pick b (readingOf octets (own .channel)) reading.Length)) t ∙ ap heard q
+
+module _ (own : Own) (s : Sender) (store : List ℕ) (lent : ℕ) (good : Good own s store) where
+  abbrev f : Fop
+  f = fopOf (begun s) store
+
+  abbrev output : List ℕ
+  output = lentOutput lent
+
+  -- an event of the table that is served, of the state g
+  by-row : (e : FopEvent) (n : ℕ) (g : Sender) → Good own g store → Meets e [] n g → g .queues ≡ s .queues → plain e ≡ true
+      → Agrees own lent f (fopDo e [] n (fopOf (begun g) store)) (served (eventNumber e) n s g store output)
+  unfolding served
+  by-row e n g by-good meets q p =
+      subst (λ (x : Step). Agrees own lent f (fopDo e [] n (fopOf (begun g) store)) x)
+      (sym (ap (λ (t : Bool). must t (refusedStep 11 s store output) (servedBy (eventNumber e) s (rowNumbered (eventNumber e) n 0 (begun g)) store output)) (stored own s store good)
+      ∙ ap (λ (w : Work). servedBy (eventNumber e) s w store output) (row-event e n 0 (begun g))))
+      (serves own e n s g store lent good by-good meets q (plain-quiet e p) (plain-unbypassed e p))
+
+  refused-by : (e : SenderEvent) (j : ℕ) → judged own e ≡ j → eqb j 0 ≡ false → answerBy (refusedStep j s store output) ≡ refused j f
+      → Does own lent e f (refusedStep j s store output)
+  refused-by e j q h a = refuses own lent e f (refusedStep j s store output) j q h a (refused-keeps own s store output j) (refused-good own s store output j good)
+
+  -- Answers of the lower layer.
+  lower-plain : (l : fop.Lower) → plain (fop.lowerEvent l) ≡ true
+  lower-plain fop.adAccept = refl
+  lower-plain fop.adReject = refl
+  lower-plain fop.bcAccept = refl
+  lower-plain fop.bcReject = refl
+  lower-plain fop.bdAccept = refl
+  lower-plain fop.bdReject = refl
+
+  lower-meets : (l : fop.Lower) → Meets (fop.lowerEvent l) [] 0 s
+  lower-meets fop.adAccept = tt
+  lower-meets fop.adReject = tt
+  lower-meets fop.bcAccept = tt
+  lower-meets fop.bcReject = tt
+  lower-meets fop.bdAccept = tt
+  lower-meets fop.bdReject = tt
+
+  lower-is : (l : fop.Lower) → lowerNumber (lowerAnswer l) ≡ eventNumber (fop.lowerEvent l)
+  unfolding lowerNumber
+  lower-is fop.adAccept = refl
+  lower-is fop.adReject = refl
+  lower-is fop.bcAccept = refl
+  lower-is fop.bcReject = refl
+  lower-is fop.bdAccept = refl
+  lower-is fop.bdReject = refl
+
+  pub lower-does : (l : fop.Lower) → Does own lent (lower l) f (lowerLayerOf (lowerAnswer l) s store output)
+  unfolding lowerLayerOf work fopLower judged
+  lower-does l =
+      agreed own lent (lower l) f (lowerLayerOf (lowerAnswer l) s store output) refl
+      (subst (λ (k : ℕ). Agrees own lent f (fopDo (fop.lowerEvent l) [] 0 f) (served k 0 s s store output)) (sym (lower-is l))
+      (by-row (fop.lowerEvent l) 0 s good (lower-meets l) refl (lower-plain l)))
+
+  -- Directives.
+  directive-plain : (d v : ℕ) → plain (directiveEvent d v (variablesOf s)) ≡ true
+  unfolding directiveEvent
+  directive-plain d v = is-true _ (first-all plain (directiveLines d v (variablesOf s)) E39 tt)
+
+  directive-valid : (d v : ℕ) → validDirective d v ≡ true → Does own lent (directive d v) f (directiveOf d v s store output)
+  unfolding directiveOf directiveNumber work fopDirective judged directiveEvent
+  directive-valid d v t =
+      agreed own lent (directive d v) f (directiveOf d v s store output) (yes _ _ _ t)
+      (subst (λ (x : Step). Agrees own lent f (fopDo (directiveEvent d v (variablesOf s)) [] v f) x) (sym (no _ _ _ (valid-not-40 d v s t)))
+      (by-row (directiveEvent d v (variablesOf s)) v s good (directive-meets d v s t (good .serving)) refl (directive-plain d v)))
+
+  directive-invalid : (d v : ℕ) → validDirective d v ≡ false → Does own lent (directive d v) f (directiveOf d v s store output)
+  unfolding directiveOf directiveNumber judged
+  directive-invalid d v t =
+      subst (λ (x : Step). Does own lent (directive d v) f x) (sym (yes _ _ _ (ap (λ (e : FopEvent). eqb (eventNumber e) 40) (invalid-is-40 d v s t))))
+      (refused-by (directive d v) 12 (no _ _ _ t) refl (refuses-12 s store output))
+
+  pub directive-does : (d v : ℕ) → Does own lent (directive d v) f (directiveOf d v s store output)
+  directive-does d v = by (validDirective d v) refl where
+    by : (b : Bool) → validDirective d v ≡ b → Does own lent (directive d v) f (directiveOf d v s store output)
+    by true t = directive-valid d v t
+    by false t = directive-invalid d v t
+
+  -- Ticks.
+  abbrev expired : FopEvent
+  expired =
+      first (expiryLines (ltb (s .variables .«transmission_count») (s .settings .«transmission_limit»)) (eqb (s .settings .«timeout_type») 0)) E18
+
+  expiry-plain : plain expired ≡ true
+  expiry-plain =
+      is-true _ (first-all plain (expiryLines (ltb (s .variables .«transmission_count») (s .settings .«transmission_limit»)) (eqb (s .settings .«timeout_type») 0)) E18 tt)
+
+  ticked-good : Good own (ticked s) store
+  unfolding begun
+  ticked-good = record {
+    formed = good .formed;
+    window = good .window;
+    limit = good .limit;
+    alerting = good .alerting;
+    serving = good .serving;
+    initial = good .initial;
+    filled = good .filled;
+    spacecraft = good .spacecraft;
+    channel = good .channel;
+    spacecraft-most = good .spacecraft-most;
+    channel-most = good .channel-most;
+  }
+
+  abbrev lowered : Fop
+  lowered = fopOf (begun (ticked s)) store
+
+  -- the tick that makes the timer zero
+  expires : Agrees own lent f (fopDo expired [] 0 lowered) (served (expiryNumber (ticked s)) 0 s (ticked s) store output)
+  unfolding expiryNumber
+  expires = by-row expired 0 (ticked s) ticked-good (expiry-meets (ticked s) (good .alerting)) refl expiry-plain
+
+  -- any other
+  passes : Agrees own lent f (machine.begin none [] 0 lowered) (served 0 0 s (ticked s) store output)
+  unfolding served servedBy rowNumbered rowIf eventOf handedWriting begun noneTold senderOf
+  passes =
+      let w : Work = begun (ticked s) in
+      let nothing-down : done [] tt ≡ fitting none lent = ap (λ (b : Bool). pick {A = Outcome (Unit {0})} b (done [] tt) (outcome.Outcome.refused 11 0)) (sym (le-leb 0 lent (omega arith))) in
+      subst (λ (x : Step). Agrees own lent f (machine.begin none [] 0 lowered) x)
+      (sym (ap (λ (t : Bool). must t (refusedStep 11 s store output) (stepBy 0 s w (done [] tt) (slid (largestUnit * 0) store) store output)) (stored own s store good)
+      ∙ ap (λ (x : List ℕ). stepBy 0 s w (done [] tt) x store output) (slid-none store) ∙ ap (λ (x : Outcome (Unit {0})). stepBy 0 s w x store store output) nothing-down))
+      (concludes own none 0 refl [] 0 s store store w (machine.begin none [] 0 lowered) lent refl refl refl ticked-good good tt)
+
+  pub tick-does : Does own lent tick f (tickOf s store output)
+  unfolding tickOf work fopTick fopExpiry judged begun
+  tick-does =
+      agreed own lent tick f (tickOf s store output) refl (by (eqb (s .variables .timer) 1)) where
+        by : (b : Bool) → Agrees own lent f (pick b (fopDo expired [] 0 lowered) (machine.begin none [] 0 lowered))
+            (served (pick b (expiryNumber (ticked s)) 0) 0 s (ticked s) store output)
+        by true = expires
+        by false = passes
+
+  -- Control words.
+  abbrev reportIn : Reading → ℕ
+  reportIn (reading.Word r) = r .word .report
+  reportIn reading.Invalid = 0
+  reportIn reading.Address = 0
+  reportIn reading.Length = 0
+
+  report-octet : (octets : List ℕ) (channel : ℕ) → areOctets octets ≡ true → reportIn (readingOf octets channel) < 256
+  unfolding readingOf receivedOf
+  report-octet octets channel t = by (eqb (length octets) 4) refl (isValid octets) (eqb (fieldAt virtualChannel octets) channel) where
+    at-octet : (i : ℕ) → getD octets i 0 < 256
+    at-octet = octets-at octets (octets-are octets t)
+
+    by : (a : Bool) → eqb (length octets) 4 ≡ a → (b c : Bool)
+        → reportIn (must a reading.Length (must b reading.Invalid (must c reading.Address (reading.Word (receivedOf octets))))) < 256
+    by true e true true =
+        let q : wordOf octets .report ≡ getD octets 3 0 = ap (λ (x : Clcw). x .report) (word-is octets (eqb-true (length octets) 4 e) at-octet) in
+        omega (arith, q, at-octet 3)
+    by true e true false = omega arith
+    by true e false c = omega arith
+    by false e b c = omega arith
+
+  word-plain : (w : Word) → plain (wordEvent (seen w (variablesOf s))) ≡ true
+  unfolding wordEvent
+  word-plain w = is-true _ (first-all plain (wordLines (seen w (variablesOf s))) E103 tt)
+
+  -- by what the octets are read as
+  heard-does : (octets : List ℕ) → areOctets octets ≡ true → (r : Reading) → readingOf octets (own .channel) ≡ r → reportIn r < 256
+      → Does own lent (wordArrives octets) f (wordBy r s store output)
+  unfolding wordNumber work fopHeard fopWord judged readWord begun
+  heard-does octets t (reading.Word r) q o =
+      let h : readWord own octets ≡ heard (reading.Word r) = yes-heard own octets t (reading.Word r) q in
+      agreed own lent (wordArrives octets) f (wordBy (reading.Word r) s store output) (ap otherRefusal h)
+      (subst (λ (x : Heard). Agrees own lent f (fopHeard x f) (wordBy (reading.Word r) s store output)) (sym h)
+      (by-row (wordEvent (seen (told (r .word)) (variablesOf s))) (r .word .report) s good (word-meets (told (r .word)) s o) refl (word-plain (told (r .word)))))
+  heard-does octets t reading.Invalid q o =
+      let h : readWord own octets ≡ invalid = yes-heard own octets t reading.Invalid q in
+      agreed own lent (wordArrives octets) f (wordBy reading.Invalid s store output) (ap otherRefusal h)
+      (subst (λ (x : Heard). Agrees own lent f (fopHeard x f) (wordBy reading.Invalid s store output)) (sym h) (by-row E15 0 s good tt refl refl))
+  heard-does octets t reading.Address q o =
+      refused-by (wordArrives octets) 7 (ap otherRefusal (yes-heard own octets t reading.Address q)) refl (refuses-7 s store output)
+  heard-does octets t reading.Length q o =
+      refused-by (wordArrives octets) 10 (ap otherRefusal (yes-heard own octets t reading.Length q)) refl (refuses-10 s store output)
+
+  pub word-does : (octets : List ℕ) → areOctets octets ≡ true → Does own lent (wordArrives octets) f (controlWordOf octets s store output)
+  unfolding controlWordOf
+  word-does octets t =
+      subst (λ (c : ℕ). Does own lent (wordArrives octets) f (wordBy (readingOf octets c) s store output)) (sym (good .channel))
+      (heard-does octets t (readingOf octets (own .channel)) refl (report-octet octets (own .channel) t))
+
+  -- Requests.
+  legal-fits : (o : List ℕ) → leb 1 (length o) ≡ true → leb (length o) largestUnit ≡ true → Fits o
+  legal-fits o a b = (leb-true _ _ a, leb-true _ _ b)
+
+  -- an AD request, by the Wait_Queue
+  abbrev byWaiting : List ℕ → Bool → FopEvent
+  byWaiting unit b = first (when (isEmpty (pick b (some unit) none)) E19 ∷ []) E20
+
+  by-number : (o : List ℕ) (e : FopEvent) → Agrees own lent f (fopDo e o 0 f) (offeredBy (eventNumber e) s (rowOf e 0 (length o) (begun s)) o store output)
+      → Agrees own lent f (fopDo e o 0 f) (offeredBy (eventNumber e) s (rowNumbered (eventNumber e) 0 (length o) (begun s)) o store output)
+  by-number o e h =
+      subst (λ (w : Work). Agrees own lent f (fopDo e o 0 f) (offeredBy (eventNumber e) s w o store output)) (sym (row-event e 0 (length o) (begun s))) h
+
+  ad-event : (o : List ℕ) → Fits o → (b : Bool)
+      → Agrees own lent f (fopDo (byWaiting [] b) o 0 f)
+      (offeredBy (eventNumber (byWaiting [] b)) s (rowNumbered (eventNumber (byWaiting [] b)) 0 (length o) (begun s)) o store output)
+  ad-event o legal true = by-number o E20 (rejects-ad own o s store lent good)
+  ad-event o legal false = by-number o E19 (offers own o s store lent good legal)
+
+  unit-aside : (u v : List ℕ) (b : Bool) → byWaiting u b ≡ byWaiting v b
+  unit-aside u v true = refl
+  unit-aside u v false = refl
+
+  ad-row : (o : List ℕ) → Fits o → Agrees own lent f (fopAd o f) (offeredBy (adNumber s) s (rowNumbered (adNumber s) 0 (length o) (begun s)) o store output)
+  unfolding fopAd adNumber begun
+  ad-row o legal =
+      let u : List ℕ = unitAt (s .queues .lengths) (s .queues .sent) store in
+      let v : List ℕ = unitAt (s .queues .lengths) (s .queues .sent) [] in
+      subst (λ (e : FopEvent). Agrees own lent f (fopDo e o 0 f) (offeredBy (adNumber s) s (rowNumbered (adNumber s) 0 (length o) (begun s)) o store output))
+      (unit-aside [] u (s .queues .waiting))
+      (subst (λ (e : FopEvent). Agrees own lent f (fopDo (byWaiting [] (s .queues .waiting)) o 0 f)
+      (offeredBy (eventNumber e) s (rowNumbered (eventNumber e) 0 (length o) (begun s)) o store output))
+      (unit-aside [] v (s .queues .waiting)) (ad-event o legal (s .queues .waiting)))
+
+  -- a BD request, by the BD_Out_Flag
+  bd-event : (o : List ℕ) → Fits o → (b : Bool)
+      → Agrees own lent f (fopDo (first (when b E21 ∷ []) E22) o 0 f)
+      (bypassedBy (eventNumber (first (when b E21 ∷ []) E22)) s (rowNumbered (eventNumber (first (when b E21 ∷ []) E22)) 0 0 (begun s)) o store output)
+  bd-event o legal true =
+      subst (λ (w : Work). Agrees own lent f (fopDo E21 o 0 f) (bypassedBy 21 s w o store output))
+      (sym (row-event E21 0 0 (begun s) ∙ lengthless-21 0 0 (length o) s)) (bypasses-down own o s store lent good legal)
+  bd-event o legal false =
+      subst (λ (w : Work). Agrees own lent f (fopDo E22 o 0 f) (bypassedBy 22 s w o store output))
+      (sym (row-event E22 0 0 (begun s) ∙ lengthless-22 0 0 (length o) s)) (rejects-bd own o s store lent good)
+
+  bd-row : (o : List ℕ) → Fits o → Agrees own lent f (fopBd o f) (bypassedBy (bdNumber s) s (rowNumbered (bdNumber s) 0 0 (begun s)) o store output)
+  unfolding fopBd bdNumber begun
+  bd-row o legal = bd-event o legal (s .variables .«bd_out»)
+
+  -- a request is judged by its length, and by whether it is octets at all
+  module _ (e : SenderEvent) (o : List ℕ) (x : Step) (judged-is : judged own e ≡ pick (legal o) 0 10) (agrees : Fits o → Agrees own lent f (work own e f) x) where
+    abbrev asked : Bool → Bool → Bool → Step
+    asked a b c =
+        pick c (must a (refusedStep 10 s store output) (must b (refusedStep 10 s store output) (must (leb smallestStore (length store)) (refusedStep 11 s store output) x)))
+        (refusedStep 10 s store output)
+
+    request-does : Does own lent e f (asked (leb 1 (length o)) (leb (length o) largestUnit) (areOctets o))
+    unfolding legal
+    request-does = by (leb 1 (length o)) refl (leb (length o) largestUnit) refl (areOctets o) refl where
+      stopped : judged own e ≡ 10 → Does own lent e f (refusedStep 10 s store output)
+      stopped j = refused-by e 10 j refl (refuses-10 s store output)
+
+      test : (a b c : Bool) → leb 1 (length o) ≡ a → leb (length o) largestUnit ≡ b → areOctets o ≡ c → judged own e ≡ pick (a && (b && c)) 0 10
+      test a b c p q r =
+          judged-is ∙ ap (λ (y : Bool). pick (y && (leb (length o) largestUnit && areOctets o)) 0 10) p ∙ ap (λ (y : Bool). pick (a && (y && areOctets o)) 0 10) q
+          ∙ ap (λ (y : Bool). pick (a && (b && y)) 0 10) r
+
+      by : (a : Bool) → leb 1 (length o) ≡ a → (b : Bool) → leb (length o) largestUnit ≡ b → (c : Bool) → areOctets o ≡ c → Does own lent e f (asked a b c)
+      by true p true q true r =
+          subst (λ (y : Step). Does own lent e f y) (sym (ap (λ (t : Bool). must t (refusedStep 11 s store output) x) (stored own s store good)))
+          (agreed own lent e f x (test true true true p q r) (agrees (legal-fits o p q)))
+      by true p true q false r = stopped (test true true false p q r)
+      by true p false q true r = stopped (test true false true p q r)
+      by true p false q false r = stopped (test true false false p q r)
+      by false p b q true r = stopped (test false b true p q r)
+      by false p b q false r = stopped (test false b false p q r)
+
+  pub ad-does : (o : List ℕ) → Does own lent (requestAd o) f (pick (areOctets o) (requestAdOf s o store output) (refusedStep 10 s store output))
+  unfolding requestAdOf work judged
+  ad-does o =
+      request-does (requestAd o) o (offeredBy (adNumber s) s (rowNumbered (adNumber s) 0 (length o) (begun s)) o store output) refl (ad-row o)
+
+  pub bd-does : (o : List ℕ) → Does own lent (requestBd o) f (pick (areOctets o) (requestBdOf s o store output) (refusedStep 10 s store output))
+  unfolding requestBdOf work judged
+  bd-does o = request-does (requestBd o) o (bypassedBy (bdNumber s) s (rowNumbered (bdNumber s) 0 0 (begun s)) o store output) refl (bd-row o)
+
+  -- a word that is no octets is refused as one not of four
+  word-octets : (octets : List ℕ) (b : Bool) → areOctets octets ≡ b
+      → Does own lent (wordArrives octets) f (pick b (controlWordOf octets s store output) (refusedStep 10 s store output))
+  unfolding judged readWord
+  word-octets octets true t = word-does octets t
+  word-octets octets false t =
+      refused-by (wordArrives octets) 10 (ap (λ (b : Bool). otherRefusal (heard (pick b (readingOf octets (own .channel)) reading.Length))) t) refl (refuses-10 s store output)
+
+  pub any-word-does : (octets : List ℕ) → Does own lent (wordArrives octets) f (pick (areOctets octets) (controlWordOf octets s store output) (refusedStep 10 s store output))
+  any-word-does octets = word-octets octets (areOctets octets) refl
+
+-- every event
+pub does : (own : Own) (e : SenderEvent) (lent : ℕ) (x : Held) → Good own (x .sender .fop) (x .store)
+    → Does own lent e (fopOf (begun (x .sender .fop)) (x .store)) (stepOf e (lentOutput lent) x)
+unfolding stepOf
+does own (requestAd o) lent x g = ad-does own (x .sender .fop) (x .store) lent g o
+does own (requestBd o) lent x g = bd-does own (x .sender .fop) (x .store) lent g o
+does own tick lent x g = tick-does own (x .sender .fop) (x .store) lent g
+does own (lower l) lent x g = lower-does own (x .sender .fop) (x .store) lent g l
+does own (directive d v) lent x g = directive-does own (x .sender .fop) (x .store) lent g d v
+does own (wordArrives s) lent x g = any-word-does own (x .sender .fop) (x .store) lent g s

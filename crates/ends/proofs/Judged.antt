@@ -1,0 +1,91 @@
+-- The table machine's answer and next state, by how the event is judged: 10, 12 and 7 refuse it; where they do not, 11 does if the frame
+-- handed down does not fit. So a step of our sender that agrees with the machine's work does as the machine does.
+use Prim.Native.Nat.{ℕ}
+use mathlib.Core.Path.{_≡_, refl, sym, ap, subst, _∙_}
+use mathlib.Core.Bool.{Bool, true, false}
+use mathlib.Core.List.{List}
+use lib.Dec.{leb, eqb}
+use Rattle.base.specs.Choice.{pick}
+use Rattle.fop.specs.Units.{Own}
+use Rattle.fop.specs.Variables as machine
+use Rattle.fop.specs.Variables.{Fop}
+use Rattle.fop.specs.Events.{SenderEvent, work}
+use Rattle.fop.specs.Answers.{Answer, octetsDown, room, needed, judged, senderRefusal, senderAnswer, senderNext, answered, refused}
+use Rattle.fop_actions.specs.declared.Sender.{Sender}
+use Rattle.fop_actions.specs.Start.{begun}
+use Rattle.fop_actions.specs.View.{fopOf}
+use Rattle.fop_view.specs.State.{Good}
+use Rattle.sender.specs.Answers as sender
+use Rattle.sender.specs.Answers.{Step, refusedStep}
+use Rattle.ends.specs.Ours.{Held, answerBy}
+use Rattle.ends.proofs.Concluding.{Agrees}
+
+-- a step of our sender is what the table machine does at the event
+pub record Does (own : Own) (lent : ℕ) (e : SenderEvent) (f : Fop) (x : Step) : Type 0 where
+  pub answer : answerBy x ≡ senderAnswer own e lent f
+  pub next : fopOf (begun (x .answer .next .fop)) (x .store) ≡ senderNext own e lent f
+  pub good : Good own (x .answer .next .fop) (x .store)
+
+module _ (own : Own) (lent : ℕ) (e : SenderEvent) (f : Fop) where
+  abbrev m : machine.Work
+  m = work own e f
+
+  abbrev number : Bool → ℕ → ℕ
+  number b j = pick (eqb j 0) (pick b 0 11) j
+
+  abbrev answerIf : Bool → ℕ → Answer
+  answerIf b j = pick (eqb (number b j) 0) (answered own m) (refused (number b j) f)
+
+  abbrev nextIf : Bool → ℕ → Fop
+  nextIf b j = pick (eqb (number b j) 0) (m .fop) f
+
+  fits-answer : (b : Bool) → pick b (answered own m) (refused 11 f) ≡ answerIf b 0
+  fits-answer true = refl
+  fits-answer false = refl
+
+  fits-next : (b : Bool) → pick b (m .fop) f ≡ nextIf b 0
+  fits-next true = refl
+  fits-next false = refl
+
+  -- not refused by 10, 12 or 7
+  pub agreed : (x : Step) → judged own e ≡ 0 → Agrees own lent f m x → Does own lent e f x
+  unfolding senderAnswer senderNext senderRefusal needed
+  agreed x j a =
+      let b = leb (room (octetsDown own (m .frames))) lent in
+      record {
+        answer = a .answer ∙ fits-answer b ∙ ap (λ (k : ℕ). answerIf b k) (sym j);
+        next = a .next ∙ fits-next b ∙ ap (λ (k : ℕ). nextIf b k) (sym j);
+        good = a .good;
+      }
+
+  -- refused by one of them
+  refused-answer : (b : Bool) (j : ℕ) → eqb j 0 ≡ false → answerIf b j ≡ refused j f
+  refused-answer b j h =
+      let n : number b j ≡ j = ap (λ (t : Bool). pick t (pick b 0 11) j) h in
+      ap (λ (k : ℕ). pick (eqb k 0) (answered own m) (refused k f)) n ∙ ap (λ (t : Bool). pick t (answered own m) (refused j f)) h
+
+  refused-next : (b : Bool) (j : ℕ) → eqb j 0 ≡ false → nextIf b j ≡ f
+  refused-next b j h =
+      let n : number b j ≡ j = ap (λ (t : Bool). pick t (pick b 0 11) j) h in
+      ap (λ (k : ℕ). pick (eqb k 0) (m .fop) f) n ∙ ap (λ (t : Bool). pick t (m .fop) f) h
+
+  pub refuses : (x : Step) (j : ℕ) → judged own e ≡ j → eqb j 0 ≡ false → answerBy x ≡ refused j f → fopOf (begun (x .answer .next .fop)) (x .store) ≡ f
+      → Good own (x .answer .next .fop) (x .store) → Does own lent e f x
+  unfolding senderAnswer senderNext senderRefusal needed
+  refuses x j q h a n g =
+      let b = leb (room (octetsDown own (m .frames))) lent in
+      record {
+        answer = a ∙ sym (refused-answer b j h) ∙ ap (λ (k : ℕ). answerIf b k) (sym q);
+        next = n ∙ sym (refused-next b j h) ∙ ap (λ (k : ℕ). nextIf b k) (sym q);
+        good = g;
+      }
+
+-- a refused step keeps sender and store
+module _ (own : Own) (s : Sender) (store output : List ℕ) (number : ℕ) where
+  pub refused-keeps : fopOf (begun (refusedStep number s store output .answer .next .fop)) (refusedStep number s store output .store) ≡ fopOf (begun s) store
+  unfolding sender.refusing
+  refused-keeps = refl
+
+  pub refused-good : Good own s store → Good own (refusedStep number s store output .answer .next .fop) (refusedStep number s store output .store)
+  unfolding sender.refusing
+  refused-good g = g

@@ -1,0 +1,11 @@
+pub mod Numbers
+pub mod Meets
+pub mod Bypass
+pub mod Writing
+pub mod Concluding
+pub mod Judged
+pub mod Served
+pub mod Requested
+pub mod Events
+pub mod Theorem
+pub mod Refused

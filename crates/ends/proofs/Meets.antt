@@ -1,0 +1,162 @@
+-- The event that the table's conditions pick meets what its row depends on (crate fop_view, specs/Rows): most rows depend on nothing; for
+-- the others the condition of the event's own line says it, with the limits of the directive's value and, for a control word, with N(R)
+-- from NN(R) to V(S), since otherwise the event is E13. A valid directive is never E40, an invalid one always.
+use Prim.Native.Nat.{ℕ, zero, suc, _≤_, _<_}
+use mathlib.Core.Path.{_≡_, refl, sym, ap, subst, _∙_}
+use mathlib.Core.Bool.{Bool, true, false, not, _&&_}
+use mathlib.Core.List.{List, [], _∷_}
+use native.Mathlib.Nat.{le-of-suc-le-suc, not-suc-le-zero}
+use native.Mathlib.Omega.{arith}
+use borrow.Author.Tests.{ltb-true, ltb-false, eqb-false, eq-eqb, not-true}
+use lib.Dec.{T, leb, ltb, eqb, leb→le, eqb→eq}
+use Rattle.base.specs.Choice.{pick}
+use Rattle.base.specs.Modulo.{offset}
+use Rattle.base.proofs.Tests.{apart}
+use Rattle.base.proofs.Computed.{is-true}
+use Rattle.fop.specs.Limits.{largestK, largestTransmissionLimit, largestNumber}
+use Rattle.fop.specs.Units.{Word}
+use Rattle.fop.specs.Table.{FopEvent, E18, E25, E26, E27, E28, E39, E40, E103}
+use Rattle.fop.specs.Events.{Line, when, first, seen, wordLines, wordEvent, expiryLines, validDirective, directiveLines, directiveEvent}
+use Rattle.fop_actions.specs.declared.Sender.{Sender}
+use Rattle.fop_actions.specs.Start.{begun}
+use Rattle.fop_actions.proofs.Ways.{yes, no}
+use Rattle.fop_events.specs.Events.{eventNumber, variablesOf}
+use Rattle.fop_view.specs.Rows.{acknowledging, Needed, Meets}
+use Rattle.session.proofs.Rows.{and-l, and-r, first-all}
+
+-- a pair, for a chain of them
+infixr 5 _also_
+abbrev _also_ : {A B : Type 0} → A → B → A × B
+a also b = (a, b)
+
+-- The first line that holds: it has what its own condition gives.
+picked : (P : FopEvent → Type 0) (c : Bool) {x y : FopEvent} → (c ≡ true → P x) → (c ≡ false → P y) → P (pick c x y)
+picked P true f g = f refl
+picked P false f g = g refl
+
+abbrev Each : (FopEvent → Type 0) → List Line → Type 0
+Each P [] = Unit {0}
+Each P (when c x ∷ more) = (c ≡ true → P x) × Each P more
+
+first-each : (P : FopEvent → Type 0) (lines : List Line) (e : FopEvent) → Each P lines → P e → P (first lines e)
+first-each P [] e each last = last
+first-each P (when c x ∷ more) e each last = picked P c (each .0) (λ t. first-each P more e (each .1) last)
+
+-- Control words.
+module _ (w : Word) (s : Sender) (octet : w .nr < 256) where
+  abbrev WordMeets : FopEvent → Type 0
+  WordMeets e = Meets e [] (w .nr) s
+
+  abbrev above : Bool
+  above = ltb (offset (s .variables .vs) (s .variables .nnr)) (offset (w .nr) (s .variables .nnr))
+
+  word-in-order : above ≡ false → WordMeets (first (wordLines (seen w (variablesOf s))) E103)
+  unfolding begun
+  word-in-order t =
+      let acks : Needed acknowledging [] (w .nr) s = (octet, ltb-false _ _ t) in
+      let short : Bool = ltb (s .variables .«transmission_count») (s .settings .«transmission_limit») in
+      let retries : (short && not (w .wait)) ≡ true → s .variables .«transmission_count» < s .settings .«transmission_limit» =
+      λ h. ltb-true _ _ (is-true short (and-l short (not (w .wait)) (subst T (sym h) tt))) in
+      first-each WordMeets (wordLines (seen w (variablesOf s))) E103
+      -- E14, E13; E1 to E4; E5 to E7; E101, E102; E8, E9; E10 to E12
+      ((λ h. tt) also (λ h. tt)
+      also (λ h. tt) also (λ h. acks) also (λ h. tt) also (λ h. tt)
+      also (λ h. tt) also (λ h. acks) also (λ h. tt)
+      also (λ h. acks) also (λ h. tt)
+      also (λ h. acks) also (λ h. acks)
+      also retries also (λ h. tt) also (λ h. tt) also tt) tt
+
+  word-any : (b : Bool) → above ≡ b → WordMeets (first (wordLines (seen w (variablesOf s))) E103)
+  unfolding begun
+  word-any true t = picked WordMeets (w .lockout) (λ h. tt) (λ h. picked WordMeets above (λ k. tt) (λ k. absurd (apart (sym k ∙ t))))
+  word-any false t = word-in-order t
+
+pub word-meets : (w : Word) (s : Sender) → w .nr < 256 → Meets (wordEvent (seen w (variablesOf s))) [] (w .nr) s
+unfolding wordEvent
+word-meets w s octet = word-any w s octet _ refl
+
+-- Directives: E40 is the event of the first line only.
+abbrev past : List Line → List Line
+past [] = []
+past (l ∷ more) = more
+
+module _ (d v : ℕ) (s : Sender) where
+  abbrev validEvent : FopEvent
+  validEvent = first (past (directiveLines d v (variablesOf s))) E39
+
+  valid-event : validDirective d v ≡ true → directiveEvent d v (variablesOf s) ≡ validEvent
+  unfolding directiveEvent
+  valid-event valid = no _ E40 validEvent (ap not valid)
+
+pub valid-not-40 : (d v : ℕ) (s : Sender) → validDirective d v ≡ true → eqb (eventNumber (directiveEvent d v (variablesOf s))) 40 ≡ false
+valid-not-40 d v s valid =
+    ap (λ (e : FopEvent). eqb (eventNumber e) 40) (valid-event d v s valid)
+    ∙ not-true _ (is-true _ (first-all (λ e. not (eqb (eventNumber e) 40)) (past (directiveLines d v (variablesOf s))) E39 tt))
+
+pub invalid-is-40 : (d v : ℕ) (s : Sender) → validDirective d v ≡ false → directiveEvent d v (variablesOf s) ≡ E40
+unfolding directiveEvent
+invalid-is-40 d v s invalid = yes _ _ _ (ap not invalid)
+
+-- Directives that are valid, by their number.
+abbrev Upto : (ℕ → Type 0) → ℕ → Type 0
+Upto P zero = Unit {0}
+Upto P (suc n) = P zero × Upto (λ k. P (suc k)) n
+
+upto : (P : ℕ → Type 0) (n : ℕ) → Upto P n → (k : ℕ) → k < n → P k
+upto P zero each k h = absurd (not-suc-le-zero h)
+upto P (suc n) each zero h = each .0
+upto P (suc n) each (suc k) h = upto (λ j. P (suc j)) n (each .1) k (le-of-suc-le-suc h)
+
+number-below : (d v : ℕ) → T (validDirective d v) → d < 12
+number-below d v h =
+    let a : d ≤ 11 = leb→le d 11 (and-r (leb 1 d) (leb d 11) (and-l (leb 1 d && leb d 11) _ h)) in
+    omega arith
+
+octet-below : (v : ℕ) → T (leb v largestNumber) → v < 256
+octet-below v h = omega (arith, leb→le v largestNumber h)
+
+module _ (v : ℕ) (s : Sender) (serving : s .variables .«suspend_state» ≡ 0) where
+  abbrev DirectiveMeets : FopEvent → Type 0
+  DirectiveMeets e = Meets e [] v s
+
+  abbrev ValidMeets : ℕ → Type 0
+  ValidMeets d = T (validDirective d v) → DirectiveMeets (validEvent d v s)
+
+  resumes : ValidMeets 6
+  unfolding begun
+  resumes h = picked DirectiveMeets (eqb (s .variables .«suspend_state») 0) (λ t. tt) (λ t. absurd (eqb-false _ _ t serving))
+
+  valid-meets : (d : ℕ) → d < 12 → ValidMeets d
+  unfolding begun
+  valid-meets =
+      let bc : Bool = s .variables .«bc_out» in
+      upto ValidMeets 12
+      ((λ h. absurd h)
+      also (λ h. tt)
+      also (λ h. tt)
+      also (λ h. picked DirectiveMeets bc {x = E25} {y = E26} (λ t. tt) (λ t. tt))
+      also (λ h. picked DirectiveMeets bc {x = E27} {y = E28} (λ t. octet-below v h) (λ t. tt))
+      also (λ h. tt)
+      also resumes
+      also octet-below v
+      also (λ h. leb→le v largestK (and-r (leb 1 v) (leb v largestK) h))
+      also (λ h. tt)
+      also (λ h. leb→le v largestTransmissionLimit (and-r (leb 1 v) (leb v largestTransmissionLimit) h))
+      also eqb→eq v 0
+      also tt)
+
+pub directive-meets : (d v : ℕ) (s : Sender) → validDirective d v ≡ true → s .variables .«suspend_state» ≡ 0
+    → Meets (directiveEvent d v (variablesOf s)) [] v s
+directive-meets d v s valid serving =
+    let h : T (validDirective d v) = subst T (sym valid) tt in
+    subst (λ (e : FopEvent). Meets e [] v s) (sym (valid-event d v s valid)) (valid-meets v s serving d (number-below d v h) h)
+
+-- The expiry of the timer, with Timeout_Type 0.
+pub expiry-meets : (s : Sender) → s .settings .«timeout_type» ≡ 0
+    → Meets (first (expiryLines (ltb (s .variables .«transmission_count») (s .settings .«transmission_limit»)) (eqb (s .settings .«timeout_type») 0)) E18) [] 0 s
+expiry-meets s alerting = by _ _ (eq-eqb _ 0 alerting) (ltb-true _ _) where
+  by : (a b : Bool) → b ≡ true → (a ≡ true → s .variables .«transmission_count» < s .settings .«transmission_limit») → Meets (first (expiryLines a b) E18) [] 0 s
+  by true true t short = short refl
+  by false true t short = tt
+  by true false t short = absurd (apart t)
+  by false false t short = absurd (apart t)

@@ -1,0 +1,113 @@
+-- Our own two ends in document 01's session: the sender by the definitions that its public functions equal (crate sender), the receiver by
+-- crate farm's.
+use Prim.Native.Nat.{ℕ}
+use mathlib.Core.List.{List}
+use mathlib.Core.Option.{Option, none, some}
+use lib.Dec.{eqb}
+use lib.ListN.{length, take, replicate}
+use Rattle.base.specs.Choice.{pick}
+use Rattle.fop.specs.Units.{areOctets}
+use Rattle.fop.specs.Events.{SenderEvent, requestAd, requestBd, tick, lower, directive, wordArrives}
+use Rattle.fop.specs.Events as fop
+use Rattle.fop.specs.Answers.{Answer}
+use Rattle.fop_actions.specs.declared.Settings.{Settings as SenderSettings}
+use Rattle.fop_actions.specs.View.{stateOf, reasonOf, responsesOf, runTold}
+use Rattle.fop_rows.specs.Rows.{eventOf}
+use Rattle.fop_events.specs.declared.Lower.{Lower}
+use Rattle.fop_events.specs.declared.Lower.the-variants as answer
+use Rattle.farm.specs.declared.Receiver.{Receiver}
+use Rattle.session.specs.Ends.{Settings, Ends, startReceiver}
+use Rattle.session.specs.Receiver.{receiverNext, receiverAnswer, receiverWord}
+use Rattle.sender.specs.declared.Sender.{Sender}
+use Rattle.sender.specs.declared.Answer.{Answer as SenderAnswer}
+use Rattle.sender.specs.Answers.{Step, refusedStep}
+use Rattle.sender.specs.Start.{startingOf}
+use Rattle.sender.specs.Events.{requestAdOf, requestBdOf, directiveOf, tickOf, lowerLayerOf, controlWordOf}
+
+-- the sender with its store: "The lent store of units is part of the state."
+pub record Held : Type 0 where
+  pub sender : Sender
+  pub store : List ℕ
+
+-- an answer of the lower layer, as the sender takes it
+abbrev pub lowerAnswer : fop.Lower → Lower
+lowerAnswer fop.adAccept = answer.AdAccept
+lowerAnswer fop.adReject = answer.AdReject
+lowerAnswer fop.bcAccept = answer.BcAccept
+lowerAnswer fop.bcReject = answer.BcReject
+lowerAnswer fop.bdAccept = answer.BdAccept
+lowerAnswer fop.bdReject = answer.BdReject
+
+-- units and words are lent as octets; a list with a number above 255 cannot be lent, and counts as one of a wrong length (10), as it does
+-- in crate fop, specs/Units
+abbrev pub ifOctets : List ℕ → Held → List ℕ → Step → Step
+ifOctets o x output step = pick (areOctets o) step (refusedStep 10 (x .sender .fop) (x .store) output)
+
+-- what each event of the session is to our sender
+unfoldable pub stepOf : SenderEvent → List ℕ → Held → Step
+stepOf (requestAd o) output x = ifOctets o x output (requestAdOf (x .sender .fop) o (x .store) output)
+stepOf (requestBd o) output x = ifOctets o x output (requestBdOf (x .sender .fop) o (x .store) output)
+stepOf tick output x = tickOf (x .sender .fop) (x .store) output
+stepOf (lower l) output x = lowerLayerOf (lowerAnswer l) (x .sender .fop) (x .store) output
+stepOf (directive d v) output x = directiveOf d v (x .sender .fop) (x .store) output
+stepOf (wordArrives s) output x = ifOctets s x output (controlWordOf s (x .sender .fop) (x .store) output)
+
+-- the sender and its store after it
+abbrev pub heldAfter : Step → Held
+heldAfter step = record { sender = step .answer .next; store = step .store }
+
+-- the frame handed down: the first `count` octets of the output
+abbrev pub handedDown : ℕ → List ℕ → Option (List ℕ)
+handedDown count output = pick (eqb count 0) none (some (take count output))
+
+-- document 01's answer, by what our sender answers and leaves in the output
+abbrev pub answerOf : SenderAnswer → List ℕ → Answer
+answerOf a output = record {
+  refusal = a .refusal;
+  event = eventOf (a .event);
+  state = stateOf (a .state);
+  down = handedDown (a .down) output;
+  abort = a .abort;
+  responses = responsesOf (a .responses);
+  alert = reasonOf (a .alert);
+  suspended = a .suspended;
+  confirmed = runTold (a .confirmed);
+  denied = runTold (a .denied);
+}
+
+abbrev pub answerBy : Step → Answer
+answerBy step = answerOf (step .answer) (step .output)
+
+-- output of this length, whatever it holds
+abbrev pub lentOutput : ℕ → List ℕ
+lentOutput lent = replicate lent 0
+
+-- the sender's part of the settings
+abbrev pub senderSettings : Settings → SenderSettings
+senderSettings set = record {
+  k = set .k;
+  «t1_initial» = set .t1;
+  «transmission_limit» = set .limit;
+  «timeout_type» = 0;
+  spacecraft = set .own .spacecraft;
+  channel = set .own .channel;
+}
+
+-- "Synchronised and active": a sender at its start, which is told to initiate without check (directive 1)
+unfoldable pub startHeld : Settings → List ℕ → Held
+startHeld set store =
+    heldAfter (directiveOf 1 0 (startingOf (senderSettings set) (set .n) (set .n) (length store) .sender .fop) store (lentOutput 0))
+
+-- our two ends, with the store that the sender is lent
+abbrev pub ours : Settings → List ℕ → Ends
+ours set store = record {
+  Sender = Held;
+  Receiver = Receiver;
+  sender = startHeld set store;
+  receiver = startReceiver set;
+  next = λ e lent x. heldAfter (stepOf e (lentOutput lent) x);
+  answer = λ e lent x. answerBy (stepOf e (lentOutput lent) x);
+  nextReceiver = receiverNext;
+  answerReceiver = receiverAnswer;
+  word = receiverWord;
+}

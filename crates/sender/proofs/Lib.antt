@@ -1,0 +1,5 @@
+pub mod Parts
+pub mod Steps
+pub mod Timer
+pub mod Starts
+pub mod Judged

@@ -1,0 +1,26 @@
+-- No unit removed leaves the store as it is.
+use borrow.Author.Needs.{needs}
+use mathlib.Core.Path.{sym, ap, _∙_}
+use Prim.Native.Nat.{ℕ, _*_}
+use Rattle.base.specs.Limits.{largestUnit}
+use Rattle.store.specs.Slid.{slid}
+use Rattle.store.proofs.Parts.{slid-none}
+use Rattle.sender.proofs.frames.remove.Statement.{statement}
+use Rattle.sender.proofs.frames.remove.Tie as tie
+
+returns : tie.Need-returns
+returns c =
+    let a = c .before .before .args in
+    sym (ap (λ (n : ℕ). slid (largestUnit * n) (a .store .now)) (c .if1 .taken) ∙ slid-none (a .store .now))
+
+remove-units-requires : tie.Need-remove-units-requires
+remove-units-requires c κs = search needs
+
+same-length : tie.Need-same-length
+same-length c = search needs
+
+returns-2 : tie.Need-returns-2
+returns-2 c = search needs
+
+pub remove-spec : {M : Type 1} → statement M
+remove-spec = tie.close (tie.spec returns remove-units-requires same-length returns-2)

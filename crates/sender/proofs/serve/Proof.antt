@@ -1,0 +1,55 @@
+-- Too short a store is refused; else the event is judged by its row.
+use borrow.Author.Needs.{needs}
+use native.Mathlib.Omega.{arith}
+use Rattle.sender.proofs.Judged.{served-short, served-row}
+use Rattle.sender.proofs.serve.Statement.{statement}
+use Rattle.sender.proofs.serve.Tie as tie
+
+refused-requires : tie.Need-refused-requires
+refused-requires c κs = search needs
+
+returns : tie.Need-returns
+returns c =
+    let t = c .before in
+    let a = t .before .before .before .args in
+    served-short (a .event) (a .value) (a .sender) (a .by) (a .store .now) (a .output .now) (c .refused .result) (omega (arith, t .if1 .taken))
+    (c .refused .ensures)
+
+begin-requires : tie.Need-begin-requires
+begin-requires c κs = search needs
+
+row-requires : tie.Need-row-requires
+row-requires c κs = search needs
+
+serve-work-requires : tie.Need-serve-work-requires
+serve-work-requires c κs = search needs
+
+same-length : tie.Need-same-length
+same-length c = search needs
+
+same-length-2 : tie.Need-same-length-2
+same-length-2 c = search needs
+
+returns-2 : tie.Need-returns-2
+returns-2 c =
+    let w = c .before .before .before .before in
+    let r = w .before .before .before in
+    let b = r .before in
+    let t = b .before in
+    let a = t .before .before .before .args in
+    served-row (a .event) (a .value) (a .sender) (a .by) (a .store .now) (a .output .now) (w .serve-work .result) _ _ (b .begin .result)
+    (r .row .result)
+    (omega (arith, t .if1 .left)) (b .begin .ensures) (r .row .ensures) (w .serve-work .ensures)
+
+pub serve-spec : {M : Type 1} → statement M
+serve-spec =
+    tie.close
+    (tie.spec
+    refused-requires
+    returns
+    begin-requires
+    row-requires
+    serve-work-requires
+    same-length
+    same-length-2
+    returns-2)

@@ -1,0 +1,92 @@
+-- What the sender answers: document 01's answer to an event, and its refusals.
+use Prim.Native.Nat.{ℕ}
+use mathlib.Core.Bool.{false}
+use mathlib.Core.List.{List, [], _∷_}
+use lib.Dec.{eqb}
+use lib.ListN.{replicate}
+use Rattle.base.specs.Choice.{pick}
+use Rattle.base.specs.Outcome.{Outcome, Answer.done, Answer.refused, answer, after}
+use Rattle.base.specs.Outcome as outcome
+use Rattle.fop_actions.specs.declared.Alert.the-variants as alert
+use Rattle.fop_actions.specs.declared.Response.the-variants.{RejectDirective}
+use Rattle.fop_actions.specs.declared.Responses.{Responses}
+use Rattle.fop_actions.specs.declared.Run.{Run}
+use Rattle.fop_actions.specs.declared.Sender.{Sender as State}
+use Rattle.fop_actions.specs.declared.Work.{Work}
+use Rattle.fop_actions.specs.Actions.{responseNumber, responsesWith}
+use Rattle.fop_actions.specs.Limits.{largestResponses}
+use Rattle.fop_actions.specs.Start.{senderOf}
+use Rattle.sender.specs.declared.Sender.{Sender}
+use Rattle.sender.specs.declared.Answer.{Answer}
+
+-- no response
+abbrev pub noResponses : Responses
+noResponses = record { count = 0; numbers = replicate largestResponses 0 }
+
+-- 12 is the table's reject of the invalid directive (E40)
+abbrev pub refusedResponses : ℕ → Responses
+refusedResponses number = pick (eqb number 12) (responsesWith (responseNumber RejectDirective) noResponses) noResponses
+
+abbrev pub refusedEvent : ℕ → ℕ
+refusedEvent number = pick (eqb number 12) 40 0
+
+-- "0 and 0 where empty"
+abbrev pub emptyRun : Run
+emptyRun = record { number = 0; count = 0 }
+
+-- an event that is not refused: the event's number, the count of octets handed down, and what the work tells
+unfoldable pub answered : ℕ → ℕ → Work → Answer
+answered event down w = record {
+  refusal = 0;
+  event = event;
+  state = w .state;
+  down = down;
+  abort = w .told .abort;
+  alert = w .told .alert;
+  suspended = w .told .suspended;
+  responses = w .told .responses;
+  confirmed = w .told .confirmed;
+  denied = w .told .denied;
+  next = record { fop = senderOf w };
+}
+
+-- a refusal by its number: nothing changes
+unfoldable pub refusing : ℕ → State → Answer
+refusing number s = record {
+  refusal = number;
+  event = refusedEvent number;
+  state = s .state;
+  down = 0;
+  abort = false;
+  alert = alert.None;
+  suspended = false;
+  responses = refusedResponses number;
+  confirmed = emptyRun;
+  denied = emptyRun;
+  next = record { fop = s };
+}
+
+-- the answer, the store and the output after an event
+pub record Step : Type 0 where
+  pub answer : Answer
+  pub store : List ℕ
+  pub output : List ℕ
+
+-- a refused event: "A refusal changes no octet of any lent buffer."
+abbrev pub refusedStep : ℕ → State → List ℕ → List ℕ → Step
+refusedStep number s store output = record { answer = refusing number s; store = store; output = output }
+
+-- the answer by what writing the frame handed down came to
+abbrev pub concluded : ℕ → State → Work → outcome.Answer (Unit {0}) → Answer
+concluded event s w (done count more) = answered event count w
+concluded event s w (refused number place) = refusing number s
+
+-- the store by the same: changed only where the event is done
+abbrev pub stored : outcome.Answer (Unit {0}) → List ℕ → List ℕ → List ℕ
+stored (done count more) new old = new
+stored (refused number place) new old = old
+
+-- an event judged, by what writing the frame handed down comes to
+abbrev pub stepBy : ℕ → State → Work → Outcome (Unit {0}) → List ℕ → List ℕ → List ℕ → Step
+stepBy event s w writing new old output =
+    record { answer = concluded event s w (answer writing); store = stored (answer writing) new old; output = after writing output }

@@ -1,0 +1,36 @@
+-- A sender at its start: document 01's limits judged with 12, then the lent store with 11.
+use Prim.Native.Nat.{ℕ}
+use mathlib.Core.Bool.{Bool}
+use lib.Dec.{leb, eqb}
+use Rattle.base.specs.Choice.{must, both}
+use Rattle.base.specs.Limits.{largestSpacecraft, largestChannel}
+use Rattle.base.specs.Modulo.{offset}
+use Rattle.fop.specs.Limits.{largestK}
+use Rattle.fop_actions.specs.declared.Settings.{Settings}
+use Rattle.fop_actions.specs.Start.{startOf}
+use Rattle.sender.specs.declared.Start.{Start}
+use Rattle.sender.specs.Limits.{smallestStore}
+
+-- the start of a sender with the least settings, which a refused start gives: no ill-formed sender can be had
+abbrev pub leastSettings : Settings
+leastSettings = record { k = 1; «t1_initial» = 1; «transmission_limit» = 1; «timeout_type» = 0; spacecraft = 0; channel = 0 }
+
+abbrev pub refusedStart : ℕ → Start
+refusedStart number = record { refusal = number; sender = record { fop = startOf leastSettings 0 0 } }
+
+-- the settings and numbers given: K, T1_Initial, Transmission_Limit, Timeout_Type (0 for now), the address; V(S) - NN(R) within the largest K,
+-- as every event keeps it
+abbrev pub withinLimits : Settings → ℕ → ℕ → Bool
+withinLimits g vs nnr =
+    both (leb 1 (g .k))
+    (both (leb (g .k) largestK)
+    (both (leb 1 (g .«t1_initial»))
+    (both (leb 1 (g .«transmission_limit»))
+    (both (eqb (g .«timeout_type») 0)
+    (both (leb (g .spacecraft) largestSpacecraft) (both (leb (g .channel) largestChannel) (leb (offset vs nnr) largestK)))))))
+
+-- "A sender starts Initial, .. with the numbers and settings given"; lent is the length of the store
+unfoldable pub startingOf : Settings → ℕ → ℕ → ℕ → Start
+startingOf g vs nnr lent =
+    must (withinLimits g vs nnr) (refusedStart 12)
+    (must (leb smallestStore lent) (refusedStart 11) (record { refusal = 0; sender = record { fop = startOf g vs nnr } }))

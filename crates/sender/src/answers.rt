@@ -1,0 +1,107 @@
+// What the sender answers: an event done, and a refusal.
+use crate::Answer;
+use crate::Sender;
+use fop_actions::Alert;
+use fop_actions::LARGEST_RESPONSES;
+use fop_actions::Responses;
+use fop_actions::Run;
+use fop_actions::Work;
+use fop_actions::start::sender_of;
+use frame::writer::Written;
+ghost use mathlib.Core.Path.{_≡_};
+ghost use Rattle.frame.specs.Answers.{writtenAnswer};
+ghost use Rattle.sender.specs.Answers.{answered, refusing, concluded, refusedResponses, refusedEvent};
+
+// An event that is not refused.
+fn answered(event: u8, down: usize, work: Work) -> Answer
+    ensures { λ r. ⌜ r ≡ answered event down work ⌝ }
+{
+    let next = Sender {
+        fop: sender_of(work),
+    };
+    let state = work.state;
+    let told = work.told;
+    let alert = told.alert;
+    let responses = told.responses;
+    let confirmed = told.confirmed;
+    let denied = told.denied;
+    Answer {
+        refusal: 0,
+        event: event,
+        state: state,
+        down: down,
+        abort: told.abort,
+        alert: alert,
+        suspended: told.suspended,
+        responses: responses,
+        confirmed: confirmed,
+        denied: denied,
+        next: next,
+    }
+}
+
+// The responses of a refusal: none, but the reject of the invalid directive, 12.
+fn refused_responses(number: u8) -> Responses
+    ensures { λ r. ⌜ r ≡ refusedResponses number ⌝ }
+{
+    let mut numbers = [0u8; LARGEST_RESPONSES];
+    if number == 12 {
+        numbers[0] = 6;
+        return Responses {
+            count: 1,
+            numbers: numbers,
+        };
+    }
+    Responses {
+        count: 0,
+        numbers: numbers,
+    }
+}
+
+// The event of a refusal: none, but E40 of the invalid directive, 12.
+fn refused_event(number: u8) -> u8
+    ensures { λ r. ⌜ r ≡ refusedEvent number ⌝ }
+{
+    if number == 12 {
+        return 40;
+    }
+    0
+}
+
+// A refusal: nothing changes.
+pub fn refused(sender: fop_actions::Sender, number: u8) -> Answer
+    ensures { λ r. ⌜ r ≡ refusing number sender ⌝ }
+{
+    let state = sender.state;
+    let next = Sender { fop: sender };
+    let none = Run {
+        number: 0,
+        count: 0,
+    };
+    let responses = refused_responses(number);
+    Answer {
+        refusal: number,
+        event: refused_event(number),
+        state: state,
+        down: 0,
+        abort: false,
+        alert: Alert::None,
+        suspended: false,
+        responses: responses,
+        confirmed: none,
+        denied: none,
+        next: next,
+    }
+}
+
+// The answer by what writing the frame handed down came to.
+pub fn conclude(sender: fop_actions::Sender, event: u8, work: Work, written: Written) -> Answer
+    ensures { λ r. ⌜ r ≡ concluded event sender work (writtenAnswer written) ⌝ }
+{
+    match written {
+        Written::Done(count) => answered(event, count, work),
+        Written::Length => refused(sender, 10),
+        Written::Setting => refused(sender, 12),
+        Written::Room => refused(sender, 11),
+    }
+}

@@ -1,0 +1,406 @@
+// Clauses 7.2.2, 7.4 and 7.9.2, table 7-8: FOP-1, the sender. Its events, each with its whole answer; document 01, "FOP-1".
+//
+// The sender's state goes in by value and comes back in the answer. The units lie in a store that the host lends at every event, the
+// same one each time and written by nobody else: units of 249 octets from offset 0 on, the oldest first, the unit waiting behind the sent
+// ones. The frame handed down to the lower layer is written at the front of the lent output. A refusal changes nothing.
+pub mod answers;
+pub mod frames;
+
+use crate::answers::conclude;
+use crate::answers::refused;
+use crate::frames::place_before;
+use crate::frames::place_handed;
+use crate::frames::remove;
+use crate::frames::unit_at;
+use crate::frames::write_handed;
+use base::LARGEST_CHANNEL;
+use base::LARGEST_SPACECRAFT;
+use base::LARGEST_UNIT;
+use clcw::Clcw;
+use clcw::Reading;
+use fop_actions::Alert;
+use fop_actions::PLACES;
+use fop_actions::Responses;
+use fop_actions::Run;
+use fop_actions::Settings;
+use fop_actions::State;
+use fop_actions::Work;
+use fop_actions::start::begin;
+use fop_actions::start::start;
+use fop_actions::units::put_unit;
+use fop_actions::values::difference;
+use fop_events::Lower;
+use fop_events::ad_event;
+use fop_events::bd_event;
+use fop_events::directives::directive_event;
+use fop_events::expiry_event;
+use fop_events::lower_event;
+use fop_events::words::word_event;
+use fop_rows::row;
+use frame::writer::Written;
+ghost use mathlib.Core.Path.{_≡_};
+ghost use lib.ListN.{length};
+ghost use Rattle.base.specs.Outcome.{answer, after};
+ghost use Rattle.frame.specs.Answers.{writtenAnswer};
+ghost use Rattle.sender.specs.Answers.{concluded};
+ghost use Rattle.sender.specs.Start.{withinLimits, refusedStart, startingOf};
+ghost use Rattle.sender.specs.Events.{handedWriting, unitOffered, servedBy, served, offeredBy, added, ticked, tickNumber, requestAdOf, requestBdOf, directiveOf, tickOf, lowerLayerOf, controlWordOf};
+
+// Document 01: 32 units of 249 octets sent and one waiting.
+pub const SMALLEST_STORE: usize = LARGEST_UNIT * PLACES;
+
+// Document 01, "Limits": the largest sender window K.
+const LARGEST_K: u8 = 32;
+
+// The sender's state. No other crate can write one: a start gives one, and each answer the next.
+pub struct Sender {
+    fop: fop_actions::Sender,
+}
+
+// A start: document 01's refusal (0 for done, 12 for a setting, 11 for the lent store), and the sender; after a refusal that of the least
+// settings, so that no ill-formed sender can be had.
+pub struct Start {
+    pub refusal: u8,
+    pub sender: Sender,
+}
+
+// The answer to an event: document 01's refusal (0 for done); the event's number in table 7-8 (0 where it is none); the next state; the count
+// of octets of the frame handed down, at the front of the output (0 where there is none); whether the lower layer is asked to abort; the
+// alert; a Suspend notification, which is never given for now; the responses in their order; the units confirmed and denied; the next sender.
+pub struct Answer {
+    pub refusal: u8,
+    pub event: u8,
+    pub state: State,
+    pub down: usize,
+    pub abort: bool,
+    pub alert: Alert,
+    pub suspended: bool,
+    pub responses: Responses,
+    pub confirmed: Run,
+    pub denied: Run,
+    pub next: Sender,
+}
+
+// An event that offers no unit, judged: the frame is written, then the units confirmed leave the store.
+fn serve_work(
+    sender: fop_actions::Sender,
+    event: u8,
+    work: Work,
+    store: &mut [u8],
+    output: &mut [u8],
+) -> Answer
+    ensures answer { λ r. ⌜ r ≡ servedBy event sender work (now (store .entry)) (now (output .entry)) .answer ⌝ }
+    ensures store { λ r. ⌜ now (store .exit) ≡ servedBy event sender work (now (store .entry)) (now (output .entry)) .store ⌝ }
+    ensures output { λ r. ⌜ now (output .exit) ≡ servedBy event sender work (now (store .entry)) (now (output .entry)) .output ⌝ }
+{
+    let told = work.told;
+    let handed = told.handed;
+    let count = told.confirmed.count;
+    let place = place_before(handed, count);
+    let lengths = sender.queues.lengths;
+    let settings = sender.settings;
+    let unit = unit_at(store, lengths, place);
+    let written = write_handed(settings, handed, unit, output);
+    let answer = conclude(sender, event, work, written);
+    if answer.refusal == 0 {
+        remove(store, count);
+    }
+    answer
+}
+
+// The same by the event's row, of the state `by`, with the value that the event brings.
+fn serve(
+    sender: fop_actions::Sender,
+    by: fop_actions::Sender,
+    event: u8,
+    value: u16,
+    store: &mut [u8],
+    output: &mut [u8],
+) -> Answer
+    ensures answer { λ r. ⌜ r ≡ served event value sender by (now (store .entry)) (now (output .entry)) .answer ⌝ }
+    ensures store { λ r. ⌜ now (store .exit) ≡ served event value sender by (now (store .entry)) (now (output .entry)) .store ⌝ }
+    ensures output { λ r. ⌜ now (output .exit) ≡ served event value sender by (now (store .entry)) (now (output .entry)) .output ⌝ }
+{
+    if store.len() < SMALLEST_STORE {
+        return refused(sender, 11);
+    }
+    let work = row(begin(by), event, value, 0);
+    serve_work(sender, event, work, store, output)
+}
+
+// Whether the unit offered is added to the wait queue: E19 in S1 to S3.
+fn adds(event: u8, sender: fop_actions::Sender) -> bool
+    ensures { λ r. ⌜ r ≡ added event sender ⌝ }
+{
+    if event != 19 {
+        return false;
+    }
+    let state = sender.state;
+    match state {
+        State::S1 => true,
+        State::S2 => true,
+        State::S3 => true,
+        State::S4 => false,
+        State::S5 => false,
+        State::S6 => false,
+    }
+}
+
+// An AD request, judged: the frame is written, then the unit offered goes into the store.
+fn offer_work(
+    sender: fop_actions::Sender,
+    event: u8,
+    work: Work,
+    unit: &[u8],
+    store: &mut [u8],
+    output: &mut [u8],
+) -> Answer
+    ensures answer { λ r. ⌜ r ≡ offeredBy event sender work (now (unit .entry)) (now (store .entry)) (now (output .entry)) .answer ⌝ }
+    ensures store { λ r. ⌜ now (store .exit) ≡ offeredBy event sender work (now (unit .entry)) (now (store .entry)) (now (output .entry)) .store ⌝ }
+    ensures output { λ r. ⌜ now (output .exit) ≡ offeredBy event sender work (now (unit .entry)) (now (store .entry)) (now (output .entry)) .output ⌝ }
+{
+    let written = write_offered(sender, work, unit, store, output);
+    let answer = conclude(sender, event, work, written);
+    if answer.refusal == 0 {
+        if adds(event, sender) {
+            put_unit(store, begin(sender), unit);
+        }
+    }
+    answer
+}
+
+// Writes the frame that an AD request hands down: of the unit offered, or of an older unit that is marked.
+fn write_offered(
+    sender: fop_actions::Sender,
+    work: Work,
+    unit: &[u8],
+    store: &[u8],
+    output: &mut [u8],
+) -> Written
+    ensures answer { λ r. ⌜ writtenAnswer r ≡ answer (handedWriting (sender .settings) (work .told .handed) (unitOffered sender work (now (unit .entry)) (now (store .entry))) (length (now (output .entry)))) ⌝ }
+    ensures memory { λ r. ⌜ now (output .exit) ≡ after (handedWriting (sender .settings) (work .told .handed) (unitOffered sender work (now (unit .entry)) (now (store .entry))) (length (now (output .entry)))) (now (output .entry)) ⌝ }
+{
+    let told = work.told;
+    let handed = told.handed;
+    let settings = sender.settings;
+    let place = place_handed(handed);
+    if place == sender.queues.sent {
+        return write_handed(settings, handed, unit, output);
+    }
+    let lengths = sender.queues.lengths;
+    let older = unit_at(store, lengths, place as usize);
+    write_handed(settings, handed, older, output)
+}
+
+// A BD request, judged: the frame is written.
+fn bypass_work(
+    sender: fop_actions::Sender,
+    event: u8,
+    work: Work,
+    unit: &[u8],
+    output: &mut [u8],
+) -> Answer
+    ensures answer { λ r. ⌜ r ≡ concluded event sender work (answer (handedWriting (sender .settings) (work .told .handed) (now (unit .entry)) (length (now (output .entry))))) ⌝ }
+    ensures output { λ r. ⌜ now (output .exit) ≡ after (handedWriting (sender .settings) (work .told .handed) (now (unit .entry)) (length (now (output .entry)))) (now (output .entry)) ⌝ }
+{
+    let told = work.told;
+    let handed = told.handed;
+    let settings = sender.settings;
+    let written = write_handed(settings, handed, unit, output);
+    conclude(sender, event, work, written)
+}
+
+// The state after a tick lowered a running timer by one.
+fn lower_timer(sender: fop_actions::Sender) -> fop_actions::Sender
+    ensures { λ r. ⌜ r ≡ ticked sender ⌝ }
+{
+    let ticks = sender.variables.timer;
+    if ticks == 0 {
+        return sender;
+    }
+    let lowered = ticks - 1;
+    let mut next = sender;
+    next.variables.timer = lowered;
+    next
+}
+
+// The event of a tick: the expiry where it makes the timer zero.
+fn tick_event(sender: fop_actions::Sender) -> u8
+    ensures { λ r. ⌜ r ≡ tickNumber sender ⌝ }
+{
+    if sender.variables.timer == 1 {
+        return expiry_event(lower_timer(sender));
+    }
+    0
+}
+
+// Document 01's limits of the settings and numbers of a start.
+fn within_limits(settings: Settings, vs: u8, nnr: u8) -> bool
+    ensures { λ r. ⌜ r ≡ withinLimits settings vs nnr ⌝ }
+{
+    if settings.k < 1 {
+        return false;
+    }
+    if LARGEST_K < settings.k {
+        return false;
+    }
+    if settings.t1_initial < 1 {
+        return false;
+    }
+    if settings.transmission_limit < 1 {
+        return false;
+    }
+    if settings.timeout_type != 0 {
+        return false;
+    }
+    if LARGEST_SPACECRAFT < settings.spacecraft {
+        return false;
+    }
+    if LARGEST_CHANNEL < settings.channel {
+        return false;
+    }
+    difference(vs, nnr) <= LARGEST_K
+}
+
+// A start that is refused.
+fn refused_start(number: u8) -> Start
+    ensures { λ r. ⌜ r ≡ refusedStart number ⌝ }
+{
+    let settings = Settings {
+        k: 1,
+        t1_initial: 1,
+        transmission_limit: 1,
+        timeout_type: 0,
+        spacecraft: 0,
+        channel: 0,
+    };
+    let sender = Sender {
+        fop: start(settings, 0, 0),
+    };
+    Start {
+        refusal: number,
+        sender: sender,
+    }
+}
+
+impl Sender {
+    // A sender at its start; 12 where a setting is outside its limit, 11 where the lent store is too short.
+    pub fn new(settings: Settings, vs: u8, nnr: u8, store: &[u8]) -> Start
+        ensures { λ r. ⌜ r ≡ startingOf settings vs nnr (length (now (store .entry))) ⌝ }
+    {
+        if !within_limits(settings, vs, nnr) {
+            return refused_start(12);
+        }
+        if store.len() < SMALLEST_STORE {
+            return refused_start(11);
+        }
+        let sender = Sender {
+            fop: start(settings, vs, nnr),
+        };
+        Start {
+            refusal: 0,
+            sender: sender,
+        }
+    }
+
+    // Request to transfer an AD unit.
+    pub fn request_ad(self, unit: &[u8], store: &mut [u8], output: &mut [u8]) -> Answer
+        ensures answer { λ r. ⌜ r ≡ requestAdOf (self .fop) (now (unit .entry)) (now (store .entry)) (now (output .entry)) .answer ⌝ }
+        ensures store { λ r. ⌜ now (store .exit) ≡ requestAdOf (self .fop) (now (unit .entry)) (now (store .entry)) (now (output .entry)) .store ⌝ }
+        ensures output { λ r. ⌜ now (output .exit) ≡ requestAdOf (self .fop) (now (unit .entry)) (now (store .entry)) (now (output .entry)) .output ⌝ }
+    {
+        let sender = self.fop;
+        let n = unit.len();
+        if n < 1 {
+            return refused(sender, 10);
+        }
+        if LARGEST_UNIT < n {
+            return refused(sender, 10);
+        }
+        if store.len() < SMALLEST_STORE {
+            return refused(sender, 11);
+        }
+        let event = ad_event(sender);
+        let work = row(begin(sender), event, 0, n as u16);
+        offer_work(sender, event, work, unit, store, output)
+    }
+
+    // Request to transfer a BD unit.
+    pub fn request_bd(self, unit: &[u8], store: &mut [u8], output: &mut [u8]) -> Answer
+        ensures answer { λ r. ⌜ r ≡ requestBdOf (self .fop) (now (unit .entry)) (now (store .entry)) (now (output .entry)) .answer ⌝ }
+        ensures store { λ r. ⌜ now (store .exit) ≡ requestBdOf (self .fop) (now (unit .entry)) (now (store .entry)) (now (output .entry)) .store ⌝ }
+        ensures output { λ r. ⌜ now (output .exit) ≡ requestBdOf (self .fop) (now (unit .entry)) (now (store .entry)) (now (output .entry)) .output ⌝ }
+    {
+        let sender = self.fop;
+        let n = unit.len();
+        if n < 1 {
+            return refused(sender, 10);
+        }
+        if LARGEST_UNIT < n {
+            return refused(sender, 10);
+        }
+        if store.len() < SMALLEST_STORE {
+            return refused(sender, 11);
+        }
+        let event = bd_event(sender);
+        let work = row(begin(sender), event, 0, 0);
+        bypass_work(sender, event, work, unit, output)
+    }
+
+    // A directive by its number and value; 12 for the invalid directive.
+    pub fn directive(self, number: u8, value: u16, store: &mut [u8], output: &mut [u8]) -> Answer
+        ensures answer { λ r. ⌜ r ≡ directiveOf number value (self .fop) (now (store .entry)) (now (output .entry)) .answer ⌝ }
+        ensures store { λ r. ⌜ now (store .exit) ≡ directiveOf number value (self .fop) (now (store .entry)) (now (output .entry)) .store ⌝ }
+        ensures output { λ r. ⌜ now (output .exit) ≡ directiveOf number value (self .fop) (now (store .entry)) (now (output .entry)) .output ⌝ }
+    {
+        let sender = self.fop;
+        let event = directive_event(sender, number, value);
+        if event == 40 {
+            return refused(sender, 12);
+        }
+        serve(sender, sender, event, value, store, output)
+    }
+
+    // A tick of the timer.
+    pub fn tick(self, store: &mut [u8], output: &mut [u8]) -> Answer
+        ensures answer { λ r. ⌜ r ≡ tickOf (self .fop) (now (store .entry)) (now (output .entry)) .answer ⌝ }
+        ensures store { λ r. ⌜ now (store .exit) ≡ tickOf (self .fop) (now (store .entry)) (now (output .entry)) .store ⌝ }
+        ensures output { λ r. ⌜ now (output .exit) ≡ tickOf (self .fop) (now (store .entry)) (now (output .entry)) .output ⌝ }
+    {
+        let sender = self.fop;
+        let event = tick_event(sender);
+        let lowered = lower_timer(sender);
+        serve(sender, lowered, event, 0, store, output)
+    }
+
+    // An answer of the lower layer.
+    pub fn lower_layer(self, answer: Lower, store: &mut [u8], output: &mut [u8]) -> Answer
+        ensures answer { λ r. ⌜ r ≡ lowerLayerOf answer (self .fop) (now (store .entry)) (now (output .entry)) .answer ⌝ }
+        ensures store { λ r. ⌜ now (store .exit) ≡ lowerLayerOf answer (self .fop) (now (store .entry)) (now (output .entry)) .store ⌝ }
+        ensures output { λ r. ⌜ now (output .exit) ≡ lowerLayerOf answer (self .fop) (now (store .entry)) (now (output .entry)) .output ⌝ }
+    {
+        let sender = self.fop;
+        let event = lower_event(answer);
+        serve(sender, sender, event, 0, store, output)
+    }
+
+    // A control word, any octets; 10 where it is not of four octets, 7 where it is another channel's.
+    pub fn control_word(self, octets: &[u8], store: &mut [u8], output: &mut [u8]) -> Answer
+        ensures answer { λ r. ⌜ r ≡ controlWordOf (now (octets .entry)) (self .fop) (now (store .entry)) (now (output .entry)) .answer ⌝ }
+        ensures store { λ r. ⌜ now (store .exit) ≡ controlWordOf (now (octets .entry)) (self .fop) (now (store .entry)) (now (output .entry)) .store ⌝ }
+        ensures output { λ r. ⌜ now (output .exit) ≡ controlWordOf (now (octets .entry)) (self .fop) (now (store .entry)) (now (output .entry)) .output ⌝ }
+    {
+        let sender = self.fop;
+        let reading = Clcw::read(octets, sender.settings.channel);
+        match reading {
+            Reading::Word(received) => {
+                let word = received.word;
+                let event = word_event(sender, word);
+                serve(sender, sender, event, word.report as u16, store, output)
+            }
+            Reading::Invalid => serve(sender, sender, 15, 0, store, output),
+            Reading::Address => refused(sender, 7),
+            Reading::Length => refused(sender, 10),
+        }
+    }
+}
