@@ -5,6 +5,7 @@ use mathlib.Core.Bool.{Bool, true, false, true≢false}
 use mathlib.Core.List.{List, [], _∷_}
 use lib.Dec.{ltb, eqb}
 use Rattle.base.specs.Choice.{pick, both}
+use Rattle.base.proofs.Tests.{both-left, both-right}
 use Rattle.fop.specs.Table.{Action, Cell, cell, ifNotSuspended, NotApplicable, table78, cell78, FopEvent}
 use Rattle.fop.specs.Table.{Ignore, Accept, Reject, Confirm, RejectAd, AcceptBd, RejectBd, AddToWaitQueue, LookForFdu, LookForDirective, RemoveAcknowledgedFrames}
 use Rattle.fop.specs.Table.{InitiateAdRetransmission, InitiateBcRetransmission, ReleaseBcFrame, CancelTimer, StartTimer, Alert, Initialise, TransmitUnlock, TransmitSetVr, TransmitBd}
@@ -165,14 +166,6 @@ abbrev otherCell : Cell → Bool
 otherCell NotApplicable = true
 otherCell (cell acts s) = others acts
 otherCell (ifNotSuspended acts more s) = both (others acts) (others more)
-
-both-left : (a b : Bool) → both a b ≡ true → a ≡ true
-both-left true b t = refl
-both-left false b t = t
-
-both-right : (a b : Bool) → both a b ≡ true → b ≡ true
-both-right true b t = t
-both-right false b t = absurd (true≢false (sym t))
 
 all : (acts : List Action) (n l : ℕ) (w : Work) → others acts ≡ true → bypasses (w .told .handed) ≡ false → bypasses (doneAll acts n l w .told .handed) ≡ false
 unfolding doneAll

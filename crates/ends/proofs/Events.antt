@@ -173,11 +173,19 @@ module _ (own : Own) (s : Sender) (store : List ℕ) (lent : ℕ) (good : Good o
   unfolding begun
   ticked-good = record {
     formed = good .formed;
+    window-least = good .window-least;
     window = good .window;
+    clock-least = good .clock-least;
+    limit-least = good .limit-least;
     limit = good .limit;
+    count-least = good .count-least;
+    count-most = good .count-most;
     alerting = good .alerting;
     serving = good .serving;
-    initial = good .initial;
+    sent-main = good .sent-main;
+    waiting-main = good .waiting-main;
+    stopped = λ q. omega (arith, good .stopped q);
+    control-s5 = good .control-s5;
     filled = good .filled;
     spacecraft = good .spacecraft;
     channel = good .channel;

@@ -9,3 +9,4 @@ pub mod Requested
 pub mod Events
 pub mod Theorem
 pub mod Refused
+pub mod Restored

@@ -13,7 +13,7 @@ use Rattle.base.specs.Choice.{pick}
 use Rattle.base.specs.Modulo.{offset}
 use Rattle.base.proofs.Tests.{apart}
 use Rattle.base.proofs.Computed.{is-true}
-use Rattle.fop.specs.Limits.{largestK, largestTransmissionLimit, largestNumber}
+use Rattle.fop.specs.Limits.{largestK, largestTransmissionLimit, largestTimer, largestNumber}
 use Rattle.fop.specs.Units.{Word}
 use Rattle.fop.specs.Table.{FopEvent, E18, E25, E26, E27, E28, E39, E40, E103}
 use Rattle.fop.specs.Events.{Line, when, first, seen, wordLines, wordEvent, expiryLines, validDirective, directiveLines, directiveEvent}
@@ -115,6 +115,9 @@ number-below d v h =
 octet-below : (v : ℕ) → T (leb v largestNumber) → v < 256
 octet-below v h = omega (arith, leb→le v largestNumber h)
 
+within-limits : (v most : ℕ) → T (leb 1 v && leb v most) → (1 ≤ v) × (v ≤ most)
+within-limits v most h = (leb→le 1 v (and-l (leb 1 v) (leb v most) h), leb→le v most (and-r (leb 1 v) (leb v most) h))
+
 module _ (v : ℕ) (s : Sender) (serving : s .variables .«suspend_state» ≡ 0) where
   abbrev DirectiveMeets : FopEvent → Type 0
   DirectiveMeets e = Meets e [] v s
@@ -139,9 +142,9 @@ module _ (v : ℕ) (s : Sender) (serving : s .variables .«suspend_state» ≡ 0
       also (λ h. tt)
       also resumes
       also octet-below v
-      also (λ h. leb→le v largestK (and-r (leb 1 v) (leb v largestK) h))
-      also (λ h. tt)
-      also (λ h. leb→le v largestTransmissionLimit (and-r (leb 1 v) (leb v largestTransmissionLimit) h))
+      also within-limits v largestK
+      also (λ h. within-limits v largestTimer h .0)
+      also within-limits v largestTransmissionLimit
       also eqb→eq v 0
       also tt)
 

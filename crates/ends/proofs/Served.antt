@@ -33,7 +33,7 @@ use Rattle.fop_actions.proofs.SentQueue.{unit-slid}
 use Rattle.fop_rows.specs.Rows.{eventOf, rowOf}
 use Rattle.fop_events.specs.Events.{eventNumber}
 use Rattle.fop_view.specs.State.{Good, held}
-use Rattle.fop_view.specs.Rows.{Brings, brings, nothing, acknowledging, again, offering, numbering, widening, limiting, timing, suspending, Meets, Shows, storeBy, storeAfter, lengthsBy, lengthsAfter}
+use Rattle.fop_view.specs.Rows.{Brings, brings, nothing, acknowledging, again, offering, numbering, widening, clocking, limiting, timing, suspending, Meets, Shows, storeBy, storeAfter, lengthsBy, lengthsAfter}
 use Rattle.fop_view.proofs.Theorem.{row-view, row-lengths, row-few}
 use Rattle.sender.specs.Answers.{Step, stepBy}
 use Rattle.sender.specs.Events.{handedWriting, placeHanded, unitBefore, servedBy}
@@ -73,6 +73,7 @@ isOffering again = false
 isOffering offering = true
 isOffering numbering = false
 isOffering widening = false
+isOffering clocking = false
 isOffering limiting = false
 isOffering timing = false
 isOffering suspending = false
@@ -86,6 +87,7 @@ others again o s w store t = (refl, refl)
 others offering o s w store t = absurd (true≢false t)
 others numbering o s w store t = (refl, refl)
 others widening o s w store t = (refl, refl)
+others clocking o s w store t = (refl, refl)
 others limiting o s w store t = (refl, refl)
 others timing o s w store t = (refl, refl)
 others suspending o s w store t = (refl, refl)

@@ -68,11 +68,19 @@ module _ (set : Settings) (within : Within set) (store : List ℕ) (long : small
   unfolding startOf begun
   first-good = record {
     formed = well-started (senderSettings set) (set .n) (set .n) store (omega (arith, within .number)) (omega (arith, within .number)) no-offset long;
+    window-least = within .windowLeast;
     window = within .windowMost;
+    clock-least = within .timerLeast;
+    limit-least = within .limitLeast;
     limit = within .limitMost;
+    count-least = omega arith;
+    count-most = omega arith;
     alerting = refl;
     serving = refl;
-    initial = λ q. refl;
+    sent-main = λ q. refl;
+    waiting-main = λ q. refl;
+    stopped = λ q. refl;
+    control-s5 = refl;
     filled = λ i h. absurd (omega (arith, h));
     spacecraft = refl;
     channel = refl;

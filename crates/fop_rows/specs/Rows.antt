@@ -15,6 +15,8 @@ use Rattle.fop.specs.Table.{E1, E2, E3, E4, E5, E6, E7, E8, E9, E10, E11, E12, 
 use Rattle.fop.specs.Table.{E35, E36, E37, E38, E39, E40, E41, E42, E43, E44, E45, E46, E101, E102, E103, E104}
 use Rattle.fop_actions.specs.declared.State.{State}
 use Rattle.fop_actions.specs.declared.State.the-variants as state
+use Rattle.fop_actions.specs.declared.Control.{Control}
+use Rattle.fop_actions.specs.declared.Control.the-variants as control
 use Rattle.fop_actions.specs.declared.Alert.the-variants as reason
 use Rattle.fop_actions.specs.declared.Alert.{Alert as Reason}
 use Rattle.fop_actions.specs.declared.Response.the-variants as response
@@ -49,6 +51,12 @@ inMain state.S3 = true
 inMain state.S4 = false
 inMain state.S5 = false
 inMain state.S6 = false
+
+-- a type-BC frame is on the sent queue
+abbrev pub isFrame : Control → Bool
+isFrame control.None = false
+isFrame control.Unlock = true
+isFrame (control.SetVr value) = true
 
 -- a value of one octet: N(R), V*, K, Transmission_Limit, Timeout_Type; only T1_Initial has more
 abbrev pub octet : ℕ → ℕ

@@ -19,8 +19,8 @@ use Rattle.fop_actions.specs.Actions as act
 use Rattle.fop_actions.proofs.ViewAnswers as answers
 use Rattle.fop_actions.proofs.ViewAnswers.{Room}
 use Rattle.fop_rows.specs.Rows.{done, doneAll, declaredReason}
-use Rattle.fop_view.specs.Rows.{Brings, acknowledging, offering, numbering, widening, limiting, timing, Needed}
-use Rattle.fop_view.proofs.Mode.{Stored, moved, put, Mode, going, half, over, same, same-is, onGoing, onlyIf, taking, answered, repeated, purged, handedDown, looked, given, after, afterAll}
+use Rattle.fop_view.specs.Rows.{Brings, acknowledging, offering, numbering, widening, clocking, limiting, timing, Needed}
+use Rattle.fop_view.proofs.Mode.{Stored, moved, put, Quiet, started, ceased, released, offered, remaining, sending, bothPurged, Mode, going, half, over, same, same-is, onGoing, onlyIf, taking, turned, answered, repeated, purged, handedDown, controlled, looked, given, after, afterAll}
 use Rattle.fop_view.proofs.Known.{Case, seen, Open, At}
 use Rattle.fop_view.proofs.Onward.{on-fresh, on-going, on-half, only-if, takes}
 use Rattle.fop_view.proofs.Values as values
@@ -30,26 +30,30 @@ use Rattle.fop_view.proofs.First as first
 
 -- The groups of actions.
 module _ (x : Case) (w v : Work) (a : Action) (mode : Mode) (m : machine.Work) (h : At x mode w m) where
-  same-mode : ((p : Stored) (f z u : Bool) (l : ℕ) → Open x p f z u l w m → Open x p f z u l v (perform a m)) → At x (onGoing going mode) v (perform a m)
-  same-mode step = on-going x w v m (perform a m) going step mode h
+  turned-mode : (Z : Quiet → Quiet) → ((p : Stored) (f : Bool) (z : Quiet) (u : Bool) (l : ℕ) → Open x p f z u l w m → Open x p f (Z z) u l v (perform a m))
+      → At x (onGoing (turned Z) mode) v (perform a m)
+  turned-mode Z step = on-going x w v m (perform a m) (turned Z) step mode h
 
-  given-mode : (t : Bool) → (t ≡ true → (p : Stored) (f z u : Bool) (l : ℕ) → Open x p f z u l w m → Open x p f z u l v (perform a m))
+  same-mode : ((p : Stored) (f : Bool) (z : Quiet) (u : Bool) (l : ℕ) → Open x p f z u l w m → Open x p f z u l v (perform a m)) → At x (onGoing going mode) v (perform a m)
+  same-mode step = turned-mode (λ z. z) step
+
+  given-mode : (t : Bool) → (t ≡ true → (p : Stored) (f : Bool) (z : Quiet) (u : Bool) (l : ℕ) → Open x p f z u l w m → Open x p f z u l v (perform a m))
       → At x (onGoing (given t) mode) v (perform a m)
   given-mode t step =
       on-going x w v m (perform a m) (given t) (λ p f z u l g. only-if x w v m (perform a m) t (going p f z u l) (λ y. step y p f z u l g)) mode h
 
-  repeated-mode : ((p : Stored) (z u : Bool) (l : ℕ) → Open x p true z u l w m → Open x p false z u l v (perform a m)) → At x (onGoing repeated mode) v (perform a m)
+  repeated-mode : ((p : Stored) (z : Quiet) (u : Bool) (l : ℕ) → Open x p true z u l w m → Open x p false (started z) u l v (perform a m)) → At x (onGoing repeated mode) v (perform a m)
   repeated-mode step =
       on-going x w v m (perform a m) repeated
-      (λ p f z u l g. only-if x w v m (perform a m) f (going p false z u l) (λ y. step p z u l (subst (λ (b : Bool). Open x p b z u l w m) y g))) mode h
+      (λ p f z u l g. only-if x w v m (perform a m) f (going p false (started z) u l) (λ y. step p z u l (subst (λ (b : Bool). Open x p b z u l w m) y g))) mode h
 
-  purged-mode : ((p : Stored) (f z : Bool) (l : ℕ) → Open x p f z true (suc (suc l)) w m → Open x p false true false l v (perform a m))
-      → At x (onGoing purged mode) v (perform a m)
-  purged-mode step =
-      on-going x w v m (perform a m) purged
-      (λ p f z u l g. only-if x w v m (perform a m) u (taking l (λ k. taking k (going p false true false)))
-      (λ y. takes x w v m (perform a m) (λ k. Open x p f z true k w m) l (λ k. taking k (going p false true false)) (subst (λ (b : Bool). Open x p f z b l w m) y g)
-      (λ j i. takes x w v m (perform a m) (λ k. Open x p f z true (suc k) w m) j (going p false true false) i (λ k o. step p f z k o)))) mode h
+  purged-mode : (Z : Quiet → Quiet) → ((p : Stored) (f : Bool) (z : Quiet) (l : ℕ) → Open x p f z true (suc (suc l)) w m → Open x p false (bothPurged (Z z)) false l v (perform a m))
+      → At x (onGoing (purged Z) mode) v (perform a m)
+  purged-mode Z step =
+      on-going x w v m (perform a m) (purged Z)
+      (λ p f z u l g. only-if x w v m (perform a m) u (taking l (λ k. taking k (going p false (bothPurged (Z z)) false)))
+      (λ y. takes x w v m (perform a m) (λ k. Open x p f z true k w m) l (λ k. taking k (going p false (bothPurged (Z z)) false)) (subst (λ (b : Bool). Open x p f z b l w m) y g)
+      (λ j i. takes x w v m (perform a m) (λ k. Open x p f z true (suc k) w m) j (going p false (bothPurged (Z z)) false) i (λ k o. step p f z k o)))) mode h
 
 answered-mode : (x : Case) (w : Work) (a : Action) (r : Response) (mode : Mode) (m : machine.Work) → At x mode w m
     → ((c d : List Fdu) (store : List ℕ) → Room 1 (w .told .responses) → perform a (seen x c d w store) ≡ seen x c d (act.respond r w) store)
@@ -72,46 +76,47 @@ module _ (x : Case) (b : Brings) (meets : Needed b (x .octets) (x .value) (x .se
   step AcceptBd mode w m h = answered-mode x w AcceptBd response.AcceptBdUnit mode m h (λ c d s r. answers.accept-bd _ _ _ c d w s r)
   step RejectBd mode w m h = answered-mode x w RejectBd response.RejectBdUnit mode m h (λ c d s r. answers.reject-bd _ _ _ c d w s r)
   step AddToWaitQueue mode w m h =
-      on-fresh x w (act.addToWaitQueue (length (x .octets)) w) m (perform AddToWaitQueue m) (λ f z. onlyIf (same b offering) (going put f z true largestResponses))
-      (λ f z g. only-if x w (act.addToWaitQueue (length (x .octets)) w) m (perform AddToWaitQueue m) (same b offering) (going put f z true largestResponses)
+      on-fresh x w (act.addToWaitQueue (length (x .octets)) w) m (perform AddToWaitQueue m) (λ f z. onlyIf (same b offering) (going put f (offered z) true largestResponses))
+      (λ f z g. only-if x w (act.addToWaitQueue (length (x .octets)) w) m (perform AddToWaitQueue m) (same b offering) (going put f (offered z) true largestResponses)
       (λ t. first.add-to-wait-queue x f z w m g (brought offering t))) mode h
   step LookForFdu mode w m h =
       on-going x w (act.lookForFdu w) m (perform LookForFdu m) looked
-      (λ p f z u l g. takes x w (act.lookForFdu w) m (perform LookForFdu m) (λ k. Open x p f z u k w m) l (λ k. over p false) g (λ k i. handing.look-for-fdu x w m i)) mode h
+      (λ p f z u l g. takes x w (act.lookForFdu w) m (perform LookForFdu m) (λ k. Open x p f z u k w m) l (λ k. over p (sending z)) g (λ k i. handing.look-for-fdu x w m i)) mode h
   step LookForDirective mode w m h =
       on-going x w (act.lookForDirective w) m (perform LookForDirective m) handedDown (λ p f z u l g. handing.look-for-directive x w m g) mode h
   step RemoveAcknowledgedFrames mode w m h =
-      on-fresh x w (act.removeAcknowledgedFrames (x .value % 256) w) m (perform RemoveAcknowledgedFrames m) (λ f z. onlyIf (same b acknowledging) (going moved true false true largestResponses))
-      (λ f z g. only-if x w (act.removeAcknowledgedFrames (x .value % 256) w) m (perform RemoveAcknowledgedFrames m) (same b acknowledging) (going moved true false true largestResponses)
+      on-fresh x w (act.removeAcknowledgedFrames (x .value % 256) w) m (perform RemoveAcknowledgedFrames m) (λ f z. onlyIf (same b acknowledging) (going moved true (remaining z) true largestResponses))
+      (λ f z g. only-if x w (act.removeAcknowledgedFrames (x .value % 256) w) m (perform RemoveAcknowledgedFrames m) (same b acknowledging) (going moved true (remaining z) true largestResponses)
       (λ t. first.remove-acknowledged-frames x f z w m g (brought acknowledging t))) mode h
   step InitiateAdRetransmission mode w m h =
       repeated-mode x w (act.initiateAdRetransmission w) InitiateAdRetransmission mode m h (λ p z u l g. values.initiate-ad-retransmission x w m g)
   step InitiateBcRetransmission mode w m h =
       repeated-mode x w (act.initiateBcRetransmission w) InitiateBcRetransmission mode m h (λ p z u l g. values.initiate-bc-retransmission x w m g)
-  step ReleaseBcFrame mode w m h = same-mode x w (act.releaseBcFrame w) ReleaseBcFrame mode m h (λ p f z u l g. values.release-bc-frame x w m g)
-  step CancelTimer mode w m h = same-mode x w (act.cancelTimer w) CancelTimer mode m h (λ p f z u l g. values.cancel-timer x w m g)
-  step StartTimer mode w m h = same-mode x w (act.startTimer w) StartTimer mode m h (λ p f z u l g. values.start-timer x w m g)
-  step (Alert r) mode w m h = purged-mode x w (act.alert (declaredReason r) w) (Alert r) mode m h (λ p f z l g. purge.alerts x w m g r)
-  step Initialise mode w m h = purged-mode x w (act.initialise w) Initialise mode m h (λ p f z l g. purge.initialise x w m g)
+  step ReleaseBcFrame mode w m h = turned-mode x w (act.releaseBcFrame w) ReleaseBcFrame mode m h released (λ p f z u l g. values.release-bc-frame x w m g)
+  step CancelTimer mode w m h = turned-mode x w (act.cancelTimer w) CancelTimer mode m h ceased (λ p f z u l g. values.cancel-timer x w m g)
+  step StartTimer mode w m h = turned-mode x w (act.startTimer w) StartTimer mode m h started (λ p f z u l g. values.start-timer x w m g)
+  step (Alert r) mode w m h = purged-mode x w (act.alert (declaredReason r) w) (Alert r) mode m h ceased (λ p f z l g. purge.alerts x w m g r)
+  step Initialise mode w m h = purged-mode x w (act.initialise w) Initialise mode m h (λ z. z) (λ p f z l g. purge.initialise x w m g)
   step TransmitUnlock mode w m h =
-      on-going x w (act.transmitUnlock w) m (perform TransmitUnlock m) handedDown (λ p f z u l g. handing.transmit-unlock x w m g) mode h
+      on-going x w (act.transmitUnlock w) m (perform TransmitUnlock m) controlled (λ p f z u l g. handing.transmit-unlock x w m g) mode h
   step TransmitSetVr mode w m h =
-      on-going x w (act.transmitSetVr (x .value % 256) w) m (perform TransmitSetVr m) (λ p f z u l. onlyIf (same b numbering) (over p z))
-      (λ p f z u l g. only-if x w (act.transmitSetVr (x .value % 256) w) m (perform TransmitSetVr m) (same b numbering) (over p z)
+      on-going x w (act.transmitSetVr (x .value % 256) w) m (perform TransmitSetVr m) (λ p f z u l. onlyIf (same b numbering) (controlled p f z u l))
+      (λ p f z u l g. only-if x w (act.transmitSetVr (x .value % 256) w) m (perform TransmitSetVr m) (same b numbering) (controlled p f z u l)
       (λ t. handing.transmit-set-vr x w m g (brought numbering t))) mode h
   step TransmitBd mode w m h = on-going x w (act.transmitBdFrame w) m (perform TransmitBd m) handedDown (λ p f z u l g. handing.transmit-bd x w m g) mode h
   step (SetSuspendState n) mode w m h = tt
   step Suspend mode w m h = tt
   step Resume mode w m h = tt
   step SetVs mode w m h =
-      on-going x w (act.setVs (x .value % 256) w) m (perform SetVs m) (λ p f z u l. onlyIf (same b numbering) (onlyIf z (half p u l)))
-      (λ p f z u l g. only-if x w (act.setVs (x .value % 256) w) m (perform SetVs m) (same b numbering) (onlyIf z (half p u l))
-      (λ t. only-if x w (act.setVs (x .value % 256) w) m (perform SetVs m) z (half p u l)
-      (λ y. values.set-vs x w m (brought numbering t) (subst (λ (q : Bool). Open x p f q u l w m) y g)))) mode h
+      on-going x w (act.setVs (x .value % 256) w) m (perform SetVs m) (λ p f z u l. onlyIf (same b numbering) (onlyIf (z .unsent) (half p z u l)))
+      (λ p f z u l g. only-if x w (act.setVs (x .value % 256) w) m (perform SetVs m) (same b numbering) (onlyIf (z .unsent) (half p z u l))
+      (λ t. only-if x w (act.setVs (x .value % 256) w) m (perform SetVs m) (z .unsent) (half p z u l)
+      (λ y. values.set-vs x w m (brought numbering t) y g))) mode h
   step SetNnr mode w m h =
-      on-half x w (act.setNnr (x .value % 256) w) m (perform SetNnr m) (λ p u l. going p false true u l) (λ p u l g. values.set-nnr x w m g) mode h
+      on-half x w (act.setNnr (x .value % 256) w) m (perform SetNnr m) (λ p z u l. going p false z u l) (λ p z u l g. values.set-nnr x w m g) mode h
   step SetK mode w m h = given-mode x w (act.setK (x .value % 256) w) SetK mode m h (same b widening) (λ t p f z u l g. values.set-k x w m g (brought widening t))
-  step SetT1Initial mode w m h = same-mode x w (act.setT1Initial (x .value) w) SetT1Initial mode m h (λ p f z u l g. values.set-t1-initial x w m g)
+  step SetT1Initial mode w m h =
+      given-mode x w (act.setT1Initial (x .value) w) SetT1Initial mode m h (same b clocking) (λ t p f z u l g. values.set-t1-initial x w m g (brought clocking t))
   step SetTransmissionLimit mode w m h =
       given-mode x w (act.setTransmissionLimit (x .value % 256) w) SetTransmissionLimit mode m h (same b limiting)
       (λ t p f z u l g. values.set-transmission-limit x w m g (brought limiting t))

@@ -3,8 +3,8 @@ use Prim.Native.Nat.{ℕ}
 use mathlib.Core.Path.{_≡_, refl}
 use mathlib.Core.Bool.{Bool, true, false}
 use mathlib.Core.List.{List}
-use native.Mathlib.Omega.{arith}
 use Rattle.base.specs.Choice.{both}
+use Rattle.base.proofs.Tests.{both-left, both-right}
 use Rattle.fop.specs.Table.{table78, cell78, FopEvent, E1, E2, E3, E4, E5, E6, E7, E8, E9, E10, E11, E12, E13, E14, E15, E16, E17, E18, E19, E20, E21, E22, E23, E24, E25, E26, E27, E28, E29, E30, E31, E32, E33, E34}
 use Rattle.fop.specs.Table.{E35, E36, E37, E38, E39, E40, E41, E42, E43, E44, E45, E46, E101, E102, E103, E104}
 use Rattle.fop_actions.specs.declared.State.{State}
@@ -13,15 +13,6 @@ use Rattle.fop_actions.specs.declared.Sender.{Sender}
 use Rattle.fop_actions.specs.View.{stateOf}
 use Rattle.fop_view.specs.Rows.{brings, Meets}
 use Rattle.fop_view.proofs.Mode.{same, after, afterAll, allows}
-
--- both of two tests hold
-pub both-first : (a b : Bool) → both a b ≡ true → a ≡ true
-both-first true b t = refl
-both-first false b t = t
-
-pub both-second : (a b : Bool) → both a b ≡ true → b ≡ true
-both-second true b t = t
-both-second false b t = let z : _≡_ {A = ℕ} 0 1 = cc in absurd (omega arith)
 
 -- a test in every state
 module _ (p : State → Bool) where
@@ -42,12 +33,12 @@ module _ (p : State → Bool) where
 
   every-in : every ≡ true → (x : State) → p x ≡ true
   every-in t =
-      let a : five ≡ true = both-second (p state.S1) five t in
-      let b : four ≡ true = both-second (p state.S2) four a in
-      let c : three ≡ true = both-second (p state.S3) three b in
-      let d : two ≡ true = both-second (p state.S4) two c in
-      by (both-first (p state.S1) five t) (both-first (p state.S2) four a) (both-first (p state.S3) three b)
-      (both-first (p state.S4) two c) (both-first (p state.S5) (p state.S6) d) (both-second (p state.S5) (p state.S6) d) where
+      let a : five ≡ true = both-right (p state.S1) five t in
+      let b : four ≡ true = both-right (p state.S2) four a in
+      let c : three ≡ true = both-right (p state.S3) three b in
+      let d : two ≡ true = both-right (p state.S4) two c in
+      by (both-left (p state.S1) five t) (both-left (p state.S2) four a) (both-left (p state.S3) three b)
+      (both-left (p state.S4) two c) (both-left (p state.S5) (p state.S6) d) (both-right (p state.S5) (p state.S6) d) where
         by : p state.S1 ≡ true → p state.S2 ≡ true → p state.S3 ≡ true → p state.S4 ≡ true → p state.S5 ≡ true → p state.S6 ≡ true → (x : State) → p x ≡ true
         by a b c d e f state.S1 = a
         by a b c d e f state.S2 = b

@@ -1,19 +1,20 @@
 -- A cell that is allowed shows the machine's work: its actions lead to a mode that its next state asks, and from there the next state is set.
 use Prim.Native.Nat.{ℕ, _<_}
 use mathlib.Core.Path.{_≡_, refl, sym, ap, subst, _∙_}
-use mathlib.Core.Bool.{Bool, true, false}
+use mathlib.Core.Bool.{Bool, true, false, not}
 use mathlib.Core.List.{List, []}
 use native.Mathlib.Omega.{arith}
-use borrow.Author.Tests.{eq-eqb}
+use borrow.Author.Tests.{eq-eqb, not-true as is-false}
 use lib.Dec.{eqb}
 use lib.ListN.{length}
-use Rattle.base.specs.Choice.{pick}
+use Rattle.base.specs.Choice.{pick, both}
 use Rattle.store.proofs.Parts.{slid-none}
 use Rattle.fop.specs.Table as table
 use Rattle.fop.specs.Table.{Action, Cell, cell, ifNotSuspended, NotApplicable}
 use Rattle.fop.specs.Variables as machine
 use Rattle.fop.specs.Answers.{runOf}
 use Rattle.fop.specs.Machine.{performAll, performCell}
+use Rattle.fop_actions.specs.declared.Control.{Control}
 use Rattle.fop_actions.specs.declared.Handed.the-variants as handed
 use Rattle.fop_actions.specs.declared.Sender.{Sender}
 use Rattle.fop_actions.specs.declared.State.{State}
@@ -25,10 +26,10 @@ use Rattle.fop_actions.specs.View.{stateOf, fopOf}
 use Rattle.fop_actions.proofs.ViewValues as values
 use Rattle.fop_rows.specs.Rows.{declared, doneAll, doneCell, inMain}
 use Rattle.fop_view.specs.State.{Good}
-use Rattle.fop_view.specs.Rows.{Brings, nothing, acknowledging, again, offering, numbering, widening, limiting, timing, suspending, brings, Needed, storeBy, lengthsBy, Shows}
-use Rattle.fop_view.proofs.Mode.{Stored, kept, moved, put, Mode, fresh, going, half, over, bad, same, same-is, initial, begins, emptyIn, notPut, putWhere, fits, ends, afterAll, allows}
-use Rattle.fop_view.proofs.Allowed.{both-first, both-second}
-use Rattle.fop_view.proofs.Known.{Case, seen, Where, Left, StoreIs, LengthsIs, NoMore, Shut, At, none-below, no-more-first}
+use Rattle.fop_view.specs.Rows.{Brings, nothing, acknowledging, again, offering, numbering, widening, clocking, limiting, timing, suspending, brings, Needed, storeBy, lengthsBy, Shows}
+use Rattle.fop_view.proofs.Mode.{Stored, kept, moved, put, Quiet, Mode, fresh, going, half, over, bad, same, same-is, initial, quietIn, begins, implied, agrees, covers, notPut, putWhere, fits, ends, afterAll, allows}
+use Rattle.base.proofs.Tests.{both-left, both-right}
+use Rattle.fop_view.proofs.Known.{Case, seen, Where, Left, StoreIs, LengthsIs, QuietIs, NoMore, Shut, At, known, where-on, none-below, no-more-first}
 use Rattle.fop_view.proofs.Actions.{steps}
 
 not-true : {A : Type 0} → false ≡ true → A
@@ -64,6 +65,7 @@ module _ (x : Case) (store : List ℕ) (w : Work) where
     left-after again t = slid-both t
     left-after numbering t = slid-both t
     left-after widening t = slid-both t
+    left-after clocking t = slid-both t
     left-after limiting t = slid-both t
     left-after timing t = slid-both t
     left-after suspending t = slid-both t
@@ -77,16 +79,37 @@ declared-is table.S4 = refl
 declared-is table.S5 = refl
 declared-is table.S6 = refl
 
-known : {z : Bool} {A : Type 0} → z ≡ true → Where z A → A
-known {z} {A} t h = subst (λ (b : Bool). Where b A) t h
+-- what is known is all that is asked
+where-implied : (A : Type 0) (a b : Bool) → implied a b ≡ true → Where b A → Where a A
+where-implied A true b t h = known t h
+where-implied A false b t h = tt
 
-empty-initial : (t : table.State) (z : Bool) (sent : ℕ) → emptyIn t z ≡ true → Where z (sent ≡ 0) → declared t ≡ state.S6 → sent ≡ 0
-empty-initial table.S1 z sent y h q = let k : _≡_ {A = ℕ} 0 1 = cc in omega arith
-empty-initial table.S2 z sent y h q = let k : _≡_ {A = ℕ} 0 1 = cc in omega arith
-empty-initial table.S3 z sent y h q = let k : _≡_ {A = ℕ} 0 1 = cc in omega arith
-empty-initial table.S4 z sent y h q = let k : _≡_ {A = ℕ} 0 1 = cc in omega arith
-empty-initial table.S5 z sent y h q = let k : _≡_ {A = ℕ} 0 1 = cc in omega arith
-empty-initial table.S6 z sent y h q = known y h
+agrees-is : (a b : Bool) → agrees a b ≡ true → b ≡ a
+agrees-is true b t = t
+agrees-is false b t = is-false b t
+
+covered : (asked z : Quiet) {timer sent : ℕ} {waiting : Bool} {bc : Control} → covers asked z ≡ true → QuietIs z timer sent waiting bc → QuietIs asked timer sent waiting bc
+covered asked z t q =
+    let a : Bool = implied (asked .unsent) (z .unsent) in
+    let b : Bool = implied (asked .unasked) (z .unasked) in
+    let c : Bool = implied (asked .stopped) (z .stopped) in
+    let d : Bool = agrees (asked .frame) (z .frame) in
+    let u : both b (both c d) ≡ true = both-right a (both b (both c d)) t in
+    let v : both c d ≡ true = both-right b (both c d) u in
+    record {
+      unsent = where-implied _ (asked .unsent) (z .unsent) (both-left a (both b (both c d)) t) (q .unsent);
+      unasked = where-implied _ (asked .unasked) (z .unasked) (both-left b (both c d) u) (q .unasked);
+      stopped = where-implied _ (asked .stopped) (z .stopped) (both-left c d v) (q .stopped);
+      frame = q .frame ∙ agrees-is (asked .frame) (z .frame) (both-right c d v);
+    }
+
+initial-is : (x : State) → initial x ≡ true → x ≡ state.S6
+initial-is state.S1 t = not-true t
+initial-is state.S2 t = not-true t
+initial-is state.S3 t = not-true t
+initial-is state.S4 t = not-true t
+initial-is state.S5 t = not-true t
+initial-is state.S6 t = refl
 
 -- Suspend_State is 0
 serves : (s : Sender) → s .variables .«suspend_state» ≡ 0 → eqb (begun s .variables .«suspend_state») 0 ≡ true
@@ -109,11 +132,13 @@ shown x w m store left most h = record {
 }
 
 module _ (x : Case) (good : Good (x .own) (x .sender) (x .store)) where
-  enters : (p : Stored) (z : Bool) (t : table.State) (w : Work) (m : machine.Work) → fits (brings (x .event)) (inMain (x .sender .state)) p ≡ true → emptyIn t z ≡ true
+  enters : (p : Stored) (z : Quiet) (t : table.State) (w : Work) (m : machine.Work) → fits (brings (x .event)) (inMain (x .sender .state)) p ≡ true
+      → covers (quietIn (declared t)) z ≡ true
       → Shut x p z w m → Shown x (act.toState (declared t) w) (machine.onFop (machine.setState t (m .fop)) m)
   unfolding act.toState begun senderOf
   enters p z t w m a b h =
       let e = h .ended in
+      let q = covered (quietIn (declared t)) z b (e .quiet) in
       let v = act.toState (declared t) w in
       let to : machine.Work → machine.Work = λ y. machine.onFop (machine.setState t (y .fop)) y in
       let is : to m ≡ seen x (h .c) (h .d) v (h .store) =
@@ -127,11 +152,19 @@ module _ (x : Case) (good : Good (x .own) (x .sender) (x .store)) where
         denied = ap (λ (y : machine.Work). runOf (y .denied)) (h .is) ∙ e .runs .of-denied;
         good = record {
           formed = h .formed;
+          window-least = e .settled .window-least;
           window = e .settled .in-window;
+          clock-least = e .settled .clock-least;
+          limit-least = e .settled .limit-least;
           limit = e .settled .in-limit;
+          count-least = e .counted .least;
+          count-most = e .counted .most;
           alerting = e .settled .alerting;
-          serving = e .settled .serving;
-          initial = empty-initial t z (w .queues .sent) b (e .empty);
+          serving = e .counted .serving;
+          sent-main = λ k. known (ap not k) (q .unsent);
+          waiting-main = λ k. known (ap not k) (q .unasked);
+          stopped = λ k. known (ap initial k) (q .stopped);
+          control-s5 = q .frame;
           filled = e .filled;
           spacecraft = e .settled .own-spacecraft;
           channel = e .settled .own-channel;
@@ -145,11 +178,11 @@ module _ (x : Case) (good : Good (x .own) (x .sender) (x .store)) where
       → Shown x (act.toState (declared t) w) (machine.onFop (machine.setState t (m .fop)) m)
   ended (fresh f z) t w m y h = not-true y
   ended (going p f z u l) t w m y h =
-      enters p z t w m (both-first _ _ y) (both-second (fits (brings (x .event)) (inMain (x .sender .state)) p) (emptyIn t z) y)
+      enters p z t w m (both-left _ _ y) (both-right (fits (brings (x .event)) (inMain (x .sender .state)) p) (covers (quietIn (declared t)) z) y)
       (record { store = h .store; c = h .c; d = h .d; is = h .is; formed = h .formed; ended = h .ended })
-  ended (half p u l) t w m y h = not-true y
+  ended (half p z u l) t w m y h = not-true y
   ended (over p z) t w m y h =
-      enters p z t w m (both-first _ _ y) (both-second (fits (brings (x .event)) (inMain (x .sender .state)) p) (emptyIn t z) y) h
+      enters p z t w m (both-left _ _ y) (both-right (fits (brings (x .event)) (inMain (x .sender .state)) p) (covers (quietIn (declared t)) z) y) h
   ended bad t w m y h = not-true y
 
   -- Not Applicable: nothing is done
@@ -169,13 +202,15 @@ module _ (x : Case) (good : Good (x .own) (x .sender) (x .store)) where
       omega (arith, n, good .limit)
   few-again false e h = tt
 
-  empty-first : (s : State) → x .sender .state ≡ s → Where (initial s) (x .sender .queues .sent ≡ 0)
-  empty-first state.S1 e = tt
-  empty-first state.S2 e = tt
-  empty-first state.S3 e = tt
-  empty-first state.S4 e = tt
-  empty-first state.S5 e = tt
-  empty-first state.S6 e = good .initial e
+  quiet-first : QuietIs (quietIn (x .sender .state)) (x .sender .variables .timer) (x .sender .queues .sent) (x .sender .queues .waiting) (x .sender .queues .control)
+  quiet-first =
+      let s = x .sender .state in
+      record {
+        unsent = where-on (not (inMain s)) (λ t. good .sent-main (is-false (inMain s) t));
+        unasked = where-on (not (inMain s)) (λ t. good .waiting-main (is-false (inMain s) t));
+        stopped = where-on (initial s) (λ t. good .stopped (initial-is s t));
+        frame = good .control-s5;
+      }
 
   module _ (meets : Needed (brings (x .event)) (x .octets) (x .value) (x .sender)) where
     begin : At x (begins (brings (x .event)) (x .sender .state)) (begun (x .sender)) (seen x [] [] (begun (x .sender)) (x .store))
@@ -184,7 +219,7 @@ module _ (x : Case) (good : Good (x .own) (x .sender) (x .store)) where
       is = refl;
       good = good;
       few = few-again (same (brings (x .event)) again) refl meets;
-      empty = empty-first (x .sender .state) refl;
+      quiet = quiet-first;
     }
 
     acted : (acts : List Action) (t : table.State)

@@ -36,8 +36,8 @@ use Rattle.fop_actions.proofs.ViewRuns.{confirmed-run}
 use Rattle.fop_actions.proofs.ViewStart.{room-begun}
 use Rattle.fop_actions.proofs.ViewWaiting as waiting
 use Rattle.fop_view.specs.State.{Good, held}
-use Rattle.fop_view.proofs.Mode.{moved, put}
-use Rattle.fop_view.proofs.Known.{Case, Fresh, NoMore, Open, octet-is, held-most, held-waiting, good-settled, none-below}
+use Rattle.fop_view.proofs.Mode.{moved, put, Quiet, offered, remaining}
+use Rattle.fop_view.proofs.Known.{Case, Fresh, NoMore, Open, octet-is, held-most, held-waiting, good-settled, good-counted, counts-one, none-below}
 
 -- Remove acknowledged frames, by N(R) from NN(R) to V(S).
 held-past : (sent rest gone i : ℕ) (b : Bool) → gone ≡ sent - rest → rest ≤ sent → i < held rest b → gone + i < held sent b
@@ -67,9 +67,9 @@ module _ (x : Case) (good : Good (x .own) (x .sender) (x .store)) where
       let w = begun (x .sender) in
       omega (arith, gone-is w (x .store) n (good .formed), least-first (q .sent) (offset (w .variables .vs) n), held-most (staying n w) (q .waiting))
 
-  removes : (f z : Bool) (m : machine.Work) → Fresh x f z (begun (x .sender)) m → x .value < 256
+  removes : (f : Bool) (z : Quiet) (m : machine.Work) → Fresh x f z (begun (x .sender)) m → x .value < 256
       → offset (x .value) (x .sender .variables .nnr) ≤ offset (x .sender .variables .vs) (x .sender .variables .nnr)
-      → Open x moved true false true largestResponses (act.removeAcknowledgedFrames (x .value) (begun (x .sender))) (perform table.RemoveAcknowledgedFrames m)
+      → Open x moved true (remaining z) true largestResponses (act.removeAcknowledgedFrames (x .value) (begun (x .sender))) (perform table.RemoveAcknowledgedFrames m)
   unfolding begun noneTold act.removeAcknowledgedFrames withVariables withQueues withTold
   removes f z m h o i =
       let w = begun (x .sender) in
@@ -83,6 +83,7 @@ module _ (x : Case) (good : Good (x .own) (x .sender) (x .store)) where
         formed = well.remove-acknowledged-frames w (x .store) (good .formed) (x .value) o i;
         ended = record {
           settled = good-settled good;
+          counted = counts-one (good .serving);
           filled = filled-moved (x .value);
           no-more = no-more-moved (x .value);
           runs = record {
@@ -91,7 +92,7 @@ module _ (x : Case) (good : Good (x .own) (x .sender) (x .store)) where
             of-confirmed = confirmed-run w (x .store) (x .value) (good .formed);
             of-denied = refl;
           };
-          empty = tt;
+          quiet = record { unsent = tt; unasked = h .quiet .unasked; stopped = h .quiet .stopped; frame = h .quiet .frame };
           below = none-below handed.None _ refl;
         };
         going = record { none = refl; room = room-begun (x .sender); undenied = refl; few = omega arith };
@@ -117,8 +118,8 @@ module _ (x : Case) (good : Good (x .own) (x .sender) (x .store)) where
         let here : i < length (x .sender .queues .lengths) = omega (arith, sent-few, good .formed .all-places) in
         rw (← k, getD-set-same (x .sender .queues .lengths) i (length (x .octets)) 0 here) o
 
-  adds : (f z : Bool) (m : machine.Work) → Fresh x f z (begun (x .sender)) m → 1 ≤ length (x .octets) → length (x .octets) ≤ largestUnit
-      → Open x put f z true largestResponses (act.addToWaitQueue (length (x .octets)) (begun (x .sender))) (perform table.AddToWaitQueue m)
+  adds : (f : Bool) (z : Quiet) (m : machine.Work) → Fresh x f z (begun (x .sender)) m → 1 ≤ length (x .octets) → length (x .octets) ≤ largestUnit
+      → Open x put f (offered z) true largestResponses (act.addToWaitQueue (length (x .octets)) (begun (x .sender))) (perform table.AddToWaitQueue m)
   unfolding begun noneTold act.addToWaitQueue withQueues
   adds f z m h o i =
       let w = begun (x .sender) in
@@ -137,28 +138,29 @@ module _ (x : Case) (good : Good (x .own) (x .sender) (x .store)) where
             (well.add-to-wait-queue w (x .store) (good .formed) (length (x .octets)) i) (placed-length (largestUnit * q .sent) fits);
         ended = record {
           settled = good-settled good;
+          counted = good-counted good;
           filled = λ j k. subst (λ (ls : List ℕ). 1 ≤ getD ls j 0) longer (filled-set o j k);
           no-more = omega arith;
           runs = record { stored = refl; measured = sym longer; of-confirmed = refl; of-denied = refl };
-          empty = h .empty;
+          quiet = record { unsent = h .quiet .unsent; unasked = tt; stopped = h .quiet .stopped; frame = h .quiet .frame };
           below = none-below handed.None _ refl;
         };
         going = record { none = refl; room = room-begun (x .sender); undenied = refl; few = h .few };
       }
 
-module _ (x : Case) (f z : Bool) (w : Work) (m : machine.Work) (h : Fresh x f z w m) where
+module _ (x : Case) (f : Bool) (z : Quiet) (w : Work) (m : machine.Work) (h : Fresh x f z w m) where
   again : Fresh x f z (begun (x .sender)) m
-  again = record { begins = refl; is = h .is; good = h .good; few = h .few; empty = h .empty }
+  again = record { begins = refl; is = h .is; good = h .good; few = h .few; quiet = h .quiet }
 
   pub remove-acknowledged-frames : (x .value < 256) × (offset (x .value) (x .sender .variables .nnr) ≤ offset (x .sender .variables .vs) (x .sender .variables .nnr))
-      → Open x moved true false true largestResponses (act.removeAcknowledgedFrames (x .value % 256) w) (perform table.RemoveAcknowledgedFrames m)
+      → Open x moved true (remaining z) true largestResponses (act.removeAcknowledgedFrames (x .value % 256) w) (perform table.RemoveAcknowledgedFrames m)
   remove-acknowledged-frames o =
-      subst (λ (v : Work). Open x moved true false true largestResponses (act.removeAcknowledgedFrames (x .value % 256) v) (perform table.RemoveAcknowledgedFrames m)) (sym (h .begins))
-      (subst (λ (k : ℕ). Open x moved true false true largestResponses (act.removeAcknowledgedFrames k (begun (x .sender))) (perform table.RemoveAcknowledgedFrames m))
+      subst (λ (v : Work). Open x moved true (remaining z) true largestResponses (act.removeAcknowledgedFrames (x .value % 256) v) (perform table.RemoveAcknowledgedFrames m)) (sym (h .begins))
+      (subst (λ (k : ℕ). Open x moved true (remaining z) true largestResponses (act.removeAcknowledgedFrames k (begun (x .sender))) (perform table.RemoveAcknowledgedFrames m))
       (sym (octet-is (x .value) (o .0))) (removes x (h .good) f z m again (o .0) (o .1)))
 
   pub add-to-wait-queue : (1 ≤ length (x .octets)) × (length (x .octets) ≤ largestUnit)
-      → Open x put f z true largestResponses (act.addToWaitQueue (length (x .octets)) w) (perform table.AddToWaitQueue m)
+      → Open x put f (offered z) true largestResponses (act.addToWaitQueue (length (x .octets)) w) (perform table.AddToWaitQueue m)
   add-to-wait-queue o =
-      subst (λ (v : Work). Open x put f z true largestResponses (act.addToWaitQueue (length (x .octets)) v) (perform table.AddToWaitQueue m)) (sym (h .begins))
+      subst (λ (v : Work). Open x put f (offered z) true largestResponses (act.addToWaitQueue (length (x .octets)) v) (perform table.AddToWaitQueue m)) (sym (h .begins))
       (adds x (h .good) f z m again (o .0) (o .1))

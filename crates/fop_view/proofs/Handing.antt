@@ -5,7 +5,7 @@ use mathlib.Core.Bool.{Bool, true, false}
 use mathlib.Core.List.{List}
 use native.Mathlib.Omega.{arith}
 use borrow.Author.Tests.{ltb-true}
-use lib.Dec.{ltb}
+use lib.Dec.{eqb, ltb}
 use Rattle.base.specs.Choice.{pick}
 use Rattle.base.specs.Modulo.{advanced, offset}
 use Rattle.fop.specs.Limits.{largestK}
@@ -24,9 +24,10 @@ use Rattle.fop_actions.specs.Actions as act
 use Rattle.fop_actions.specs.View.{WellFormed}
 use Rattle.fop_actions.proofs.Kept as well
 use Rattle.fop_actions.proofs.ViewTransmit as transmit
+use Rattle.fop_rows.specs.Rows.{isFrame}
 use Rattle.fop_view.specs.State.{held}
-use Rattle.fop_view.proofs.Mode.{Stored}
-use Rattle.fop_view.proofs.Known.{Case, seen, NoMore, EndedOf, Open, Shut, octet-is, less-room}
+use Rattle.fop_view.proofs.Mode.{Stored, Quiet, started, framed, sending}
+use Rattle.fop_view.proofs.Known.{Case, seen, Counted, QuietIs, NoMore, EndedOf, Open, Shut, octet-is, less-room, starts, frames, requieted, counts-one}
 use Rattle.fop_view.proofs.Onward.{shuts}
 
 -- a frame of another type than AD
@@ -41,10 +42,14 @@ not-ad handed.Unlock t sent k i q = let z : _≡_ {A = ℕ} 0 1 = cc in omega ar
 not-ad (handed.SetVr n) t sent k i q = let z : _≡_ {A = ℕ} 0 1 = cc in omega arith
 
 -- Frames of other types.
-module _ (x : Case) (w : Work) (store : List ℕ) (p : Stored) (z : Bool) (c d : List Fdu) (e : EndedOf x p z store c d w) where
+module _ (x : Case) (w : Work) (store : List ℕ) (p : Stored) (z : Quiet) (c d : List Fdu) (e : EndedOf x p z store c d w) where
   other-handed : (down : Handed) → OtherFrame down → EndedOf x p z store c d (act.handDown down w)
   unfolding act.handDown withTold
-  other-handed down t = record { settled = e .settled; filled = e .filled; no-more = e .no-more; runs = e .runs; empty = e .empty; below = not-ad down t (w .queues .sent) }
+  other-handed down t = record { settled = e .settled; counted = e .counted; filled = e .filled; no-more = e .no-more; runs = e .runs; quiet = e .quiet; below = not-ad down t (w .queues .sent) }
+
+  bc-sent : (k : Control) → isFrame k ≡ true → (down : Handed) → OtherFrame down → EndedOf x p (framed (started z)) store c d (act.transmitBcFrame k down w)
+  unfolding act.transmitBcFrame act.startTimer act.handDown act.holdControl withVariables withQueues withTold
+  bc-sent k b down t = requieted (other-handed down t) (counts-one (e .counted .serving)) (frames (starts (e .quiet)) b)
 
   marked-sent : (down : Handed) → OtherFrame down → EndedOf x p z store c d (act.sendMarkedControl down w)
   unfolding act.sendMarkedControl act.sendControl act.holdControl act.handDown withVariables withQueues withTold
@@ -60,20 +65,20 @@ module _ (x : Case) (w : Work) (store : List ℕ) (p : Stored) (z : Bool) (c d :
   directive-looked control.Unlock = marked-sent handed.Unlock unlock
   directive-looked (control.SetVr n) = marked-sent (handed.SetVr n) (setVr n)
 
-module _ (x : Case) (w : Work) (m : machine.Work) {p : Stored} {f z u : Bool} {l : ℕ} (h : Open x p f z u l w m) where
-  pub transmit-unlock : Shut x p z (act.transmitUnlock w) (perform table.TransmitUnlock m)
+module _ (x : Case) (w : Work) (m : machine.Work) {p : Stored} {f : Bool} {z : Quiet} {u : Bool} {l : ℕ} (h : Open x p f z u l w m) where
+  pub transmit-unlock : Shut x p (framed (started z)) (act.transmitUnlock w) (perform table.TransmitUnlock m)
   unfolding act.transmitUnlock act.transmitBcFrame act.startTimer act.handDown act.holdControl withVariables withQueues withTold
   transmit-unlock =
       shuts h table.TransmitUnlock (act.transmitUnlock w) (transmit.transmit-unlock _ _ _ _ _ w (h .store) (h .going .none)) (h .formed)
-      (other-handed x w (h .store) p z (h .c) (h .d) (h .ended) handed.Unlock unlock)
+      (bc-sent x w (h .store) p z (h .c) (h .d) (h .ended) control.Unlock refl handed.Unlock unlock)
 
-  pub transmit-set-vr : x .value < 256 → Shut x p z (act.transmitSetVr (x .value % 256) w) (perform table.TransmitSetVr m)
+  pub transmit-set-vr : x .value < 256 → Shut x p (framed (started z)) (act.transmitSetVr (x .value % 256) w) (perform table.TransmitSetVr m)
   unfolding act.transmitSetVr act.transmitBcFrame act.startTimer act.handDown act.holdControl withVariables withQueues withTold
   transmit-set-vr n =
       shuts h table.TransmitSetVr (act.transmitSetVr (x .value % 256) w)
       (transmit.transmit-set-vr _ _ _ _ _ w (h .store) (h .going .none)
       ∙ ap (λ (k : ℕ). seen x (h .c) (h .d) (act.transmitSetVr k w) (h .store)) (sym (octet-is (x .value) n))) (h .formed)
-      (other-handed x w (h .store) p z (h .c) (h .d) (h .ended) (handed.SetVr (x .value % 256)) (setVr (x .value % 256)))
+      (bc-sent x w (h .store) p z (h .c) (h .d) (h .ended) (control.SetVr (x .value % 256)) refl (handed.SetVr (x .value % 256)) (setVr (x .value % 256)))
 
   pub transmit-bd : Shut x p z (act.transmitBdFrame w) (perform table.TransmitBd m)
   unfolding act.transmitBdFrame act.handDown withVariables withTold
@@ -96,54 +101,65 @@ oldest-marked sent marked a b c = omega arith
 one-more : (sent : ℕ) → sent ≤ largestK → advanced sent 1 ≡ suc sent
 one-more sent h = omega arith
 
-module _ (x : Case) (w : Work) (store : List ℕ) {p : Stored} {z : Bool} {c d : List Fdu} (e : EndedOf x p z store c d w) (formed : WellFormed w store) where
+counted-for : (sent count : ℕ) {u : ℕ} → Counted count u → Counted (act.countFor sent count) u
+counted-for sent count {u} k = by (eqb sent 0) where
+  by : (b : Bool) → Counted (pick b 1 count) u
+  by true = counts-one (k .serving)
+  by false = k
+
+module _ (x : Case) (w : Work) (store : List ℕ) {p : Stored} {z : Quiet} {c d : List Fdu} (e : EndedOf x p z store c d w) (formed : WellFormed w store) where
   sent-few : w .queues .sent ≤ largestK
   sent-few = omega (arith, formed .outstanding, formed .window)
 
-  marked-again : 0 < w .queues .marked → EndedOf x p false store c d (act.sendMarked w)
+  any-sent : {timer sent : ℕ} {waiting : Bool} → QuietIs (sending z) timer sent waiting (w .queues .control)
+  any-sent = record { unsent = tt; unasked = tt; stopped = tt; frame = e .quiet .frame }
+
+  marked-again : 0 < w .queues .marked → EndedOf x p (sending z) store c d (act.sendMarked w)
   unfolding act.sendMarked act.handDown withVariables withQueues withTold
   marked-again t =
       let q = w .queues in
       let here : offset (q .sent) (q .marked) < q .sent = oldest-marked (q .sent) (q .marked) t (formed .last) sent-few in
       record {
         settled = e .settled;
+        counted = e .counted;
         filled = e .filled;
         no-more = e .no-more;
         runs = e .runs;
-        empty = tt;
+        quiet = any-sent;
         below = λ k i b. omega (arith, here, ad-place (handed.Ad (offset (w .variables .vs) (q .marked)) (offset (q .sent) (q .marked))) _ _ k i refl b);
       }
 
-  new-sent : w .queues .waiting ≡ true → EndedOf x p false store c d (act.transmitAdFrame (act.respond AcceptAdUnit w))
+  new-sent : w .queues .waiting ≡ true → EndedOf x p (sending z) store c d (act.transmitAdFrame (act.respond AcceptAdUnit w))
   unfolding act.transmitAdFrame act.respond act.startTimer act.handDown withVariables withQueues withTold
   new-sent t =
       let q = w .queues in
       let more : advanced (q .sent) 1 ≡ suc (q .sent) = one-more (q .sent) sent-few in
       record {
         settled = e .settled;
+        counted = counted-for (q .sent) (w .variables .«transmission_count») (e .counted);
         filled = λ i b. e .filled i (subst (λ (y : Bool). i < held (q .sent) y) (sym t) (omega (arith, more, b)));
         no-more = omega (arith, more, subst (λ (y : Bool). NoMore x (w .told .confirmed .count) (q .sent) y) t (e .no-more));
         runs = e .runs;
-        empty = tt;
+        quiet = any-sent;
         below = λ k i b. omega (arith, more, ad-place (handed.Ad (w .variables .vs) (q .sent)) _ _ k i refl b);
       }
 
-  same-sent : EndedOf x p false store c d w
-  same-sent = record { settled = e .settled; filled = e .filled; no-more = e .no-more; runs = e .runs; empty = tt; below = e .below }
+  same-sent : EndedOf x p (sending z) store c d w
+  same-sent = record { settled = e .settled; counted = e .counted; filled = e .filled; no-more = e .no-more; runs = e .runs; quiet = any-sent; below = e .below }
 
-  fdu-looked : EndedOf x p false store c d (act.lookForFdu w)
+  fdu-looked : EndedOf x p (sending z) store c d (act.lookForFdu w)
   unfolding act.lookForFdu
   fdu-looked = by (w .variables .«ad_out») (ltb 0 (w .queues .marked)) refl (w .queues .waiting) refl (act.inWindow w) where
     by : (a t : Bool) → ltb 0 (w .queues .marked) ≡ t → (i : Bool) → w .queues .waiting ≡ i → (r : Bool)
-        → EndedOf x p false store c d (pick a (pick t (act.sendMarked w) (pick i (pick r (act.transmitAdFrame (act.respond AcceptAdUnit w)) w) w)) w)
+        → EndedOf x p (sending z) store c d (pick a (pick t (act.sendMarked w) (pick i (pick r (act.transmitAdFrame (act.respond AcceptAdUnit w)) w) w)) w)
     by false t y i j r = same-sent
     by true true y i j r = marked-again (ltb-true 0 (w .queues .marked) y)
     by true false y true j true = new-sent j
     by true false y true j false = same-sent
     by true false y false j r = same-sent
 
-pub look-for-fdu : (x : Case) (w : Work) (m : machine.Work) {p : Stored} {f z u : Bool} {l : ℕ} → Open x p f z u (suc l) w m
-    → Shut x p false (act.lookForFdu w) (perform table.LookForFdu m)
+pub look-for-fdu : (x : Case) (w : Work) (m : machine.Work) {p : Stored} {f : Bool} {z : Quiet} {u : Bool} {l : ℕ} → Open x p f z u (suc l) w m
+    → Shut x p (sending z) (act.lookForFdu w) (perform table.LookForFdu m)
 look-for-fdu x w m {p} {f} {z} {u} {l} h =
     let g = h .going in
     shuts h table.LookForFdu (act.lookForFdu w)

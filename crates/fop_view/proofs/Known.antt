@@ -8,6 +8,7 @@ use mathlib.Core.Option.{some}
 use native.Mathlib.Omega.{arith}
 use lib.ListN.{length, getD, set}
 use Rattle.base.specs.Limits.{largestUnit}
+use Rattle.base.specs.Modulo.{advanced}
 use Rattle.memory.specs.Placed.{placed}
 use Rattle.store.specs.Slid.{slid}
 use Rattle.fop.specs.Limits.{largestK, largestTransmissionLimit}
@@ -15,19 +16,23 @@ use Rattle.fop.specs.Units.{Fdu, Own}
 use Rattle.fop.specs.Table.{FopEvent}
 use Rattle.fop.specs.Variables as machine
 use Rattle.fop.specs.Answers.{runOf}
+use Rattle.fop_actions.specs.declared.Control.{Control}
+use Rattle.fop_actions.specs.declared.Control.the-variants as control
 use Rattle.fop_actions.specs.declared.Handed.{Handed}
 use Rattle.fop_actions.specs.declared.Handed.the-variants as handed
 use Rattle.fop_actions.specs.declared.Responses.{Responses}
 use Rattle.fop_actions.specs.declared.Run.{Run}
 use Rattle.fop_actions.specs.declared.Sender.{Sender}
+use Rattle.fop_actions.specs.declared.Settings.{Settings}
 use Rattle.fop_actions.specs.declared.Work.{Work}
 use Rattle.fop_actions.specs.Limits.{largestResponses}
 use Rattle.fop_actions.specs.Start.{begun, noneTold}
 use Rattle.fop_actions.specs.View.{view, runTold, Formed, WellFormed}
 use Rattle.fop_actions.proofs.ViewAnswers.{Room}
 use Rattle.fop_actions.proofs.ViewStart.{room-begun}
+use Rattle.fop_rows.specs.Rows.{isFrame}
 use Rattle.fop_view.specs.State.{Good, held}
-use Rattle.fop_view.proofs.Mode.{Stored, kept, moved, put, Mode, fresh, going, half, over, bad}
+use Rattle.fop_view.proofs.Mode.{Stored, kept, moved, put, Quiet, started, ceased, framed, released, Mode, fresh, going, half, over, bad}
 
 -- an event at a sender and its store
 pub record Case : Type 0 where
@@ -62,14 +67,29 @@ LengthsIs x p count lengths =
     let q = x .sender .queues in
     Left p count (q .lengths) (λ k. slid k (q .lengths)) (set (q .lengths) (q .sent) (length (x .octets))) lengths
 
--- the settings and Suspend_State
-pub record Settled (own : Own) (window limit timeout spacecraft channel suspend : ℕ) : Type 0 where
-  pub in-window : window ≤ largestK
-  pub in-limit : limit ≤ largestTransmissionLimit
-  pub alerting : timeout ≡ 0
+-- the settings
+pub record Settled (own : Own) (g : Settings) : Type 0 where
+  pub window-least : 1 ≤ g .k
+  pub in-window : g .k ≤ largestK
+  pub clock-least : 1 ≤ g .«t1_initial»
+  pub limit-least : 1 ≤ g .«transmission_limit»
+  pub in-limit : g .«transmission_limit» ≤ largestTransmissionLimit
+  pub alerting : g .«timeout_type» ≡ 0
+  pub own-spacecraft : g .spacecraft ≡ own .spacecraft
+  pub own-channel : g .channel ≡ own .channel
+
+-- Transmission_Count and Suspend_State
+pub record Counted (count suspend : ℕ) : Type 0 where
+  pub least : 1 ≤ count
+  pub most : count ≤ largestTransmissionLimit
   pub serving : suspend ≡ 0
-  pub own-spacecraft : spacecraft ≡ own .spacecraft
-  pub own-channel : channel ≡ own .channel
+
+-- the queues and the timer
+pub record QuietIs (z : Quiet) (timer sent : ℕ) (waiting : Bool) (bc : Control) : Type 0 where
+  pub unsent : Where (z .unsent) (sent ≡ 0)
+  pub unasked : Where (z .unasked) (waiting ≡ false)
+  pub stopped : Where (z .stopped) (timer ≡ 0)
+  pub frame : isFrame bc ≡ z .frame
 
 -- the store, the lengths and the two runs of units
 pub record Runs (x : Case) (p : Stored) (store lengths : List ℕ) (c d : List Fdu) (confirmed denied : Run) : Type 0 where
@@ -82,14 +102,15 @@ pub record Runs (x : Case) (p : Stored) (store lengths : List ℕ) (c d : List F
 abbrev pub NoMore : Case → ℕ → ℕ → Bool → Type 0
 NoMore x count sent waiting = count + held sent waiting ≤ suc (x .sender .queues .sent)
 
--- what is known all along: z is whether the Sent_Queue is empty
-pub record Ended (x : Case) (p : Stored) (z : Bool) (store : List ℕ) (c d : List Fdu) (window limit timeout spacecraft channel suspend sent : ℕ)
-    (waiting : Bool) (lengths : List ℕ) (down : Handed) (confirmed denied : Run) : Type 0 where
-  pub settled : Settled (x .own) window limit timeout spacecraft channel suspend
+-- what is known all along
+pub record Ended (x : Case) (p : Stored) (z : Quiet) (store : List ℕ) (c d : List Fdu) (g : Settings) (timer count suspend sent : ℕ)
+    (waiting : Bool) (bc : Control) (lengths : List ℕ) (down : Handed) (confirmed denied : Run) : Type 0 where
+  pub settled : Settled (x .own) g
+  pub counted : Counted count suspend
   pub filled : (i : ℕ) → i < held sent waiting → 1 ≤ getD lengths i 0
   pub no-more : NoMore x (confirmed .count) sent waiting
   pub runs : Runs x p store lengths c d confirmed denied
-  pub empty : Where z (sent ≡ 0)
+  pub quiet : QuietIs z timer sent waiting bc
   pub below : (k i : ℕ) → down ≡ handed.Ad k i → i < sent
 
 -- what is known besides, while no frame is handed down: f is whether Transmission_Count is below 255, u whether no unit is denied yet,
@@ -100,23 +121,23 @@ pub record Going (f u : Bool) (l : ℕ) (d : List Fdu) (count : ℕ) (down : Han
   pub undenied : Where u (d ≡ [])
   pub few : Where f (count < 255)
 
-abbrev pub EndedOf : Case → Stored → Bool → List ℕ → List Fdu → List Fdu → Work → Type 0
+abbrev pub EndedOf : Case → Stored → Quiet → List ℕ → List Fdu → List Fdu → Work → Type 0
 EndedOf x p z store c d w =
-    Ended x p z store c d (w .settings .k) (w .settings .«transmission_limit») (w .settings .«timeout_type») (w .settings .spacecraft) (w .settings .channel)
-    (w .variables .«suspend_state») (w .queues .sent) (w .queues .waiting) (w .queues .lengths) (w .told .handed) (w .told .confirmed) (w .told .denied)
+    Ended x p z store c d (w .settings) (w .variables .timer) (w .variables .«transmission_count») (w .variables .«suspend_state») (w .queues .sent) (w .queues .waiting)
+    (w .queues .control) (w .queues .lengths) (w .told .handed) (w .told .confirmed) (w .told .denied)
 
 abbrev pub GoingOf : Bool → Bool → ℕ → List Fdu → Work → Type 0
 GoingOf f u l d w = Going f u l d (w .variables .«transmission_count») (w .told .handed) (w .told .responses)
 
 -- The modes, of the work w and the machine's work m.
-pub record Fresh (x : Case) (f z : Bool) (w : Work) (m : machine.Work) : Type 0 where
+pub record Fresh (x : Case) (f : Bool) (z : Quiet) (w : Work) (m : machine.Work) : Type 0 where
   pub begins : w ≡ begun (x .sender)
   pub is : m ≡ seen x [] [] (begun (x .sender)) (x .store)
   pub good : Good (x .own) (x .sender) (x .store)
   pub few : Where f (x .sender .variables .«transmission_count» < 255)
-  pub empty : Where z (x .sender .queues .sent ≡ 0)
+  pub quiet : QuietIs z (x .sender .variables .timer) (x .sender .queues .sent) (x .sender .queues .waiting) (x .sender .queues .control)
 
-pub record Open (x : Case) (p : Stored) (f z u : Bool) (l : ℕ) (w : Work) (m : machine.Work) : Type 0 where
+pub record Open (x : Case) (p : Stored) (f : Bool) (z : Quiet) (u : Bool) (l : ℕ) (w : Work) (m : machine.Work) : Type 0 where
   pub store : List ℕ
   pub c : List Fdu
   pub d : List Fdu
@@ -125,7 +146,7 @@ pub record Open (x : Case) (p : Stored) (f z u : Bool) (l : ℕ) (w : Work) (m :
   pub ended : EndedOf x p z store c d w
   pub going : GoingOf f u l d w
 
-pub record Half (x : Case) (p : Stored) (u : Bool) (l : ℕ) (w : Work) (m : machine.Work) : Type 0 where
+pub record Half (x : Case) (p : Stored) (z : Quiet) (u : Bool) (l : ℕ) (w : Work) (m : machine.Work) : Type 0 where
   pub store : List ℕ
   pub c : List Fdu
   pub d : List Fdu
@@ -133,10 +154,10 @@ pub record Half (x : Case) (p : Stored) (u : Bool) (l : ℕ) (w : Work) (m : mac
   pub octet : x .value < 256
   pub numbered : w .variables .vs ≡ x .value % 256
   pub formed : Formed (x .value % 256) (x .value % 256) (w .queues .sent) (w .queues .marked) (w .queues .lengths) store
-  pub ended : EndedOf x p true store c d w
+  pub ended : EndedOf x p z store c d w
   pub going : GoingOf false u l d w
 
-pub record Shut (x : Case) (p : Stored) (z : Bool) (w : Work) (m : machine.Work) : Type 0 where
+pub record Shut (x : Case) (p : Stored) (z : Quiet) (w : Work) (m : machine.Work) : Type 0 where
   pub store : List ℕ
   pub c : List Fdu
   pub d : List Fdu
@@ -147,7 +168,7 @@ pub record Shut (x : Case) (p : Stored) (z : Bool) (w : Work) (m : machine.Work)
 abbrev pub At : Case → Mode → Work → machine.Work → Type 0
 At x (fresh f z) w m = Fresh x f z w m
 At x (going p f z u l) w m = Open x p f z u l w m
-At x (half p u l) w m = Half x p u l w m
+At x (half p z u l) w m = Half x p z u l w m
 At x (over p z) w m = Shut x p z w m
 At x bad w m = Unit {0}
 
@@ -171,23 +192,60 @@ held-waiting sent i b h = omega (arith, held-least sent b)
 pub less-room : (j k : ℕ) (r : Responses) → j ≤ k → Room k r → Room j r
 less-room j k r h m = record { few = omega (arith, m .few); all-numbers = m .all-numbers }
 
--- other settings
-pub resettled : {x : Case} {p : Stored} {z : Bool} {store : List ℕ} {c d : List Fdu} {k l t s n u k' l' t' s' n' u' sent : ℕ} {waiting : Bool} {lengths : List ℕ}
-    {down : Handed} {confirmed denied : Run} → Ended x p z store c d k l t s n u sent waiting lengths down confirmed denied → Settled (x .own) k' l' t' s' n' u'
-    → Ended x p z store c d k' l' t' s' n' u' sent waiting lengths down confirmed denied
-resettled e s = record { settled = s; filled = e .filled; no-more = e .no-more; runs = e .runs; empty = e .empty; below = e .below }
+-- a fact whose flag is on, and one for a flag
+pub known : {b : Bool} {A : Type 0} → b ≡ true → Where b A → A
+known {b} {A} t h = subst (λ (y : Bool). Where y A) t h
 
--- the settings of a well-formed sender
-pub good-settled : {own : Own} {s : Sender} {store : List ℕ} → Good own s store
-    → Settled own (s .settings .k) (s .settings .«transmission_limit») (s .settings .«timeout_type») (s .settings .spacecraft) (s .settings .channel) (s .variables .«suspend_state»)
+pub where-on : {A : Type 0} (b : Bool) → (b ≡ true → A) → Where b A
+where-on true f = f refl
+where-on false f = tt
+
+-- the timer started, and stopped; the type-BC frame put on the Sent_Queue, and taken off it
+module _ {z : Quiet} {timer sent : ℕ} {waiting : Bool} {bc : Control} (q : QuietIs z timer sent waiting bc) where
+  pub starts : {t : ℕ} → QuietIs (started z) t sent waiting bc
+  starts = record { unsent = q .unsent; unasked = q .unasked; stopped = tt; frame = q .frame }
+
+  pub stops : QuietIs (ceased z) 0 sent waiting bc
+  stops = record { unsent = q .unsent; unasked = q .unasked; stopped = refl; frame = q .frame }
+
+  pub frames : {k : Control} → isFrame k ≡ true → QuietIs (framed z) timer sent waiting k
+  frames t = record { unsent = q .unsent; unasked = q .unasked; stopped = q .stopped; frame = t }
+
+  pub releases : QuietIs (released z) timer sent waiting control.None
+  releases = record { unsent = q .unsent; unasked = q .unasked; stopped = q .stopped; frame = refl }
+
+-- other settings; another Transmission_Count, timer or type-BC frame
+module _ {x : Case} {p : Stored} {z : Quiet} {store : List ℕ} {c d : List Fdu} {g : Settings} {timer count suspend sent : ℕ} {waiting : Bool} {bc : Control} {lengths : List ℕ}
+    {down : Handed} {confirmed denied : Run} (e : Ended x p z store c d g timer count suspend sent waiting bc lengths down confirmed denied) where
+  pub resettled : {g' : Settings} → Settled (x .own) g' → Ended x p z store c d g' timer count suspend sent waiting bc lengths down confirmed denied
+  resettled s = record { settled = s; counted = e .counted; filled = e .filled; no-more = e .no-more; runs = e .runs; quiet = e .quiet; below = e .below }
+
+  pub requieted : {z' : Quiet} {t n s : ℕ} {k : Control} → Counted n s → QuietIs z' t sent waiting k
+      → Ended x p z' store c d g t n s sent waiting k lengths down confirmed denied
+  requieted n q = record { settled = e .settled; counted = n; filled = e .filled; no-more = e .no-more; runs = e .runs; quiet = q; below = e .below }
+
+-- the settings and the count of a well-formed sender
+pub good-settled : {own : Own} {s : Sender} {store : List ℕ} → Good own s store → Settled own (s .settings)
 good-settled g = record {
+  window-least = g .window-least;
   in-window = g .window;
+  clock-least = g .clock-least;
+  limit-least = g .limit-least;
   in-limit = g .limit;
   alerting = g .alerting;
-  serving = g .serving;
   own-spacecraft = g .spacecraft;
   own-channel = g .channel;
 }
+
+pub good-counted : {own : Own} {s : Sender} {store : List ℕ} → Good own s store → Counted (s .variables .«transmission_count») (s .variables .«suspend_state»)
+good-counted g = record { least = g .count-least; most = g .count-most; serving = g .serving }
+
+-- Transmission_Count 1, or one more than it was
+pub counts-one : {u : ℕ} → u ≡ 0 → Counted 1 u
+counts-one h = record { least = omega arith; most = omega arith; serving = h }
+
+pub counts-more : {n u : ℕ} → n < 255 → Counted n u → Counted (advanced n 1) u
+counts-more h k = record { least = omega arith; most = omega arith; serving = k .serving }
 
 -- the work as it begins, with nothing told
 pub none-below : (down : Handed) (sent : ℕ) → down ≡ handed.None → (k i : ℕ) → down ≡ handed.Ad k i → i < sent
@@ -196,7 +254,7 @@ none-below down sent h k i q = let z : _≡_ {A = ℕ} 0 1 = cc in omega arith
 pub no-more-first : (x : Case) → NoMore x 0 (x .sender .queues .sent) (x .sender .queues .waiting)
 no-more-first x = omega (arith, held-most (x .sender .queues .sent) (x .sender .queues .waiting))
 
-opens : (x : Case) (f z : Bool) (m : machine.Work) → Fresh x f z (begun (x .sender)) m → Open x kept f z true largestResponses (begun (x .sender)) m
+opens : (x : Case) (f : Bool) (z : Quiet) (m : machine.Work) → Fresh x f z (begun (x .sender)) m → Open x kept f z true largestResponses (begun (x .sender)) m
 unfolding begun noneTold
 opens x f z m h =
     let g = h .good in
@@ -208,16 +266,17 @@ opens x f z m h =
       formed = g .formed;
       ended = record {
         settled = good-settled g;
+        counted = good-counted g;
         filled = g .filled;
         no-more = no-more-first x;
         runs = record { stored = (refl, refl); measured = (refl, refl); of-confirmed = refl; of-denied = refl };
-        empty = h .empty;
+        quiet = h .quiet;
         below = none-below handed.None (x .sender .queues .sent) refl;
       };
       going = record { none = refl; room = room-begun (x .sender); undenied = refl; few = h .few };
     }
 
-pub opened : (x : Case) (f z : Bool) (w : Work) (m : machine.Work) → Fresh x f z w m → Open x kept f z true largestResponses w m
+pub opened : (x : Case) (f : Bool) (z : Quiet) (w : Work) (m : machine.Work) → Fresh x f z w m → Open x kept f z true largestResponses w m
 opened x f z w m h =
     subst (λ (v : Work). Open x kept f z true largestResponses v m) (sym (h .begins))
-    (opens x f z m (record { begins = refl; is = h .is; good = h .good; few = h .few; empty = h .empty }))
+    (opens x f z m (record { begins = refl; is = h .is; good = h .good; few = h .few; quiet = h .quiet }))

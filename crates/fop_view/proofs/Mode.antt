@@ -2,7 +2,7 @@
 -- it leaves known, and `allows` goes through a cell. Whether the whole table is allowed is so a matter of computing.
 use Prim.Native.Nat.{ℕ, zero, suc}
 use mathlib.Core.Path.{_≡_, refl, sym, ap, _∙_}
-use mathlib.Core.Bool.{Bool, true, false}
+use mathlib.Core.Bool.{Bool, true, false, not}
 use mathlib.Core.List.{List, [], _∷_}
 use borrow.Author.Tests.{eqb-true}
 use lib.Dec.{eqb}
@@ -16,22 +16,66 @@ use Rattle.fop.specs.Table.{SetSuspendState, Suspend, Resume, SetVs, SetNnr, Se
 use Rattle.fop_actions.specs.declared.State.{State}
 use Rattle.fop_actions.specs.declared.State.the-variants as state
 use Rattle.fop_actions.specs.Limits.{largestResponses}
-use Rattle.fop_rows.specs.Rows.{inMain}
-use Rattle.fop_view.specs.Rows.{Brings, nothing, acknowledging, again, offering, numbering, widening, limiting, timing, suspending}
+use Rattle.fop_rows.specs.Rows.{declared, inMain}
+use Rattle.fop_view.specs.State.{withFrame}
+use Rattle.fop_view.specs.Rows.{Brings, nothing, acknowledging, again, offering, numbering, widening, clocking, limiting, timing, suspending}
 
 -- the store: as it was, moved down by the units confirmed, or with the unit offered put into it
 pub data Stored : Type 0 where
   kept moved put : Stored
 
+-- what is known of the queues and the timer: whether the Sent_Queue has no unit, no unit waits, and the timer is stopped, each of which
+-- counts where it is true; and whether a type-BC frame is on the Sent_Queue, which is known either way
+pub record Quiet : Type 0 where
+  pub unsent : Bool
+  pub unasked : Bool
+  pub stopped : Bool
+  pub frame : Bool
+
+-- the timer started, and stopped
+abbrev pub started : Quiet → Quiet
+started z = record { unsent = z .unsent; unasked = z .unasked; stopped = false; frame = z .frame }
+
+abbrev pub ceased : Quiet → Quiet
+ceased z = record { unsent = z .unsent; unasked = z .unasked; stopped = true; frame = z .frame }
+
+-- the type-BC frame put on the Sent_Queue, and taken off it
+abbrev pub framed : Quiet → Quiet
+framed z = record { unsent = z .unsent; unasked = z .unasked; stopped = z .stopped; frame = true }
+
+abbrev pub released : Quiet → Quiet
+released z = record { unsent = z .unsent; unasked = z .unasked; stopped = z .stopped; frame = false }
+
+-- a unit put on the Wait_Queue
+abbrev pub offered : Quiet → Quiet
+offered z = record { unsent = z .unsent; unasked = false; stopped = z .stopped; frame = z .frame }
+
+-- units left on the Sent_Queue; one put on it, from the Wait_Queue
+abbrev pub remaining : Quiet → Quiet
+remaining z = record { unsent = false; unasked = z .unasked; stopped = z .stopped; frame = z .frame }
+
+abbrev pub sending : Quiet → Quiet
+sending z = record { unsent = false; unasked = false; stopped = false; frame = z .frame }
+
+-- the Sent_Queue purged, the Wait_Queue, and both
+abbrev pub sentPurged : Quiet → Quiet
+sentPurged z = record { unsent = true; unasked = z .unasked; stopped = z .stopped; frame = false }
+
+abbrev pub waitPurged : Quiet → Quiet
+waitPurged z = record { unsent = z .unsent; unasked = true; stopped = z .stopped; frame = z .frame }
+
+abbrev pub bothPurged : Quiet → Quiet
+bothPurged z = waitPurged (sentPurged z)
+
 pub data Mode : Type 0 where
-  -- the work as it begins; whether Transmission_Count is below 255, and whether the Sent_Queue is empty
-  fresh : Bool → Bool → Mode
+  -- the work as it begins; whether Transmission_Count is below 255, and what is known of the queues and the timer
+  fresh : Bool → Quiet → Mode
   -- no frame is handed down yet; the store, the same two, whether no unit is denied yet, and the room left for responses
-  going : Stored → Bool → Bool → Bool → ℕ → Mode
+  going : Stored → Bool → Quiet → Bool → ℕ → Mode
   -- V(S) is set, with the Sent_Queue empty, and NN(R) not yet
-  half : Stored → Bool → ℕ → Mode
-  -- a frame may be handed down; the store, and whether the Sent_Queue is empty
-  over : Stored → Bool → Mode
+  half : Stored → Quiet → Bool → ℕ → Mode
+  -- a frame may be handed down; the store, and what is known of the queues and the timer
+  over : Stored → Quiet → Mode
   -- an action that is not allowed was done
   bad : Mode
 
@@ -43,12 +87,13 @@ code again = 2
 code offering = 3
 code numbering = 4
 code widening = 5
-code limiting = 6
-code timing = 7
-code suspending = 8
+code clocking = 6
+code limiting = 7
+code timing = 8
+code suspending = 9
 
 abbrev uncode : ℕ → Brings
-uncode k = getD (nothing ∷ acknowledging ∷ again ∷ offering ∷ numbering ∷ widening ∷ limiting ∷ timing ∷ []) k suspending
+uncode k = getD (nothing ∷ acknowledging ∷ again ∷ offering ∷ numbering ∷ widening ∷ clocking ∷ limiting ∷ timing ∷ []) k suspending
 
 coded : (b : Brings) → uncode (code b) ≡ b
 coded nothing = refl
@@ -57,6 +102,7 @@ coded again = refl
 coded offering = refl
 coded numbering = refl
 coded widening = refl
+coded clocking = refl
 coded limiting = refl
 coded timing = refl
 coded suspending = refl
@@ -69,24 +115,24 @@ unfolding same
 same-is b c t = sym (coded b) ∙ ap uncode (eqb-true (code b) (code c) t) ∙ coded c
 
 -- the mode after an action that is done only from some modes
-abbrev pub onFresh : (Bool → Bool → Mode) → Mode → Mode
+abbrev pub onFresh : (Bool → Quiet → Mode) → Mode → Mode
 onFresh F (fresh f z) = F f z
 onFresh F (going p f z u l) = bad
-onFresh F (half p u l) = bad
+onFresh F (half p z u l) = bad
 onFresh F (over p z) = bad
 onFresh F bad = bad
 
-abbrev pub onGoing : (Stored → Bool → Bool → Bool → ℕ → Mode) → Mode → Mode
+abbrev pub onGoing : (Stored → Bool → Quiet → Bool → ℕ → Mode) → Mode → Mode
 onGoing F (fresh f z) = F kept f z true largestResponses
 onGoing F (going p f z u l) = F p f z u l
-onGoing F (half p u l) = bad
+onGoing F (half p z u l) = bad
 onGoing F (over p z) = bad
 onGoing F bad = bad
 
-abbrev pub onHalf : (Stored → Bool → ℕ → Mode) → Mode → Mode
+abbrev pub onHalf : (Stored → Quiet → Bool → ℕ → Mode) → Mode → Mode
 onHalf F (fresh f z) = bad
 onHalf F (going p f z u l) = bad
-onHalf F (half p u l) = F p u l
+onHalf F (half p z u l) = F p z u l
 onHalf F (over p z) = bad
 onHalf F bad = bad
 
@@ -99,22 +145,28 @@ taking zero F = bad
 taking (suc l) F = F l
 
 -- the mode after each group of actions
-abbrev pub answered : Stored → Bool → Bool → Bool → ℕ → Mode
+abbrev pub turned : (Quiet → Quiet) → Stored → Bool → Quiet → Bool → ℕ → Mode
+turned Z p f z u l = going p f (Z z) u l
+
+abbrev pub answered : Stored → Bool → Quiet → Bool → ℕ → Mode
 answered p f z u l = taking l (going p f z u)
 
-abbrev pub repeated : Stored → Bool → Bool → Bool → ℕ → Mode
-repeated p f z u l = onlyIf f (going p false z u l)
+abbrev pub repeated : Stored → Bool → Quiet → Bool → ℕ → Mode
+repeated p f z u l = onlyIf f (going p false (started z) u l)
 
-abbrev pub purged : Stored → Bool → Bool → Bool → ℕ → Mode
-purged p f z u l = onlyIf u (taking l (λ k. taking k (going p false true false)))
+abbrev pub purged : (Quiet → Quiet) → Stored → Bool → Quiet → Bool → ℕ → Mode
+purged Z p f z u l = onlyIf u (taking l (λ k. taking k (going p false (bothPurged (Z z)) false)))
 
-abbrev pub handedDown : Stored → Bool → Bool → Bool → ℕ → Mode
+abbrev pub handedDown : Stored → Bool → Quiet → Bool → ℕ → Mode
 handedDown p f z u l = over p z
 
-abbrev pub looked : Stored → Bool → Bool → Bool → ℕ → Mode
-looked p f z u l = taking l (λ k. over p false)
+abbrev pub controlled : Stored → Bool → Quiet → Bool → ℕ → Mode
+controlled p f z u l = over p (framed (started z))
 
-abbrev pub given : Bool → Stored → Bool → Bool → Bool → ℕ → Mode
+abbrev pub looked : Stored → Bool → Quiet → Bool → ℕ → Mode
+looked p f z u l = taking l (λ k. over p (sending z))
+
+abbrev pub given : Bool → Stored → Bool → Quiet → Bool → ℕ → Mode
 given t p f z u l = onlyIf t (going p f z u l)
 
 unfoldable pub after : Brings → Action → Mode → Mode
@@ -125,27 +177,27 @@ after b Confirm m = onGoing answered m
 after b RejectAd m = onGoing answered m
 after b AcceptBd m = onGoing answered m
 after b RejectBd m = onGoing answered m
-after b AddToWaitQueue m = onFresh (λ f z. onlyIf (same b offering) (going put f z true largestResponses)) m
+after b AddToWaitQueue m = onFresh (λ f z. onlyIf (same b offering) (going put f (offered z) true largestResponses)) m
 after b LookForFdu m = onGoing looked m
 after b LookForDirective m = onGoing handedDown m
-after b RemoveAcknowledgedFrames m = onFresh (λ f z. onlyIf (same b acknowledging) (going moved true false true largestResponses)) m
+after b RemoveAcknowledgedFrames m = onFresh (λ f z. onlyIf (same b acknowledging) (going moved true (remaining z) true largestResponses)) m
 after b InitiateAdRetransmission m = onGoing repeated m
 after b InitiateBcRetransmission m = onGoing repeated m
-after b ReleaseBcFrame m = onGoing going m
-after b CancelTimer m = onGoing going m
-after b StartTimer m = onGoing going m
-after b (Alert r) m = onGoing purged m
-after b Initialise m = onGoing purged m
-after b TransmitUnlock m = onGoing handedDown m
-after b TransmitSetVr m = onGoing (λ p f z u l. onlyIf (same b numbering) (over p z)) m
+after b ReleaseBcFrame m = onGoing (turned released) m
+after b CancelTimer m = onGoing (turned ceased) m
+after b StartTimer m = onGoing (turned started) m
+after b (Alert r) m = onGoing (purged ceased) m
+after b Initialise m = onGoing (purged (λ z. z)) m
+after b TransmitUnlock m = onGoing controlled m
+after b TransmitSetVr m = onGoing (λ p f z u l. onlyIf (same b numbering) (controlled p f z u l)) m
 after b TransmitBd m = onGoing handedDown m
 after b (SetSuspendState s) m = bad
 after b Suspend m = bad
 after b Resume m = bad
-after b SetVs m = onGoing (λ p f z u l. onlyIf (same b numbering) (onlyIf z (half p u l))) m
-after b SetNnr m = onHalf (λ p u l. going p false true u l) m
+after b SetVs m = onGoing (λ p f z u l. onlyIf (same b numbering) (onlyIf (z .unsent) (half p z u l))) m
+after b SetNnr m = onHalf (λ p z u l. going p false z u l) m
 after b SetK m = onGoing (given (same b widening)) m
-after b SetT1Initial m = onGoing going m
+after b SetT1Initial m = onGoing (given (same b clocking)) m
 after b SetTransmissionLimit m = onGoing (given (same b limiting)) m
 after b SetTimeoutType m = onGoing (given (same b timing)) m
 after b AdOutReady m = onGoing going m
@@ -158,7 +210,7 @@ afterAll b (a ∷ more) m = afterAll b more (after b a m)
 
 -- The test of a cell.
 
--- the mode in which an event begins
+-- what is known of the queues and the timer in each state (specs/State)
 abbrev pub initial : State → Bool
 initial state.S1 = false
 initial state.S2 = false
@@ -167,17 +219,26 @@ initial state.S4 = false
 initial state.S5 = false
 initial state.S6 = true
 
-abbrev pub begins : Brings → State → Mode
-begins b x = fresh (same b again) (initial x)
+abbrev pub quietIn : State → Quiet
+quietIn x = record { unsent = not (inMain x); unasked = not (inMain x); stopped = initial x; frame = withFrame x }
 
--- the Sent_Queue is empty where the next state is Initial
-abbrev pub emptyIn : table.State → Bool → Bool
-emptyIn table.S1 z = true
-emptyIn table.S2 z = true
-emptyIn table.S3 z = true
-emptyIn table.S4 z = true
-emptyIn table.S5 z = true
-emptyIn table.S6 z = z
+-- the mode in which an event begins
+abbrev pub begins : Brings → State → Mode
+begins b x = fresh (same b again) (quietIn x)
+
+-- what is known is all that is asked
+abbrev pub implied : Bool → Bool → Bool
+implied true known = known
+implied false known = true
+
+abbrev pub agrees : Bool → Bool → Bool
+agrees true known = known
+agrees false known = not known
+
+abbrev pub covers : Quiet → Quiet → Bool
+covers asked z =
+    both (implied (asked .unsent) (z .unsent))
+    (both (implied (asked .unasked) (z .unasked)) (both (implied (asked .stopped) (z .stopped)) (agrees (asked .frame) (z .frame))))
 
 -- the store is the one that the event leaves (specs/Rows, storeBy)
 abbrev pub notPut : Stored → Bool
@@ -200,18 +261,19 @@ fits acknowledging x p = notPut p
 fits again x p = notPut p
 fits numbering x p = notPut p
 fits widening x p = notPut p
+fits clocking x p = notPut p
 fits limiting x p = notPut p
 fits timing x p = notPut p
 fits suspending x p = notPut p
 
 abbrev pub ends : Brings → State → table.State → Mode → Bool
 ends b x s (fresh f z) = false
-ends b x s (going p f z u l) = both (fits b (inMain x) p) (emptyIn s z)
-ends b x s (half p u l) = false
-ends b x s (over p z) = both (fits b (inMain x) p) (emptyIn s z)
+ends b x s (going p f z u l) = both (fits b (inMain x) p) (covers (quietIn (declared s)) z)
+ends b x s (half p z u l) = false
+ends b x s (over p z) = both (fits b (inMain x) p) (covers (quietIn (declared s)) z)
 ends b x s bad = false
 
--- the actions of a cell are allowed, and leave the store and the Sent_Queue as they must; with Suspend_State 0 "IF SS = 0" holds
+-- the actions of a cell are allowed, and leave the store, the queues and the timer as they must; with Suspend_State 0 "IF SS = 0" holds
 unfoldable pub allows : Brings → State → Cell → Bool
 allows b x NotApplicable = fits b (inMain x) kept
 allows b x (cell acts s) = ends b x s (afterAll b acts (begins b x))

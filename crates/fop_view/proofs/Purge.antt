@@ -1,4 +1,4 @@
--- Alert and Initialise: both queues are purged, which denies the units sent and leaves the Sent_Queue empty.
+-- Alert and Initialise: both queues are purged, which denies the units sent and leaves both empty, with no type-BC frame.
 use Prim.Native.Nat.{ℕ, suc, _≤_, _<_}
 use mathlib.Core.Path.{_≡_, refl, ap, _∙_}
 use mathlib.Core.Bool.{Bool, true, false}
@@ -28,8 +28,8 @@ use Rattle.fop_actions.proofs.ViewRelease as release
 use Rattle.fop_actions.proofs.ViewRuns.{denied-run}
 use Rattle.fop_rows.specs.Rows.{declaredReason}
 use Rattle.fop_view.specs.State.{held}
-use Rattle.fop_view.proofs.Mode.{Stored}
-use Rattle.fop_view.proofs.Known.{Case, EndedOf, GoingOf, Open, held-least, held-waiting, less-room, resettled, none-below}
+use Rattle.fop_view.proofs.Mode.{Stored, Quiet, ceased, sentPurged, waitPurged, bothPurged}
+use Rattle.fop_view.proofs.Known.{Case, EndedOf, GoingOf, Open, held-least, held-waiting, less-room, requieted, stops, counts-one, none-below}
 use Rattle.fop_view.proofs.Onward.{goes-on}
 
 -- the units on the Sent_Queue
@@ -72,33 +72,36 @@ module _ {u : Bool} {l : ℕ} {d : List Fdu} where
     by true = answered (act.notWaiting w) RejectAdUnit g
     by false = unanswered w g
 
-module _ {x : Case} {p : Stored} {z : Bool} {store : List ℕ} {c d : List Fdu} where
+module _ {x : Case} {p : Stored} {z : Quiet} {store : List ℕ} {c d : List Fdu} where
   denied-ended : (k : Control) (w : Work) → EndedOf x p z store c d w → EndedOf x p z store c d (act.denyControl k w)
   unfolding act.denyControl act.respond withTold
   denied-ended control.None w e = e
   denied-ended control.Unlock w e = e
   denied-ended (control.SetVr n) w e = e
 
-  wait-ended : (w : Work) → EndedOf x p z store c d w → EndedOf x p z store c d (act.purgeWaitQueue w)
+  wait-ended : (w : Work) → EndedOf x p z store c d w → EndedOf x p (waitPurged z) store c d (act.purgeWaitQueue w)
   unfolding act.purgeWaitQueue act.notWaiting act.respond withQueues withTold
-  wait-ended w e = by (w .queues .waiting) where
-    by : (b : Bool) → EndedOf x p z store c d (pick b (act.respond RejectAdUnit (act.notWaiting w)) w)
-    by true = record {
+  wait-ended w e = by (w .queues .waiting) refl where
+    by : (b : Bool) → w .queues .waiting ≡ b → EndedOf x p (waitPurged z) store c d (pick b (act.respond RejectAdUnit (act.notWaiting w)) w)
+    by true t = record {
       settled = e .settled;
+      counted = e .counted;
       filled = λ i h. e .filled i (held-waiting (w .queues .sent) i (w .queues .waiting) h);
       no-more = omega (arith, e .no-more, held-least (w .queues .sent) (w .queues .waiting));
       runs = e .runs;
-      empty = e .empty;
+      quiet = record { unsent = e .quiet .unsent; unasked = refl; stopped = e .quiet .stopped; frame = e .quiet .frame };
       below = e .below;
     }
-    by false = e
+    by false t =
+        requieted e (e .counted) (record { unsent = e .quiet .unsent; unasked = t; stopped = e .quiet .stopped; frame = e .quiet .frame })
 
 -- Both queues purged, with nothing denied before.
-module _ {x : Case} {p : Stored} {f z : Bool} {l : ℕ} {store : List ℕ} {c d : List Fdu} (w : Work) (e : EndedOf x p z store c d w) (g : GoingOf f true (suc (suc l)) d w) where
-  emptied-ended : EndedOf x p true store c (d ++ units w store) (act.emptied w)
+module _ {x : Case} {p : Stored} {f : Bool} {z : Quiet} {l : ℕ} {store : List ℕ} {c d : List Fdu} (w : Work) (e : EndedOf x p z store c d w) (g : GoingOf f true (suc (suc l)) d w) where
+  emptied-ended : EndedOf x p (sentPurged z) store c (d ++ units w store) (act.emptied w)
   unfolding act.emptied act.releaseBcFrame act.holdControl withQueues withTold
   emptied-ended = record {
     settled = e .settled;
+    counted = e .counted;
     filled = λ i h. e .filled i (omega (arith, h, held-fewer (w .queues .sent) (w .queues .waiting)));
     no-more = omega (arith, e .no-more, held-fewer (w .queues .sent) (w .queues .waiting));
     runs = record {
@@ -107,7 +110,7 @@ module _ {x : Case} {p : Stored} {f z : Bool} {l : ℕ} {store : List ℕ} {c d 
       of-confirmed = e .runs .of-confirmed;
       of-denied = ap (λ (y : List Fdu). runOf (y ++ units w store)) (g .undenied) ∙ units-run w store;
     };
-    empty = refl;
+    quiet = record { unsent = refl; unasked = e .quiet .unasked; stopped = e .quiet .stopped; frame = refl };
     below = none-below (w .told .handed) 0 (g .none);
   }
 
@@ -115,7 +118,7 @@ module _ {x : Case} {p : Stored} {f z : Bool} {l : ℕ} {store : List ℕ} {c d 
   unfolding act.emptied act.releaseBcFrame act.holdControl withQueues withTold
   emptied-going = record { none = g .none; room = g .room; undenied = tt; few = tt }
 
-  purged-ended : EndedOf x p true store c (d ++ units w store) (act.purgeWaitQueue (act.purgeSentQueue w))
+  purged-ended : EndedOf x p (bothPurged z) store c (d ++ units w store) (act.purgeWaitQueue (act.purgeSentQueue w))
   unfolding act.purgeSentQueue
   purged-ended =
       wait-ended (act.denyControl (w .queues .control) (act.emptied w)) (denied-ended (w .queues .control) (act.emptied w) emptied-ended)
@@ -126,19 +129,10 @@ module _ {x : Case} {p : Stored} {f z : Bool} {l : ℕ} {store : List ℕ} {c d 
       wait-going (act.denyControl (w .queues .control) (act.emptied w)) (denied-going (w .queues .control) (act.emptied w) emptied-going)
 
 -- Transmission_Count 1 and Suspend_State 0
-serving : {x : Case} {p : Stored} {z : Bool} {store : List ℕ} {c d : List Fdu} (v : Work) → EndedOf x p z store c d v
+serving : {x : Case} {p : Stored} {z : Quiet} {store : List ℕ} {c d : List Fdu} (v : Work) → EndedOf x p z store c d v
     → EndedOf x p z store c d (act.setSuspendState 0 (act.countOne v))
 unfolding act.setSuspendState act.countOne withVariables
-serving v e =
-    let s = e .settled in
-    resettled e (record {
-      in-window = s .in-window;
-      in-limit = s .in-limit;
-      alerting = s .alerting;
-      serving = refl;
-      own-spacecraft = s .own-spacecraft;
-      own-channel = s .own-channel;
-    })
+serving v e = requieted e (counts-one refl) (e .quiet)
 
 reason-is : (r : table.Reason) → reasonOf (declaredReason r) ≡ some r
 reason-is table.synch = refl
@@ -150,18 +144,19 @@ reason-is table.t1 = refl
 reason-is table.term = refl
 reason-is table.llif = refl
 
-module _ (x : Case) (w : Work) (m : machine.Work) {p : Stored} {f z : Bool} {l : ℕ} (h : Open x p f z true (suc (suc l)) w m) where
+module _ (x : Case) (w : Work) (m : machine.Work) {p : Stored} {f : Bool} {z : Quiet} {l : ℕ} (h : Open x p f z true (suc (suc l)) w m) where
   room : Room 2 (w .told .responses)
   room = less-room 2 (suc (suc l)) (w .told .responses) (omega arith) (h .going .room)
 
-  pub alerts : (r : table.Reason) → Open x p false true false l (act.alert (declaredReason r) w) (perform (table.Alert r) m)
+  pub alerts : (r : table.Reason) → Open x p false (bothPurged (ceased z)) false l (act.alert (declaredReason r) w) (perform (table.Alert r) m)
   unfolding act.alert act.notify act.cancelTimer withVariables withTold
   alerts r =
+      let e : EndedOf x p (ceased z) (h .store) (h .c) (h .d) (act.cancelTimer w) = requieted (h .ended) (h .ended .counted) (stops (h .ended .quiet)) in
       goes-on h (table.Alert r) (act.alert (declaredReason r) w) (h .d ++ units w (h .store))
       (release.alert _ _ _ _ _ w (h .store) room (declaredReason r) r (reason-is r)) (well.alert w (h .store) (declaredReason r) (h .formed))
-      (purged-ended (act.cancelTimer w) (h .ended) (h .going)) (purged-going (act.cancelTimer w) (h .ended) (h .going))
+      (purged-ended (act.cancelTimer w) e (h .going)) (purged-going (act.cancelTimer w) e (h .going))
 
-  pub initialise : Open x p false true false l (act.initialise w) (perform table.Initialise m)
+  pub initialise : Open x p false (bothPurged z) false l (act.initialise w) (perform table.Initialise m)
   unfolding act.initialise act.countOne act.setSuspendState withVariables
   initialise =
       let g = purged-going w (h .ended) (h .going) in

@@ -21,22 +21,27 @@ use Rattle.fop_actions.proofs.Kept as well
 use Rattle.fop_actions.proofs.ViewValues as values
 use Rattle.fop_actions.proofs.ViewAnswers.{Room, room-more}
 use Rattle.fop_actions.proofs.ViewTransmit as transmit
-use Rattle.fop_view.proofs.Mode.{Stored}
-use Rattle.fop_view.proofs.Known.{Case, seen, Open, Half, octet-is, less-room, resettled}
+use Rattle.fop_view.proofs.Mode.{Stored, Quiet, started, ceased, released}
+use Rattle.fop_view.proofs.Known.{Case, seen, EndedOf, Open, Half, octet-is, less-room, known, starts, stops, releases, resettled, requieted, counts-more}
 use Rattle.fop_view.proofs.Onward.{goes-on}
 
-module _ (x : Case) (w : Work) (m : machine.Work) {p : Stored} {f z u : Bool} {l : ℕ} (h : Open x p f z u l w m) where
+module _ (x : Case) (w : Work) (m : machine.Work) {p : Stored} {f : Bool} {z : Quiet} {u : Bool} {l : ℕ} (h : Open x p f z u l w m) where
+  abbrev e : EndedOf x p z (h .store) (h .c) (h .d) w
+  e = h .ended
+
   -- The timer, the out flags and the type-BC frame.
   pub ignore : Open x p f z u l w (perform table.Ignore m)
   ignore = goes-on h table.Ignore w (h .d) (values.ignore _ _ _ _ _ w (h .store)) (h .formed) (h .ended) (h .going)
 
-  pub cancel-timer : Open x p f z u l (act.cancelTimer w) (perform table.CancelTimer m)
+  pub cancel-timer : Open x p f (ceased z) u l (act.cancelTimer w) (perform table.CancelTimer m)
   unfolding act.cancelTimer withVariables
-  cancel-timer = goes-on h table.CancelTimer (act.cancelTimer w) (h .d) (values.cancel-timer _ _ _ _ _ w (h .store)) (h .formed) (h .ended) (h .going)
+  cancel-timer =
+      goes-on h table.CancelTimer (act.cancelTimer w) (h .d) (values.cancel-timer _ _ _ _ _ w (h .store)) (h .formed) (requieted e (e .counted) (stops (e .quiet))) (h .going)
 
-  pub start-timer : Open x p f z u l (act.startTimer w) (perform table.StartTimer m)
+  pub start-timer : Open x p f (started z) u l (act.startTimer w) (perform table.StartTimer m)
   unfolding act.startTimer withVariables
-  start-timer = goes-on h table.StartTimer (act.startTimer w) (h .d) (values.start-timer _ _ _ _ _ w (h .store)) (h .formed) (h .ended) (h .going)
+  start-timer =
+      goes-on h table.StartTimer (act.startTimer w) (h .d) (values.start-timer _ _ _ _ _ w (h .store)) (h .formed) (requieted e (e .counted) (starts (e .quiet))) (h .going)
 
   pub ad-out-ready : Open x p f z u l (act.adOutReady w) (perform table.AdOutReady m)
   unfolding act.adOutReady withVariables
@@ -50,47 +55,63 @@ module _ (x : Case) (w : Work) (m : machine.Work) {p : Stored} {f z u : Bool} {l
   unfolding act.bdOutReady withVariables
   bd-out-ready = goes-on h table.BdOutReady (act.bdOutReady w) (h .d) (values.bd-out-ready _ _ _ _ _ w (h .store)) (h .formed) (h .ended) (h .going)
 
-  pub release-bc-frame : Open x p f z u l (act.releaseBcFrame w) (perform table.ReleaseBcFrame m)
+  pub release-bc-frame : Open x p f (released z) u l (act.releaseBcFrame w) (perform table.ReleaseBcFrame m)
   unfolding act.releaseBcFrame act.holdControl withQueues
   release-bc-frame =
-      goes-on h table.ReleaseBcFrame (act.releaseBcFrame w) (h .d) (values.release-bc-frame _ _ _ _ _ w (h .store)) (h .formed) (h .ended) (h .going)
-
-  pub set-t1-initial : Open x p f z u l (act.setT1Initial (x .value) w) (perform table.SetT1Initial m)
-  unfolding act.setT1Initial withSettings
-  set-t1-initial =
-      goes-on h table.SetT1Initial (act.setT1Initial (x .value) w) (h .d) (values.set-t1-initial _ _ _ _ _ w (h .store)) (h .formed) (h .ended) (h .going)
+      goes-on h table.ReleaseBcFrame (act.releaseBcFrame w) (h .d) (values.release-bc-frame _ _ _ _ _ w (h .store)) (h .formed)
+      (requieted e (e .counted) (releases (e .quiet))) (h .going)
 
   -- The settings, within their limits.
-  pub set-k : x .value ≤ largestK → Open x p f z u l (act.setK (x .value % 256) w) (perform table.SetK m)
+  pub set-k : (1 ≤ x .value) × (x .value ≤ largestK) → Open x p f z u l (act.setK (x .value % 256) w) (perform table.SetK m)
   unfolding act.setK withSettings
   set-k n =
-      let s = h .ended .settled in
+      let s = e .settled in
       goes-on h table.SetK (act.setK (x .value % 256) w) (h .d)
-      (values.set-k _ _ _ _ _ w (h .store) ∙ ap (λ (k : ℕ). seen x (h .c) (h .d) (act.setK k w) (h .store)) (sym (octet-is (x .value) (omega arith))))
+      (values.set-k _ _ _ _ _ w (h .store) ∙ ap (λ (k : ℕ). seen x (h .c) (h .d) (act.setK k w) (h .store)) (sym (octet-is (x .value) (omega (arith, n .1)))))
       (h .formed)
-      (resettled (h .ended) (record {
-        in-window = omega arith;
+      (resettled e (record {
+        window-least = omega (arith, n .0, n .1);
+        in-window = omega (arith, n .1);
+        clock-least = s .clock-least;
+        limit-least = s .limit-least;
         in-limit = s .in-limit;
         alerting = s .alerting;
-        serving = s .serving;
         own-spacecraft = s .own-spacecraft;
         own-channel = s .own-channel;
       })) (h .going)
 
-  pub set-transmission-limit : x .value ≤ largestTransmissionLimit
+  pub set-t1-initial : 1 ≤ x .value → Open x p f z u l (act.setT1Initial (x .value) w) (perform table.SetT1Initial m)
+  unfolding act.setT1Initial withSettings
+  set-t1-initial n =
+      let s = e .settled in
+      goes-on h table.SetT1Initial (act.setT1Initial (x .value) w) (h .d) (values.set-t1-initial _ _ _ _ _ w (h .store)) (h .formed)
+      (resettled e (record {
+        window-least = s .window-least;
+        in-window = s .in-window;
+        clock-least = n;
+        limit-least = s .limit-least;
+        in-limit = s .in-limit;
+        alerting = s .alerting;
+        own-spacecraft = s .own-spacecraft;
+        own-channel = s .own-channel;
+      })) (h .going)
+
+  pub set-transmission-limit : (1 ≤ x .value) × (x .value ≤ largestTransmissionLimit)
       → Open x p f z u l (act.setTransmissionLimit (x .value % 256) w) (perform table.SetTransmissionLimit m)
   unfolding act.setTransmissionLimit withSettings
   set-transmission-limit n =
-      let s = h .ended .settled in
+      let s = e .settled in
       goes-on h table.SetTransmissionLimit (act.setTransmissionLimit (x .value % 256) w) (h .d)
       (values.set-transmission-limit _ _ _ _ _ w (h .store)
-      ∙ ap (λ (k : ℕ). seen x (h .c) (h .d) (act.setTransmissionLimit k w) (h .store)) (sym (octet-is (x .value) (omega arith))))
+      ∙ ap (λ (k : ℕ). seen x (h .c) (h .d) (act.setTransmissionLimit k w) (h .store)) (sym (octet-is (x .value) (omega (arith, n .1)))))
       (h .formed)
-      (resettled (h .ended) (record {
+      (resettled e (record {
+        window-least = s .window-least;
         in-window = s .in-window;
-        in-limit = omega arith;
+        clock-least = s .clock-least;
+        limit-least = omega (arith, n .0, n .1);
+        in-limit = omega (arith, n .1);
         alerting = s .alerting;
-        serving = s .serving;
         own-spacecraft = s .own-spacecraft;
         own-channel = s .own-channel;
       })) (h .going)
@@ -98,22 +119,24 @@ module _ (x : Case) (w : Work) (m : machine.Work) {p : Stored} {f z u : Bool} {l
   pub set-timeout-type : x .value ≡ 0 → Open x p f z u l (act.setTimeoutType (x .value % 256) w) (perform table.SetTimeoutType m)
   unfolding act.setTimeoutType withSettings
   set-timeout-type n =
-      let s = h .ended .settled in
+      let s = e .settled in
       goes-on h table.SetTimeoutType (act.setTimeoutType (x .value % 256) w) (h .d)
       (values.set-timeout-type _ _ _ _ _ w (h .store)
       ∙ ap (λ (k : ℕ). seen x (h .c) (h .d) (act.setTimeoutType k w) (h .store)) (sym (octet-is (x .value) (omega arith))))
       (h .formed)
-      (resettled (h .ended) (record {
+      (resettled e (record {
+        window-least = s .window-least;
         in-window = s .in-window;
+        clock-least = s .clock-least;
+        limit-least = s .limit-least;
         in-limit = s .in-limit;
         alerting = omega arith;
-        serving = s .serving;
         own-spacecraft = s .own-spacecraft;
         own-channel = s .own-channel;
       })) (h .going)
 
 -- A response, where there is room.
-pub respond : (x : Case) (w : Work) (m : machine.Work) {p : Stored} {f z u : Bool} {l : ℕ} (h : Open x p f z u (suc l) w m) (a : Action) (r : Response)
+pub respond : (x : Case) (w : Work) (m : machine.Work) {p : Stored} {f : Bool} {z : Quiet} {u : Bool} {l : ℕ} (h : Open x p f z u (suc l) w m) (a : Action) (r : Response)
     → ((c d : List Fdu) (store : List ℕ) → Room 1 (w .told .responses) → perform a (seen x c d w store) ≡ seen x c d (act.respond r w) store)
     → Open x p f z u l (act.respond r w) (perform a m)
 unfolding act.respond withTold
@@ -123,43 +146,48 @@ respond x w m {p} {f} {z} {u} {l} h a r law =
     (record { none = g .none; room = room-more l (responseNumber r) (w .told .responses) (g .room); undenied = g .undenied; few = g .few })
 
 -- The retransmissions, with Transmission_Count below 255.
-module _ (x : Case) (w : Work) (m : machine.Work) {p : Stored} {z u : Bool} {l : ℕ} (h : Open x p true z u l w m) where
-  pub initiate-ad-retransmission : Open x p false z u l (act.initiateAdRetransmission w) (perform table.InitiateAdRetransmission m)
+module _ (x : Case) (w : Work) (m : machine.Work) {p : Stored} {z : Quiet} {u : Bool} {l : ℕ} (h : Open x p true z u l w m) where
+  counted-again : EndedOf x p (started z) (h .store) (h .c) (h .d) (act.again w)
+  unfolding act.again act.startTimer act.abort withVariables withTold
+  counted-again = requieted (h .ended) (counts-more (h .going .few) (h .ended .counted)) (starts (h .ended .quiet))
+
+  pub initiate-ad-retransmission : Open x p false (started z) u l (act.initiateAdRetransmission w) (perform table.InitiateAdRetransmission m)
   unfolding act.initiateAdRetransmission act.again act.startTimer act.abort withVariables withQueues withTold
   initiate-ad-retransmission =
       let g = h .going in
       goes-on h table.InitiateAdRetransmission (act.initiateAdRetransmission w) (h .d) (transmit.initiate-ad-retransmission _ _ _ _ _ w (h .store) (g .few))
-      (well.initiate-ad-retransmission w (h .store) (h .formed)) (h .ended) (record { none = g .none; room = g .room; undenied = g .undenied; few = tt })
+      (well.initiate-ad-retransmission w (h .store) (h .formed)) counted-again (record { none = g .none; room = g .room; undenied = g .undenied; few = tt })
 
-  pub initiate-bc-retransmission : Open x p false z u l (act.initiateBcRetransmission w) (perform table.InitiateBcRetransmission m)
+  pub initiate-bc-retransmission : Open x p false (started z) u l (act.initiateBcRetransmission w) (perform table.InitiateBcRetransmission m)
   unfolding act.initiateBcRetransmission act.again act.startTimer act.abort act.holdControl withVariables withQueues withTold
   initiate-bc-retransmission =
       let g = h .going in
       goes-on h table.InitiateBcRetransmission (act.initiateBcRetransmission w) (h .d) (transmit.initiate-bc-retransmission _ _ _ _ _ w (h .store) (g .few))
-      (h .formed) (h .ended) (record { none = g .none; room = g .room; undenied = g .undenied; few = tt })
+      (h .formed) counted-again (record { none = g .none; room = g .room; undenied = g .undenied; few = tt })
 
 -- V(S) and then NN(R), with the Sent_Queue empty.
-pub set-vs : (x : Case) (w : Work) (m : machine.Work) {p : Stored} {f u : Bool} {l : ℕ} → x .value < 256 → Open x p f true u l w m
-    → Half x p u l (act.setVs (x .value % 256) w) (perform table.SetVs m)
+pub set-vs : (x : Case) (w : Work) (m : machine.Work) {p : Stored} {f : Bool} {z : Quiet} {u : Bool} {l : ℕ} → x .value < 256 → z .unsent ≡ true → Open x p f z u l w m
+    → Half x p z u l (act.setVs (x .value % 256) w) (perform table.SetVs m)
 unfolding act.setVs act.setNnr withVariables
-set-vs x w m n h =
+set-vs x w m n t h =
     let g = h .going in
+    let empty : w .queues .sent ≡ 0 = known t (h .ended .quiet .unsent) in
     record {
       store = h .store;
       c = h .c;
       d = h .d;
       is =
-          ap (perform table.SetVs) (h .is) ∙ values.set-vs _ _ _ _ _ w (h .store) (h .ended .empty)
+          ap (perform table.SetVs) (h .is) ∙ values.set-vs _ _ _ _ _ w (h .store) empty
           ∙ ap (λ (k : ℕ). seen x (h .c) (h .d) (act.setVs k w) (h .store)) (sym (octet-is (x .value) n));
       octet = n;
       numbered = refl;
-      formed = well.set-numbers w (h .store) (x .value % 256) (h .formed) (h .ended .empty) (omega arith);
+      formed = well.set-numbers w (h .store) (x .value % 256) (h .formed) empty (omega arith);
       ended = h .ended;
       going = record { none = g .none; room = g .room; undenied = g .undenied; few = tt };
     }
 
-pub set-nnr : (x : Case) (w : Work) (m : machine.Work) {p : Stored} {u : Bool} {l : ℕ} → Half x p u l w m
-    → Open x p false true u l (act.setNnr (x .value % 256) w) (perform table.SetNnr m)
+pub set-nnr : (x : Case) (w : Work) (m : machine.Work) {p : Stored} {z : Quiet} {u : Bool} {l : ℕ} → Half x p z u l w m
+    → Open x p false z u l (act.setNnr (x .value % 256) w) (perform table.SetNnr m)
 unfolding act.setNnr withVariables
 set-nnr x w m h = record {
   store = h .store;

@@ -33,8 +33,8 @@ pub data Brings : Type 0 where
   again : Brings
   -- a unit for the empty Wait_Queue
   offering : Brings
-  -- V*, K, Transmission_Limit, Timeout_Type within their limits
-  numbering widening limiting timing : Brings
+  -- V*, K, T1_Initial, Transmission_Limit, Timeout_Type within their limits
+  numbering widening clocking limiting timing : Brings
   -- Timeout_Type or Suspend_State other than 0: not met for now
   suspending : Brings
 
@@ -75,7 +75,7 @@ brings E33 = suspending
 brings E34 = suspending
 brings E35 = numbering
 brings E36 = widening
-brings E37 = nothing
+brings E37 = clocking
 brings E38 = limiting
 brings E39 = timing
 brings E40 = nothing
@@ -96,8 +96,9 @@ Needed acknowledging o n s = (n < 256) × (offset n (s .variables .nnr) ≤ offs
 Needed again o n s = s .variables .«transmission_count» < s .settings .«transmission_limit»
 Needed offering o n s = (1 ≤ length o) × (length o ≤ largestUnit)
 Needed numbering o n s = n < 256
-Needed widening o n s = n ≤ largestK
-Needed limiting o n s = n ≤ largestTransmissionLimit
+Needed widening o n s = (1 ≤ n) × (n ≤ largestK)
+Needed clocking o n s = 1 ≤ n
+Needed limiting o n s = (1 ≤ n) × (n ≤ largestTransmissionLimit)
 Needed timing o n s = n ≡ 0
 Needed suspending o n s = ⊥
 
@@ -113,6 +114,7 @@ storeBy acknowledging o s w store = slid (largestUnit * w .told .confirmed .coun
 storeBy again o s w store = slid (largestUnit * w .told .confirmed .count) store
 storeBy numbering o s w store = slid (largestUnit * w .told .confirmed .count) store
 storeBy widening o s w store = slid (largestUnit * w .told .confirmed .count) store
+storeBy clocking o s w store = slid (largestUnit * w .told .confirmed .count) store
 storeBy limiting o s w store = slid (largestUnit * w .told .confirmed .count) store
 storeBy timing o s w store = slid (largestUnit * w .told .confirmed .count) store
 storeBy suspending o s w store = slid (largestUnit * w .told .confirmed .count) store
@@ -128,6 +130,7 @@ lengthsBy acknowledging o s w = slid (w .told .confirmed .count) (s .queues .len
 lengthsBy again o s w = slid (w .told .confirmed .count) (s .queues .lengths)
 lengthsBy numbering o s w = slid (w .told .confirmed .count) (s .queues .lengths)
 lengthsBy widening o s w = slid (w .told .confirmed .count) (s .queues .lengths)
+lengthsBy clocking o s w = slid (w .told .confirmed .count) (s .queues .lengths)
 lengthsBy limiting o s w = slid (w .told .confirmed .count) (s .queues .lengths)
 lengthsBy timing o s w = slid (w .told .confirmed .count) (s .queues .lengths)
 lengthsBy suspending o s w = slid (w .told .confirmed .count) (s .queues .lengths)

@@ -7,25 +7,46 @@ use lib.ListN.{getD}
 use Rattle.base.specs.Limits.{largestSpacecraft, largestChannel}
 use Rattle.fop.specs.Limits.{largestK, largestTransmissionLimit}
 use Rattle.fop.specs.Units.{Own}
-use Rattle.fop_actions.specs.declared.State.the-variants.{S6}
+use Rattle.fop_actions.specs.declared.State.{State}
+use Rattle.fop_actions.specs.declared.State.the-variants.{S1, S2, S3, S4, S5, S6}
 use Rattle.fop_actions.specs.declared.Sender.{Sender}
 use Rattle.fop_actions.specs.Start.{begun}
 use Rattle.fop_actions.specs.View.{WellFormed}
+use Rattle.fop_rows.specs.Rows.{inMain, isFrame}
 
 -- the units in the store: those sent, and the one waiting
 abbrev pub held : ℕ → Bool → ℕ
 held sent true = suc sent
 held sent false = sent
 
+-- Initialising with BC frame
+abbrev pub withFrame : State → Bool
+withFrame S1 = false
+withFrame S2 = false
+withFrame S3 = false
+withFrame S4 = false
+withFrame S5 = true
+withFrame S6 = false
+
 -- V(S), NN(R), counts, lengths and store as crate fop_actions says; the settings within document 01's limits, with the address of both
--- ends; "Suspend_State stays 0", and so does Timeout_Type; nothing is outstanding in Initial; each unit held has an octet
+-- ends; Transmission_Count from 1 to the largest Transmission_Limit; "Suspend_State stays 0", and so does Timeout_Type; no unit is held but
+-- in the main protocol's states; the timer is stopped in Initial; a type-BC frame is on the Sent_Queue in Initialising with BC frame, and
+-- only there; each unit held has an octet
 pub record Good (own : Own) (s : Sender) (store : List ℕ) : Type 0 where
   pub formed : WellFormed (begun s) store
+  pub window-least : 1 ≤ s .settings .k
   pub window : s .settings .k ≤ largestK
+  pub clock-least : 1 ≤ s .settings .«t1_initial»
+  pub limit-least : 1 ≤ s .settings .«transmission_limit»
   pub limit : s .settings .«transmission_limit» ≤ largestTransmissionLimit
+  pub count-least : 1 ≤ s .variables .«transmission_count»
+  pub count-most : s .variables .«transmission_count» ≤ largestTransmissionLimit
   pub alerting : s .settings .«timeout_type» ≡ 0
   pub serving : s .variables .«suspend_state» ≡ 0
-  pub initial : s .state ≡ S6 → s .queues .sent ≡ 0
+  pub sent-main : inMain (s .state) ≡ false → s .queues .sent ≡ 0
+  pub waiting-main : inMain (s .state) ≡ false → s .queues .waiting ≡ false
+  pub stopped : s .state ≡ S6 → s .variables .timer ≡ 0
+  pub control-s5 : isFrame (s .queues .control) ≡ withFrame (s .state)
   pub filled : (i : ℕ) → i < held (s .queues .sent) (s .queues .waiting) → 1 ≤ getD (s .queues .lengths) i 0
   pub spacecraft : s .settings .spacecraft ≡ own .spacecraft
   pub channel : s .settings .channel ≡ own .channel

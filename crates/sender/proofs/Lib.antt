@@ -3,3 +3,4 @@ pub mod Steps
 pub mod Timer
 pub mod Starts
 pub mod Judged
+pub mod Kept

@@ -5,6 +5,7 @@
 // ones. The frame handed down to the lower layer is written at the front of the lent output. A refusal changes nothing.
 pub mod answers;
 pub mod frames;
+mod state;
 
 use crate::answers::conclude;
 use crate::answers::refused;
@@ -13,6 +14,7 @@ use crate::frames::place_handed;
 use crate::frames::remove;
 use crate::frames::unit_at;
 use crate::frames::write_handed;
+use crate::state::well_formed;
 use base::LARGEST_CHANNEL;
 use base::LARGEST_SPACECRAFT;
 use base::LARGEST_UNIT;
@@ -44,6 +46,7 @@ ghost use Rattle.base.specs.Outcome.{answer, after};
 ghost use Rattle.frame.specs.Answers.{writtenAnswer};
 ghost use Rattle.sender.specs.Answers.{concluded};
 ghost use Rattle.sender.specs.Start.{withinLimits, refusedStart, startingOf};
+ghost use Rattle.sender.specs.State.{restoredOf};
 ghost use Rattle.sender.specs.Events.{handedWriting, unitOffered, servedBy, served, offeredBy, added, ticked, tickNumber, requestAdOf, requestBdOf, directiveOf, tickOf, lowerLayerOf, controlWordOf};
 
 // Document 01: 32 units of 249 octets sent and one waiting.
@@ -283,7 +286,35 @@ fn refused_start(number: u8) -> Start
     }
 }
 
+// What is given where a state that was kept is none.
+pub fn refused_state() -> Start
+    ensures { λ r. ⌜ r ≡ refusedStart 12 ⌝ }
+{
+    refused_start(12)
+}
+
 impl Sender {
+    // The state, to be kept.
+    pub fn state(self) -> fop_actions::Sender
+        ensures { λ r. ⌜ r ≡ self .fop ⌝ }
+    {
+        self.fop
+    }
+
+    // A sender from a state that was kept; 12 where no sender has it.
+    pub fn restore(state: fop_actions::Sender) -> Start
+        ensures { λ r. ⌜ r ≡ restoredOf state ⌝ }
+    {
+        if !well_formed(state) {
+            return refused_start(12);
+        }
+        let sender = Sender { fop: state };
+        Start {
+            refusal: 0,
+            sender: sender,
+        }
+    }
+
     // A sender at its start; 12 where a setting is outside its limit, 11 where the lent store is too short.
     pub fn new(settings: Settings, vs: u8, nnr: u8, store: &[u8]) -> Start
         ensures { λ r. ⌜ r ≡ startingOf settings vs nnr (length (now (store .entry))) ⌝ }

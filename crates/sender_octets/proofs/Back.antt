@@ -1,0 +1,120 @@
+-- A state is read back from its octets, octets that are a state are those of one state only, and any others are refused.
+use mathlib.Core.Path.{_≡_, refl, sym, ap, ap₂, _∙_}
+use mathlib.Core.Bool.{Bool, true, false}
+use mathlib.Core.List.{List}
+use Prim.Native.Nat.{ℕ, _+_, _*_, _/_, _%_, _≤_}
+use native.Mathlib.Omega.{arith}
+use lib.Dec.{eqb}
+use lib.ListN.{length}
+use Rattle.base.specs.Choice.{both}
+use Rattle.base.specs.Octets.{same}
+use Rattle.base.proofs.Tests.{both-left}
+use Rattle.base.proofs.Lists.{same-equal, same-self}
+use Rattle.fop_actions.proofs.Ways.{no}
+use Rattle.fop_actions.specs.Limits.{places}
+use Rattle.fop_actions.specs.declared.State.{State as FopState}
+use Rattle.fop_actions.specs.declared.State.the-variants as state
+use Rattle.fop_actions.specs.declared.Control.{Control}
+use Rattle.fop_actions.specs.declared.Control.the-variants as control
+use Rattle.fop_actions.specs.declared.Sender.{Sender as State}
+use Rattle.sender.specs.State.{wellFormed}
+use Rattle.sender.specs.Start.{refusedStart}
+use Rattle.sender_octets.specs.Kept.{octetsOf, stateIn, isState, senderIn, stateNumber, stateNumbered, truth, isSet, controlNumber, controlValue, controlNumbered, pairsFrom}
+use Rattle.sender_octets.proofs.Pairs.{pair-back, pairs-back}
+use Rattle.sender_octets.proofs.Parts.{settings-by, variables-by, queues-by, state-by}
+
+-- what the struct's type sees to: it has a length for each place. That its other numbers fit their types is not needed: none is cut on
+-- the way to octets, which the contract of `octets_of` says
+pub record Sized (s : State) : Type 0 where
+  pub lengths : length (s .queues .lengths) ≡ places
+
+state-back : (x : FopState) → stateNumbered (stateNumber x) ≡ x
+state-back state.S1 = refl
+state-back state.S2 = refl
+state-back state.S3 = refl
+state-back state.S4 = refl
+state-back state.S5 = refl
+state-back state.S6 = refl
+
+control-back : (x : Control) → controlNumbered (controlNumber x) (controlValue x) ≡ x
+control-back control.None = refl
+control-back control.Unlock = refl
+control-back (control.SetVr value) = refl
+
+-- a flag is read back: the bit of its weight is its truth value
+truth-le : (b : Bool) → truth b ≤ 1
+truth-le true = omega arith
+truth-le false = omega arith
+
+flag-back : (n : ℕ) (b : Bool) → n ≡ truth b → eqb n 1 ≡ b
+flag-back n true e = ap (λ (x : ℕ). eqb x 1) e
+flag-back n false e = ap (λ (x : ℕ). eqb x 1) e
+
+-- five flags, each at its weight
+abbrev weighed : Bool → Bool → Bool → Bool → Bool → ℕ
+weighed a b c d e = truth a + truth b * 2 + truth c * 4 + truth d * 8 + truth e * 16
+
+flags-back : (a b c d e : Bool)
+    → (a ≡ isSet (weighed a b c d e) 1) × (b ≡ isSet (weighed a b c d e) 2) × (c ≡ isSet (weighed a b c d e) 4) × (d ≡ isSet (weighed a b c d e) 8) × (e ≡ isSet (weighed a b c d e) 16)
+flags-back a b c d e =
+    let n = weighed a b c d e in
+    let ha = truth-le a in
+    let hb = truth-le b in
+    let hc = truth-le c in
+    let hd = truth-le d in
+    let he = truth-le e in (
+      sym (flag-back (n / 1 % 2) a (omega arith)),
+      sym (flag-back (n / 2 % 2) b (omega arith)),
+      sym (flag-back (n / 4 % 2) c (omega arith)),
+      sym (flag-back (n / 8 % 2) d (omega arith)),
+      sym (flag-back (n / 16 % 2) e (omega arith)),
+    )
+
+module _ (s : State) where
+  settings-back : s .settings ≡ stateIn (octetsOf s) .settings
+  unfolding octetsOf
+  settings-back =
+      settings-by (octetsOf s) (s .settings .«t1_initial») (s .settings .spacecraft) (sym (pair-back (s .settings .«t1_initial»)))
+      (sym (pair-back (s .settings .spacecraft)))
+
+  variables-back : s .variables ≡ stateIn (octetsOf s) .variables
+  unfolding octetsOf
+  variables-back =
+      let v = s .variables in
+      let f = flags-back (v .«ad_out») (v .«bc_out») (v .«bd_out») (s .queues .waiting) (s .queues .«control_marked») in
+      variables-by (octetsOf s) (v .timer) (v .«ad_out») (v .«bc_out») (v .«bd_out») (sym (pair-back (v .timer))) (f .0) (f .1) (f .2)
+
+  module _ (h : Sized s) where
+    lengths-back : s .queues .lengths ≡ pairsFrom (octetsOf s) 22 places
+    unfolding octetsOf
+    lengths-back = sym (pairs-back (octetsOf s) 22 (s .queues .lengths) refl) ∙ ap (pairsFrom (octetsOf s) 22) (h .lengths)
+
+    queues-back : s .queues ≡ stateIn (octetsOf s) .queues
+    unfolding octetsOf
+    queues-back =
+        let v = s .variables in
+        let q = s .queues in
+        let f = flags-back (v .«ad_out») (v .«bc_out») (v .«bd_out») (q .waiting) (q .«control_marked») in
+        queues-by (octetsOf s) (q .waiting) (q .control) (q .«control_marked») (q .lengths) (f .3) (sym (control-back (q .control))) (f .4) lengths-back
+
+    -- the state in the octets of a state is that state
+    pub read-back : stateIn (octetsOf s) ≡ s
+    unfolding octetsOf
+    read-back =
+        sym (state-by (octetsOf s) (s .state) (s .settings) (s .variables) (s .queues) (sym (state-back (s .state))) settings-back variables-back queues-back)
+
+    -- and where the state is well-formed, its octets are a state
+    pub octets-back : wellFormed s ≡ true → isState (octetsOf s) ≡ true
+    unfolding isState
+    octets-back w =
+        ap (λ (x : State). both (same (octetsOf s) (octetsOf x)) (wellFormed x)) read-back ∙ ap₂ both (same-self (octetsOf s)) w
+
+-- octets that are a state are the octets of the state in them
+pub state-only : (o : List ℕ) → isState o ≡ true → octetsOf (stateIn o) ≡ o
+unfolding isState
+state-only o e = sym (same-equal o (octetsOf (stateIn o)) (both-left (same o (octetsOf (stateIn o))) (wellFormed (stateIn o)) e))
+
+-- octets that are no state give no sender
+pub refused-no-state : (o : List ℕ) → isState o ≡ false → senderIn o ≡ refusedStart 12
+unfolding senderIn
+refused-no-state o e = no _ _ _ e

@@ -1,0 +1,51 @@
+-- Octets judged: by their length, by the state that they would hold, then by that state.
+use mathlib.Core.Path.{_≡_, refl, sym, ap, _∙_}
+use mathlib.Core.Bool.{Bool, true, false}
+use mathlib.Core.List.{List}
+use Prim.Native.Nat.{ℕ}
+use native.Mathlib.Omega.{arith}
+use lib.ListN.{length}
+use Rattle.base.specs.Choice.{pick, both}
+use Rattle.base.specs.Octets.{same}
+use Rattle.base.proofs.Lists.{same-length-not}
+use Rattle.fop_actions.proofs.Ways.{no}
+use Rattle.fop_actions.specs.Limits.{places}
+use Rattle.fop_actions.specs.declared.Sender.{Sender as State}
+use Rattle.sender.specs.State.{wellFormed, restoredOf}
+use Rattle.sender.specs.Start.{refusedStart}
+use Rattle.sender.specs.declared.Start.{Start}
+use Rattle.sender_octets.specs.Kept.{stateOctets, octetsOf, stateIn, isState, senderIn}
+use Rattle.sender_octets.proofs.Pairs.{length-pairs, length-from}
+
+pub length-octets : (s : State) → length (s .queues .lengths) ≡ places → length (octetsOf s) ≡ stateOctets
+unfolding octetsOf
+length-octets s h = omega (arith, length-pairs (s .queues .lengths))
+
+-- a state that is not well-formed is refused where it is restored
+twice : {A : Type 0} (b : Bool) (x y : A) → pick b x y ≡ pick b (pick b x y) y
+twice true x y = refl
+twice false x y = refl
+
+restored-where : (s : State) → restoredOf s ≡ pick (wellFormed s) (restoredOf s) (refusedStart 12)
+unfolding restoredOf
+restored-where s = twice (wellFormed s) _ _
+
+module _ (o : List ℕ) where
+  length-in : length (octetsOf (stateIn o)) ≡ stateOctets
+  unfolding stateIn
+  length-in = length-octets (stateIn o) (length-from o 22 places)
+
+  pub no-length : (length o ≡ stateOctets → ⊥) → same o (octetsOf (stateIn o)) ≡ false
+  no-length h = same-length-not o (octetsOf (stateIn o)) (λ e. h (e ∙ length-in))
+
+  pub no-state : (r : Start) → same o (octetsOf (stateIn o)) ≡ false → r ≡ refusedStart 12 → r ≡ senderIn o
+  unfolding senderIn isState
+  no-state r d e = e ∙ sym (no _ _ _ (ap (λ (b : Bool). both b (wellFormed (stateIn o))) d))
+
+  pub judged : (r : Start) → same o (octetsOf (stateIn o)) ≡ true → r ≡ restoredOf (stateIn o) → r ≡ senderIn o
+  unfolding senderIn isState
+  judged r d e = e ∙ restored-where (stateIn o) ∙ sym (ap (λ (b : Bool). pick (both b (wellFormed (stateIn o))) (restoredOf (stateIn o)) (refusedStart 12)) d)
+
+  module _ (s : State) (es : s ≡ stateIn o) (w : List ℕ) (ew : w ≡ octetsOf s) (b : Bool) (eb : b ≡ same o w) where
+    pub compared : b ≡ same o (octetsOf (stateIn o))
+    compared = eb ∙ ap (same o) (ew ∙ ap octetsOf es)
