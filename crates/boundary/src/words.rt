@@ -11,7 +11,7 @@ ghost use Rattle.clcw.specs.Answers.{writtenAnswer, readingOf, readingNumber};
 ghost use Rattle.boundary.specs.Numbers.{wordGiven, truth, wordValid, wordField, statusTold, rfTold, flagsTold, counterTold, reportTold};
 
 // What the writer answered, by its number and the count of octets written.
-fn told(written: Written, count: &mut u64) -> u8
+pub(crate) fn told(written: Written, count: &mut u64) -> u8
     ensures number { λ r. ⌜ r ≡ numberOf (writtenAnswer written) ⌝ }
     ensures counted { λ r. ⌜ now (count .exit) ≡ countOf (writtenAnswer written) ⌝ }
 {

@@ -2,6 +2,8 @@ pub mod Cells
 pub mod Windows
 pub mod Told
 pub mod Kept
+pub mod Judged
+pub mod Restored
 pub mod Facts
 pub mod Examples
 pub mod Refuted

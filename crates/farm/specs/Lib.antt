@@ -1,3 +1,4 @@
 pub mod Table
 pub mod Window
 pub mod Receiver
+pub mod Kept

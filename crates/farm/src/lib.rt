@@ -1,4 +1,6 @@
 // Clause 7.2.3, 7.5, 7.9.3 and table 7-9: FARM-1, the receiver.
+pub mod octets;
+
 use base::LARGEST_CHANNEL;
 use base::LARGEST_SPACECRAFT;
 use clcw::Clcw;

@@ -1,4 +1,4 @@
-// Clause 7.9.2: the actions of FOP-1, the sender, on its state by value. No event of table 7-8 yet.
+// Clause 7.9.2: the actions of FOP-1, the sender, on its state by value.
 pub mod answers;
 pub mod entries;
 pub mod release;

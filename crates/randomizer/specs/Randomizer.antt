@@ -21,7 +21,7 @@ allOnes = 0b1111_1111
 unfoldable pub bit : ℕ → ℕ
 bit n = later n allOnes / 128
 
--- octet k of the random sequence: its bits 8k to 8k + 7 (proofs/Sequence, `octet-bits`)
+-- octet k of the random sequence: its bits 8k to 8k + 7 (proofs/Recurrence, `octet-bits`)
 unfoldable pub octet : ℕ → ℕ
 octet k = later (8 * k) allOnes
 

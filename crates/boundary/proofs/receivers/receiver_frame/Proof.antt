@@ -1,0 +1,79 @@
+-- Refused where the octets are no state; else what `receive` answered, put into numbers, and the next receiver's state over the old one.
+use borrow.Author.Needs.{needs}
+use mathlib.Core.Path.{refl, _∙_}
+use denote.Ref.{now}
+use Rattle.boundary.proofs.ReceiverCalls.{frame-refused, frame-met, kept-whole}
+use Rattle.boundary.proofs.receivers.receiver_frame.Statement.{statement}
+use Rattle.boundary.proofs.receivers.receiver_frame.Tie as tie
+
+restore-requires : tie.Need-restore-requires
+restore-requires c κs = search needs
+
+enum-known-start : tie.Need-enum-known-start
+enum-known-start c = search needs
+
+enum-told : tie.Need-enum-told
+enum-told c = search needs
+
+same-length : tie.Need-same-length
+same-length c = search needs
+
+returns : tie.Need-returns
+returns c =
+    let r = c .before .before in
+    let a = r .before .before .before .before .args in
+    rw (frame-refused (now (a .state)) (r .restore .result) (r .restore .ensures) (c .enum-told .given .1) (now (a .frame)))
+    (refl, (refl, (refl, (refl, (refl, refl)))))
+
+receive-requires : tie.Need-receive-requires
+receive-requires c κs = search needs
+
+unit-requires : tie.Need-unit-requires
+unit-requires c κs = search needs
+
+event-number-requires : tie.Need-event-number-requires
+event-number-requires c κs = search needs
+
+unit-number-requires : tie.Need-unit-number-requires
+unit-number-requires c κs = search needs
+
+unit-place-requires : tie.Need-unit-place-requires
+unit-place-requires c κs = search needs
+
+keep-requires : tie.Need-keep-requires
+keep-requires c κs = search needs
+
+same-length-2 : tie.Need-same-length-2
+same-length-2 c = search needs
+
+returns-2 : tie.Need-returns-2
+returns-2 c =
+    let k = c .before .before in
+    let p = k .before .before in
+    let u = p .before .before .before in
+    let m = u .before .before in
+    let s = m .before .before in
+    let r = s .before .before in
+    let a = r .before .before .before .before .args in
+    let z = k .keep .ensures ∙ kept-whole (now (a .state)) (r .restore .result) (r .restore .ensures) _ (s .start .given .1) (m .receive .result .next) in
+    let q = p .before in
+    rw (frame-met (now (a .state)) (r .restore .result) (r .restore .ensures) _ (s .start .given .1) (now (a .frame)) (m .receive .result) _ (m .receive .ensures) (u .unit .ensures))
+    (refl, (q .before .event-number .ensures, (q .unit-number .ensures, (p .unit-place .ensures, (refl, z)))))
+
+pub receiver-frame-spec : {M : Type 1} → statement M
+receiver-frame-spec =
+    tie.close
+    (tie.spec
+    restore-requires
+    enum-known-start
+    enum-told
+    same-length
+    returns
+    receive-requires
+    unit-requires
+    event-number-requires
+    unit-number-requires
+    unit-place-requires
+    keep-requires
+    same-length-2
+    returns-2)

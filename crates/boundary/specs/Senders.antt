@@ -1,0 +1,104 @@
+-- The sender across the boundary: its state as octets in a lent buffer, its answer as octets in another (crate sender_octets).
+use Prim.Native.Nat.{ℕ}
+use mathlib.Core.Bool.{Bool, true, false, _||_, _&&_}
+use mathlib.Core.List.{List}
+use lib.Dec.{leb, eqb}
+use lib.ListN.{length}
+use Rattle.base.specs.Choice.{pick, must}
+use Rattle.memory.specs.Placed.{placed}
+use Rattle.fop_actions.specs.declared.Sender.{Sender as State}
+use Rattle.fop_actions.specs.declared.Settings.{Settings}
+use Rattle.fop_events.specs.declared.Lower.{Lower}
+use Rattle.fop_events.specs.declared.Lower.the-variants as lower
+use Rattle.sender.specs.declared.Start.{Start}
+use Rattle.sender.specs.Answers.{Step}
+use Rattle.sender.specs.Start.{startingOf}
+use Rattle.sender.specs.Events.{requestAdOf, requestBdOf, directiveOf, tickOf, lowerLayerOf, controlWordOf}
+use Rattle.sender_octets.specs.Kept.{stateOctets, octetsOf, senderIn}
+use Rattle.sender_octets.specs.Answer.{answerOctets, octetsOfAnswer}
+
+-- a call by its number, and all lent memory after it
+pub record Called : Type 0 where
+  pub number : ℕ
+  pub state : List ℕ
+  pub store : List ℕ
+  pub output : List ℕ
+  pub answer : List ℕ
+
+-- a call that reaches no sender changes nothing
+abbrev pub refusedCall : ℕ → List ℕ → List ℕ → List ℕ → List ℕ → Called
+refusedCall number state store output answer = record { number = number; state = state; store = store; output = output; answer = answer }
+
+-- an event: its refusal, 0 for done; the sender's next state and its answer, a refusal's too, at the front of their buffers
+abbrev pub doneCall : Step → List ℕ → List ℕ → Called
+doneCall step state answer = record {
+  number = step .answer .refusal;
+  state = placed state 0 (octetsOf (step .answer .next .fop));
+  store = step .store;
+  output = step .output;
+  answer = placed answer 0 (octetsOfAnswer (step .answer));
+}
+
+-- octets that are no state are 12; an answer's buffer that is too short is 11; then the event
+abbrev pub calledBy : (State → Step) → List ℕ → List ℕ → List ℕ → List ℕ → Called
+calledBy event state store output answer =
+    must (eqb (senderIn state .refusal) 0) (refusedCall 12 state store output answer)
+    (must (leb answerOctets (length answer)) (refusedCall 11 state store output answer)
+    (doneCall (event (senderIn state .sender .fop)) state answer))
+
+unfoldable pub requestAdCall : List ℕ → List ℕ → List ℕ → List ℕ → List ℕ → Called
+requestAdCall state unit store output answer = calledBy (λ s. requestAdOf s unit store output) state store output answer
+
+unfoldable pub requestBdCall : List ℕ → List ℕ → List ℕ → List ℕ → List ℕ → Called
+requestBdCall state unit store output answer = calledBy (λ s. requestBdOf s unit store output) state store output answer
+
+unfoldable pub tickCall : List ℕ → List ℕ → List ℕ → List ℕ → Called
+tickCall state store output answer = calledBy (λ s. tickOf s store output) state store output answer
+
+unfoldable pub wordCall : List ℕ → List ℕ → List ℕ → List ℕ → List ℕ → Called
+wordCall state word store output answer = calledBy (λ s. controlWordOf word s store output) state store output answer
+
+-- An answer of the lower layer by its number, 1 to 6: AD_Accept, AD_Reject, BC_Accept, BC_Reject, BD_Accept, BD_Reject; any other is 12.
+abbrev pub lowerNumbered : ℕ → Lower
+lowerNumbered n =
+    pick (eqb n 1) lower.AdAccept
+    (pick (eqb n 2) lower.AdReject (pick (eqb n 3) lower.BcAccept (pick (eqb n 4) lower.BcReject (pick (eqb n 5) lower.BdAccept lower.BdReject))))
+
+unfoldable pub lowerCall : List ℕ → ℕ → List ℕ → List ℕ → List ℕ → Called
+lowerCall state n store output answer =
+    must (leb 1 n) (refusedCall 12 state store output answer)
+    (must (leb n 6) (refusedCall 12 state store output answer) (calledBy (λ s. lowerLayerOf (lowerNumbered n) s store output) state store output answer))
+
+-- Directives come as 32 bits, so that nothing is cut off on the way: a number that no directive has is 0 for the sender, and so is that of a
+-- directive whose value does not fit into 16 bits, where it has a use for it; both are the invalid directive.
+abbrev pub usesValue : ℕ → Bool
+usesValue d = eqb d 4 || leb 7 d
+
+abbrev pub narrowNumber : ℕ → ℕ → ℕ
+narrowNumber d v = must (leb d 11) 0 (must (leb v 65535) (pick (usesValue d) 0 d) d)
+
+abbrev pub narrowValue : ℕ → ℕ
+narrowValue v = must (leb v 65535) 0 v
+
+unfoldable pub directiveCall : List ℕ → ℕ → ℕ → List ℕ → List ℕ → List ℕ → Called
+directiveCall state d v store output answer =
+    calledBy (λ s. directiveOf (narrowNumber d v) (narrowValue v) s store output) state store output answer
+
+-- A new sender: 12 and 11 as it judges, then 11 where the buffer is too short; nothing changes.
+pub record New : Type 0 where
+  pub number : ℕ
+  pub state : List ℕ
+
+abbrev pub startedCall : Start → List ℕ → New
+startedCall start state =
+    must (eqb (start .refusal) 0) (record { number = start .refusal; state = state })
+    (must (leb stateOctets (length state)) (record { number = 11; state = state })
+    (record { number = 0; state = placed state 0 (octetsOf (start .sender .fop)) }))
+
+abbrev pub settingsOf : ℕ → ℕ → ℕ → ℕ → ℕ → Settings
+settingsOf k t1 limit spacecraft channel =
+    record { k = k; «t1_initial» = t1; «transmission_limit» = limit; «timeout_type» = 0; spacecraft = spacecraft; channel = channel }
+
+unfoldable pub newCall : ℕ → ℕ → ℕ → ℕ → ℕ → ℕ → ℕ → List ℕ → List ℕ → New
+newCall k t1 limit spacecraft channel vs nnr store state =
+    startedCall (startingOf (settingsOf k t1 limit spacecraft channel) vs nnr (length store)) state

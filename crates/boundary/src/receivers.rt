@@ -1,0 +1,161 @@
+// FARM-1, the receiver (clause 7). Its state lies in a lent buffer of 12 octets (crate farm, specs/Kept), which a caller may keep over a
+// reset. Octets that are no state are refused by 12 and stay as they are.
+use crate::words::told;
+use farm::Event;
+use farm::Receiver;
+use farm::Released;
+use farm::Start;
+use farm::Unit;
+use farm::octets::STATE_OCTETS;
+ghost use mathlib.Core.Path.{_≡_};
+ghost use lib.ListN.{length};
+ghost use Rattle.base.specs.Outcome.{answer, after, numberOf, countOf};
+ghost use Rattle.memory.specs.Placed.{placed};
+ghost use Rattle.farm.specs.Kept.{octetsOf};
+ghost use Rattle.boundary.specs.Receivers.{eventNumber, unitNumber, unitPlace, newCall, frameCall, releaseCall, wordCall};
+
+// An event of table 7-9 by its number.
+fn event_number(event: Event) -> u8
+    ensures { λ r. ⌜ r ≡ eventNumber event ⌝ }
+{
+    match event {
+        Event::E1 => 1,
+        Event::E2 => 2,
+        Event::E3 => 3,
+        Event::E4 => 4,
+        Event::E5 => 5,
+        Event::E6 => 6,
+        Event::E7 => 7,
+        Event::E8 => 8,
+        Event::E9 => 9,
+        Event::E10 => 10,
+        Event::E11 => 11,
+    }
+}
+
+// The unit accepted as a number, and where it begins in the frame.
+fn unit_number(unit: Unit) -> u8
+    ensures { λ r. ⌜ r ≡ unitNumber unit ⌝ }
+{
+    match unit {
+        Unit::None => 0,
+        Unit::AdUnit => 1,
+        Unit::BdUnit => 2,
+    }
+}
+
+fn unit_place(unit: Unit) -> u64
+    ensures { λ r. ⌜ r ≡ unitPlace unit ⌝ }
+{
+    match unit {
+        Unit::None => 0,
+        Unit::AdUnit => 5,
+        Unit::BdUnit => 5,
+    }
+}
+
+// Puts the state of a receiver at the front of a buffer.
+fn keep(receiver: Receiver, state: &mut [u8])
+    ensures { λ _. ⌜ now (state .exit) ≡ placed (now (state .entry)) 0 (octetsOf receiver) ⌝ }
+{
+    let octets = receiver.octets();
+    memory::put(state, 0, &octets);
+}
+
+#[no_mangle]
+pub extern "C" fn receiver_new(
+    spacecraft: u16,
+    channel: u8,
+    window: u8,
+    vr: u8,
+    buffers: u8,
+    state: &mut [u8],
+) -> u8
+    ensures number { λ r. ⌜ r ≡ newCall spacecraft channel window vr buffers (now (state .entry)) .number ⌝ }
+    ensures states { λ r. ⌜ now (state .exit) ≡ newCall spacecraft channel window vr buffers (now (state .entry)) .state ⌝ }
+{
+    let start = Receiver::new(spacecraft, channel, window, vr, buffers);
+    let Start::Ready(receiver) = start else {
+        return 12;
+    };
+    if state.len() < STATE_OCTETS {
+        return 11;
+    }
+    keep(receiver, state);
+    0
+}
+
+// The unit accepted has `count` octets from octet `first` of the frame on.
+#[no_mangle]
+pub extern "C" fn receiver_frame(
+    state: &mut [u8],
+    frame: &[u8],
+    event: &mut u8,
+    unit: &mut u8,
+    first: &mut u64,
+    count: &mut u64,
+) -> u8
+    ensures number { λ r. ⌜ r ≡ frameCall (now (state .entry)) (now (frame .entry)) .number ⌝ }
+    ensures events { λ r. ⌜ now (event .exit) ≡ frameCall (now (state .entry)) (now (frame .entry)) .event ⌝ }
+    ensures units { λ r. ⌜ now (unit .exit) ≡ frameCall (now (state .entry)) (now (frame .entry)) .unit ⌝ }
+    ensures places { λ r. ⌜ now (first .exit) ≡ frameCall (now (state .entry)) (now (frame .entry)) .first ⌝ }
+    ensures counts { λ r. ⌜ now (count .exit) ≡ frameCall (now (state .entry)) (now (frame .entry)) .count ⌝ }
+    ensures states { λ r. ⌜ now (state .exit) ≡ frameCall (now (state .entry)) (now (frame .entry)) .state ⌝ }
+{
+    *event = 0;
+    *unit = 0;
+    *first = 0;
+    *count = 0;
+    let start = Receiver::restore(state);
+    let Start::Ready(receiver) = start else {
+        return 12;
+    };
+    let received = receiver.receive(frame);
+    let met = received.event;
+    let accepted = received.unit;
+    let next = received.next;
+    let part = receiver.unit(frame);
+    *event = event_number(met);
+    *unit = unit_number(accepted);
+    *first = unit_place(accepted);
+    *count = part.len() as u64;
+    keep(next, state);
+    received.refusal
+}
+
+#[no_mangle]
+pub extern "C" fn receiver_release(state: &mut [u8], event: &mut u8) -> u8
+    ensures number { λ r. ⌜ r ≡ releaseCall (now (state .entry)) .number ⌝ }
+    ensures events { λ r. ⌜ now (event .exit) ≡ releaseCall (now (state .entry)) .event ⌝ }
+    ensures states { λ r. ⌜ now (state .exit) ≡ releaseCall (now (state .entry)) .state ⌝ }
+{
+    *event = 0;
+    let start = Receiver::restore(state);
+    let Start::Ready(receiver) = start else {
+        return 12;
+    };
+    let released = receiver.release();
+    let Released::Done(received) = released else {
+        return 13;
+    };
+    let met = received.event;
+    let freed = received.next;
+    *event = event_number(met);
+    keep(freed, state);
+    0
+}
+
+#[no_mangle]
+pub extern "C" fn receiver_word(state: &[u8], output: &mut [u8], count: &mut u64) -> u8
+    ensures number { λ r. ⌜ r ≡ numberOf (answer (wordCall (now (state .entry)) (length (now (output .entry))))) ⌝ }
+    ensures memory { λ r. ⌜ now (output .exit) ≡ after (wordCall (now (state .entry)) (length (now (output .entry)))) (now (output .entry)) ⌝ }
+    ensures counted { λ r. ⌜ now (count .exit) ≡ countOf (answer (wordCall (now (state .entry)) (length (now (output .entry))))) ⌝ }
+{
+    *count = 0;
+    let start = Receiver::restore(state);
+    let Start::Ready(receiver) = start else {
+        return 12;
+    };
+    let written = receiver.word(output);
+    told(written, count)
+}
