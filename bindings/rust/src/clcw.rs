@@ -1,0 +1,109 @@
+//! The control word, CLCW (clause 6.3).
+
+use crate::library;
+use crate::refusal::judged;
+use crate::{Refused, CLCW_OCTETS};
+
+/// The fields of a control word that FOP-1 and FARM-1 give a meaning.
+#[derive(Clone, Copy, PartialEq, Eq, Debug, Default)]
+pub struct Clcw {
+    /// The virtual channel, 0 to 63.
+    pub channel: u8,
+    /// The receiver is in Lockout.
+    pub lockout: bool,
+    /// The receiver has no free buffer.
+    pub wait: bool,
+    /// The receiver misses a frame.
+    pub retransmit: bool,
+    /// The FARM-B counter, 0 to 3.
+    pub counter: u8,
+    /// The report value, V(R).
+    pub report: u8,
+}
+
+/// A valid control word as it was received, with the fields that are not judged.
+#[derive(Clone, Copy, PartialEq, Eq, Debug)]
+pub struct ReceivedWord {
+    /// The fields that have a meaning.
+    pub word: Clcw,
+    /// The status field, 0 to 7.
+    pub status: u8,
+    /// No RF available.
+    pub no_rf: bool,
+    /// No bit lock.
+    pub no_bit_lock: bool,
+}
+
+/// Writes a control word. A [`crate::Receiver`] writes its own.
+///
+/// ```
+/// use pondreszi::clcw::{self, Clcw};
+/// let word = Clcw { channel: 3, counter: 2, report: 17, ..Clcw::default() };
+/// assert_eq!(clcw::write(&word)?, [0x01, 0x0C, 0x04, 0x11]);
+/// # Ok::<(), pondreszi::Refused>(())
+/// ```
+pub fn write(word: &Clcw) -> Result<[u8; CLCW_OCTETS], Refused> {
+    let mut output = [0; CLCW_OCTETS];
+    let mut count = 0;
+    let number = unsafe {
+        library::clcw_write(
+            word.channel,
+            u8::from(word.lockout),
+            u8::from(word.wait),
+            u8::from(word.retransmit),
+            word.counter,
+            word.report,
+            output.as_mut_ptr(),
+            output.len(),
+            &mut count,
+        )
+    };
+    judged(number)?;
+    Ok(output)
+}
+
+/// Reads a control word of that channel; none where the four octets are no valid one,
+/// which is no refusal.
+///
+/// ```
+/// use pondreszi::{clcw, Refusal};
+/// let received = clcw::read(&[0x01, 0x0C, 0x04, 0x11], 3)?.expect("a valid word");
+/// assert_eq!(received.word.report, 17);
+/// assert_eq!(clcw::read(&[0x81, 0x0C, 0x04, 0x11], 3)?, None);
+/// let other = clcw::read(&[0x01, 0x0C, 0x04, 0x11], 4);
+/// assert_eq!(other.unwrap_err().refusal, Refusal::Address);
+/// # Ok::<(), pondreszi::Refused>(())
+/// ```
+pub fn read(octets: &[u8], channel: u8) -> Result<Option<ReceivedWord>, Refused> {
+    let (mut valid, mut status, mut rf, mut flags, mut counter, mut report) = (0, 0, 0, 0, 0, 0);
+    let number = unsafe {
+        library::clcw_read(
+            octets.as_ptr(),
+            octets.len(),
+            channel,
+            &mut valid,
+            &mut status,
+            &mut rf,
+            &mut flags,
+            &mut counter,
+            &mut report,
+        )
+    };
+    judged(number)?;
+    if valid == 0 {
+        return Ok(None);
+    }
+    Ok(Some(ReceivedWord {
+        word: Clcw {
+            channel,
+            lockout: flags & 4 != 0,
+            wait: flags & 2 != 0,
+            retransmit: flags & 1 != 0,
+            counter,
+            report,
+        },
+        status,
+        no_rf: rf & 2 != 0,
+        no_bit_lock: rf & 1 != 0,
+    }))
+}

@@ -1,0 +1,164 @@
+//! The TC Transfer Frame, written and read (clauses 6.2 and 6.4 to 6.8).
+//!
+//! A [`crate::Sender`] writes its own frames and a [`crate::Receiver`] reads its own;
+//! these functions are for units without them, and for tests.
+
+use crate::library;
+use crate::refusal::judged;
+use crate::{Refused, LARGEST_FRAME};
+
+/// The octets before the data field.
+const HEADER_OCTETS: usize = 5;
+
+/// Writes a type-AD frame with its N(S).
+///
+/// ```
+/// let octets = pondreszi::frame::write_ad(0x2A5, 3, 255, &[0xAB])?;
+/// assert_eq!(octets[..6], [0x02, 0xA5, 0x0C, 0x07, 0xFF, 0xAB]);
+/// # Ok::<(), pondreszi::Refused>(())
+/// ```
+pub fn write_ad(spacecraft: u16, channel: u8, number: u8, unit: &[u8]) -> Result<Vec<u8>, Refused> {
+    written(|output, room, count| unsafe {
+        library::frame_write_ad(
+            spacecraft,
+            channel,
+            number,
+            unit.as_ptr(),
+            unit.len(),
+            output,
+            room,
+            count,
+        )
+    })
+}
+
+/// Writes a type-BD frame.
+///
+/// ```
+/// use pondreszi::{frame, Refusal};
+/// assert_eq!(frame::write_bd(1, 0, &[0xAB])?.len(), 8);
+/// assert_eq!(frame::write_bd(1, 0, &[]).unwrap_err().refusal, Refusal::Length);
+/// assert_eq!(frame::write_bd(1024, 0, &[0]).unwrap_err().refusal, Refusal::Setting);
+/// # Ok::<(), pondreszi::Refused>(())
+/// ```
+pub fn write_bd(spacecraft: u16, channel: u8, unit: &[u8]) -> Result<Vec<u8>, Refused> {
+    written(|output, room, count| unsafe {
+        library::frame_write_bd(
+            spacecraft,
+            channel,
+            unit.as_ptr(),
+            unit.len(),
+            output,
+            room,
+            count,
+        )
+    })
+}
+
+/// Writes the type-BC frame Unlock.
+///
+/// ```
+/// let octets = pondreszi::frame::write_unlock(1, 0)?;
+/// assert_eq!(octets[..6], [0x30, 0x01, 0x00, 0x07, 0x00, 0x00]);
+/// # Ok::<(), pondreszi::Refused>(())
+/// ```
+pub fn write_unlock(spacecraft: u16, channel: u8) -> Result<Vec<u8>, Refused> {
+    written(|output, room, count| unsafe {
+        library::frame_write_unlock(spacecraft, channel, output, room, count)
+    })
+}
+
+/// Writes the type-BC frame Set V(R).
+///
+/// ```
+/// let octets = pondreszi::frame::write_set_vr(1, 0, 5)?;
+/// assert_eq!(octets[..8], [0x30, 0x01, 0x00, 0x09, 0x00, 0x82, 0x00, 0x05]);
+/// # Ok::<(), pondreszi::Refused>(())
+/// ```
+pub fn write_set_vr(spacecraft: u16, channel: u8, value: u8) -> Result<Vec<u8>, Refused> {
+    written(|output, room, count| unsafe {
+        library::frame_write_set_vr(spacecraft, channel, value, output, room, count)
+    })
+}
+
+/// Room for any frame is lent, so that no writer is short of it.
+fn written(write: impl FnOnce(*mut u8, usize, *mut u64) -> u8) -> Result<Vec<u8>, Refused> {
+    let mut output = [0; LARGEST_FRAME];
+    let mut count = 0;
+    judged(write(output.as_mut_ptr(), output.len(), &mut count))?;
+    Ok(output[..count as usize].to_vec())
+}
+
+/// The type of a frame, and what its header or its command carries.
+#[derive(Clone, Copy, PartialEq, Eq, Debug)]
+pub enum Kind {
+    /// A unit in sequence, with its N(S).
+    Ad {
+        /// N(S).
+        number: u8,
+    },
+    /// A unit out of sequence.
+    Bd,
+    /// The command Unlock.
+    Unlock,
+    /// The command Set V(R), with its value.
+    SetVr {
+        /// V(R) is to become this.
+        value: u8,
+    },
+}
+
+/// A frame that was read.
+#[derive(Clone, Copy, PartialEq, Eq, Debug)]
+pub struct Frame<'a> {
+    /// Its type.
+    pub kind: Kind,
+    /// Its octets, header and FECF included, fill not.
+    pub total: usize,
+    /// Its data field, a part of the caller's octets.
+    pub data: &'a [u8],
+}
+
+/// Reads a frame of that spacecraft and channel, with up to 6 octets of fill behind it.
+///
+/// ```
+/// use pondreszi::frame::{self, Kind};
+/// use pondreszi::Refusal;
+///
+/// let mut octets = frame::write_ad(42, 3, 17, b"unit")?;
+/// let read = frame::read(&octets, 42, 3)?;
+/// assert_eq!(read.kind, Kind::Ad { number: 17 });
+/// assert_eq!(read.data, b"unit");
+/// assert_eq!(frame::read(&octets, 42, 4).unwrap_err().refusal, Refusal::Address);
+/// octets[5] ^= 1;
+/// assert_eq!(frame::read(&octets, 42, 3).unwrap_err().refusal, Refusal::Check);
+/// # Ok::<(), pondreszi::Refused>(())
+/// ```
+pub fn read(octets: &[u8], spacecraft: u16, channel: u8) -> Result<Frame<'_>, Refused> {
+    let (mut kind, mut value, mut total, mut field) = (0, 0, 0, 0);
+    let number = unsafe {
+        library::frame_read(
+            octets.as_ptr(),
+            octets.len(),
+            spacecraft,
+            channel,
+            &mut kind,
+            &mut value,
+            &mut total,
+            &mut field,
+        )
+    };
+    judged(number)?;
+    let kind = match kind {
+        0 => Kind::Ad { number: value },
+        1 => Kind::Bd,
+        2 => Kind::Unlock,
+        3 => Kind::SetVr { value },
+        _ => unreachable!("the library tells kinds 0 to 3"),
+    };
+    Ok(Frame {
+        kind,
+        total: usize::from(total),
+        data: &octets[HEADER_OCTETS..][..usize::from(field)],
+    })
+}

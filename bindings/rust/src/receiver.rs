@@ -1,0 +1,263 @@
+use crate::library;
+use crate::refusal::judged;
+use crate::{Refused, CLCW_OCTETS, RECEIVER_STATE_OCTETS};
+
+/// What a receiver starts with.
+#[derive(Clone, Copy, PartialEq, Eq, Debug)]
+pub struct ReceiverSettings {
+    /// The spacecraft, 0 to 1,023.
+    pub spacecraft: u16,
+    /// The virtual channel, 0 to 63.
+    pub channel: u8,
+    /// FARM_Sliding_Window_Width W, even, 2 to 254; PW = NW = W / 2.
+    pub window: u8,
+    /// V(R), the number expected first.
+    pub vr: u8,
+    /// The buffers for AD units, 1 to 8.
+    pub buffers: u8,
+}
+
+/// The states of table 7-9.
+#[derive(Clone, Copy, PartialEq, Eq, Debug)]
+pub enum ReceiverState {
+    /// S1.
+    Open,
+    /// S2: all buffers are taken, and a frame had to be left.
+    Wait,
+    /// S3: a frame far from the expected number came; only Unlock opens.
+    Lockout,
+}
+
+/// The events of table 7-9 of a frame that is not refused.
+#[derive(Clone, Copy, PartialEq, Eq, Debug)]
+pub enum ReceiverEvent {
+    /// AD frame, the expected one, with a free buffer: accepted in Open.
+    E1,
+    /// AD frame, the expected one, no free buffer.
+    E2,
+    /// AD frame ahead of the expected one: one was lost.
+    E3,
+    /// AD frame behind the expected one: it came before.
+    E4,
+    /// AD frame outside both windows: lockout.
+    E5,
+    /// BD frame: accepted in every state.
+    E6,
+    /// Unlock.
+    E7,
+    /// Set V(R).
+    E8,
+}
+
+/// A unit that was accepted, a part of the caller's frame.
+#[derive(Clone, Copy, PartialEq, Eq, Debug)]
+pub enum Unit<'a> {
+    /// The next in sequence. It holds a buffer until [`Receiver::release`].
+    Ad(&'a [u8]),
+    /// One out of sequence, with a buffer of its own that the next overwrites.
+    Bd(&'a [u8]),
+}
+
+/// What a frame did.
+#[derive(Clone, Copy, PartialEq, Eq, Debug)]
+pub struct Received<'a> {
+    /// The event of table 7-9.
+    pub event: ReceiverEvent,
+    /// The unit accepted, if any.
+    pub unit: Option<Unit<'a>>,
+}
+
+/// FARM-1, the receiver (table 7-9).
+///
+/// AD units are accepted in order and none twice. They are to be applied in the order of
+/// acceptance.
+#[derive(Clone, PartialEq, Eq, Debug)]
+pub struct Receiver {
+    state: [u8; RECEIVER_STATE_OCTETS],
+}
+
+impl Receiver {
+    /// A receiver at its start: Open, no flags, no buffer taken.
+    ///
+    /// ```
+    /// use pondreszi::{Receiver, ReceiverSettings, Refusal};
+    /// let settings = ReceiverSettings {
+    ///     spacecraft: 42, channel: 3, window: 20, vr: 250, buffers: 1,
+    /// };
+    /// assert_eq!(Receiver::new(settings)?.vr(), 250);
+    /// let odd = ReceiverSettings { window: 21, ..settings };
+    /// assert_eq!(Receiver::new(odd).unwrap_err().refusal, Refusal::Setting);
+    /// # Ok::<(), pondreszi::Refused>(())
+    /// ```
+    pub fn new(settings: ReceiverSettings) -> Result<Receiver, Refused> {
+        let mut state = [0; RECEIVER_STATE_OCTETS];
+        let number = unsafe {
+            library::receiver_new(
+                settings.spacecraft,
+                settings.channel,
+                settings.window,
+                settings.vr,
+                settings.buffers,
+                state.as_mut_ptr(),
+                state.len(),
+            )
+        };
+        judged(number)?;
+        Ok(Receiver { state })
+    }
+
+    /// A receiver from octets that were kept; `Setting` where they are no state.
+    ///
+    /// ```
+    /// use pondreszi::{Receiver, ReceiverSettings, Refusal};
+    /// # let settings = ReceiverSettings {
+    /// #     spacecraft: 42, channel: 3, window: 20, vr: 250, buffers: 1,
+    /// # };
+    /// let receiver = Receiver::new(settings)?;
+    /// let mut kept = receiver.octets().to_vec();
+    /// assert_eq!(Receiver::restore(&kept)?, receiver);
+    /// kept[0] ^= 1;
+    /// assert_eq!(Receiver::restore(&kept).unwrap_err().refusal, Refusal::Setting);
+    /// # Ok::<(), pondreszi::Refused>(())
+    /// ```
+    pub fn restore(octets: &[u8]) -> Result<Receiver, Refused> {
+        // The control word is given to a state only, and changes nothing.
+        written_word(octets)?;
+        let state = octets.try_into().expect("a state has 12 octets");
+        Ok(Receiver { state })
+    }
+
+    /// The state, to be kept over a reset.
+    pub fn octets(&self) -> &[u8; RECEIVER_STATE_OCTETS] {
+        &self.state
+    }
+
+    /// A frame arrives, as [`crate::cltu::read`] gives it. A refusal is the frame's, and is
+    /// event E9: the frame is left and nothing changes.
+    ///
+    /// ```
+    /// use pondreszi::{frame, Receiver, ReceiverEvent, ReceiverSettings, Refusal, Unit};
+    /// # let settings = ReceiverSettings {
+    /// #     spacecraft: 42, channel: 3, window: 20, vr: 250, buffers: 1,
+    /// # };
+    /// let mut receiver = Receiver::new(settings)?;
+    /// let mut octets = frame::write_ad(42, 3, 250, b"unit")?;
+    /// let received = receiver.frame(&octets)?;
+    /// assert_eq!(received.event, ReceiverEvent::E1);
+    /// assert_eq!(received.unit, Some(Unit::Ad(b"unit")));
+    /// // The same frame once more was had before.
+    /// let received = receiver.frame(&octets)?;
+    /// assert_eq!((received.event, received.unit), (ReceiverEvent::E4, None));
+    /// octets[6] ^= 0x10;
+    /// assert_eq!(receiver.frame(&octets).unwrap_err().refusal, Refusal::Check);
+    /// # Ok::<(), pondreszi::Refused>(())
+    /// ```
+    pub fn frame<'a>(&mut self, frame: &'a [u8]) -> Result<Received<'a>, Refused> {
+        let (mut event, mut unit, mut first, mut count) = (0, 0, 0, 0);
+        let number = unsafe {
+            library::receiver_frame(
+                self.state.as_mut_ptr(),
+                self.state.len(),
+                frame.as_ptr(),
+                frame.len(),
+                &mut event,
+                &mut unit,
+                &mut first,
+                &mut count,
+            )
+        };
+        judged(number)?;
+        let event = match event {
+            1 => ReceiverEvent::E1,
+            2 => ReceiverEvent::E2,
+            3 => ReceiverEvent::E3,
+            4 => ReceiverEvent::E4,
+            5 => ReceiverEvent::E5,
+            6 => ReceiverEvent::E6,
+            7 => ReceiverEvent::E7,
+            8 => ReceiverEvent::E8,
+            _ => unreachable!("a frame that is not refused is E1 to E8"),
+        };
+        let part = &frame[first as usize..][..count as usize];
+        let unit = match unit {
+            0 => None,
+            1 => Some(Unit::Ad(part)),
+            2 => Some(Unit::Bd(part)),
+            _ => unreachable!("the library tells units 0 to 2"),
+        };
+        Ok(Received { event, unit })
+    }
+
+    /// The application is done with an AD unit, so that its buffer is free again (E10);
+    /// `Release` where none is taken.
+    ///
+    /// ```
+    /// use pondreszi::{frame, Receiver, ReceiverSettings, Refusal};
+    /// # let settings = ReceiverSettings {
+    /// #     spacecraft: 42, channel: 3, window: 20, vr: 250, buffers: 1,
+    /// # };
+    /// let mut receiver = Receiver::new(settings)?;
+    /// assert_eq!(receiver.release().unwrap_err().refusal, Refusal::Release);
+    /// receiver.frame(&frame::write_ad(42, 3, 250, b"unit")?)?;
+    /// receiver.release()?;
+    /// # Ok::<(), pondreszi::Refused>(())
+    /// ```
+    pub fn release(&mut self) -> Result<(), Refused> {
+        let mut event = 0;
+        let number = unsafe {
+            library::receiver_release(self.state.as_mut_ptr(), self.state.len(), &mut event)
+        };
+        judged(number)?;
+        Ok(())
+    }
+
+    /// The control word to send down.
+    ///
+    /// ```
+    /// use pondreszi::{clcw, Receiver, ReceiverSettings};
+    /// # let settings = ReceiverSettings {
+    /// #     spacecraft: 42, channel: 3, window: 20, vr: 250, buffers: 1,
+    /// # };
+    /// let octets = Receiver::new(settings)?.word();
+    /// assert_eq!(clcw::read(&octets, 3)?.unwrap().word.report, 250);
+    /// # Ok::<(), pondreszi::Refused>(())
+    /// ```
+    pub fn word(&self) -> [u8; CLCW_OCTETS] {
+        written_word(&self.state).expect("a receiver always has a control word")
+    }
+
+    /// The state of table 7-9.
+    pub fn state(&self) -> ReceiverState {
+        match self.state[2] {
+            1 => ReceiverState::Open,
+            2 => ReceiverState::Wait,
+            _ => ReceiverState::Lockout,
+        }
+    }
+
+    /// V(R), the number expected next.
+    pub fn vr(&self) -> u8 {
+        self.state[9]
+    }
+
+    /// The buffers for AD units that are taken.
+    pub fn buffers_taken(&self) -> u8 {
+        self.state[8]
+    }
+}
+
+fn written_word(state: &[u8]) -> Result<[u8; CLCW_OCTETS], Refused> {
+    let mut output = [0; CLCW_OCTETS];
+    let mut count = 0;
+    let number = unsafe {
+        library::receiver_word(
+            state.as_ptr(),
+            state.len(),
+            output.as_mut_ptr(),
+            output.len(),
+            &mut count,
+        )
+    };
+    judged(number)?;
+    Ok(output)
+}

@@ -1,0 +1,716 @@
+use std::error::Error;
+use std::fmt;
+
+use crate::library;
+use crate::refusal::judged;
+use crate::{Refusal, Refused, LARGEST_FRAME, SENDER_STATE_OCTETS, STORE_OCTETS};
+
+/// The octets of an answer, and where its parts stand.
+const ANSWER_OCTETS: usize = 17;
+const EVENT: usize = 1;
+const STATE: usize = 2;
+const FRAME: usize = 3;
+const ABORT: usize = 5;
+const ALERT: usize = 6;
+const RESPONSES: usize = 8;
+const FIRST_RESPONSE: usize = 9;
+const CONFIRMED: usize = 13;
+const DENIED: usize = 15;
+
+/// What a sender starts with.
+#[derive(Clone, Copy, PartialEq, Eq, Debug)]
+pub struct SenderSettings {
+    /// FOP_Sliding_Window_Width K, 1 to 32, and at most PW of the receiver.
+    pub k: u8,
+    /// T1_Initial in ticks, at least 1.
+    pub t1_initial: u16,
+    /// Transmission_Limit, at least 1.
+    pub transmission_limit: u8,
+    /// The spacecraft, 0 to 1,023.
+    pub spacecraft: u16,
+    /// The virtual channel, 0 to 63.
+    pub channel: u8,
+    /// V(S), the number of the first AD unit.
+    pub vs: u8,
+    /// NN(R), as a rule the same; V(S) - NN(R) is at most 32.
+    pub nnr: u8,
+}
+
+/// The states of table 7-8.
+#[derive(Clone, Copy, PartialEq, Eq, Debug)]
+pub enum SenderState {
+    /// S1.
+    Active,
+    /// S2.
+    RetransmitWithoutWait,
+    /// S3.
+    RetransmitWithWait,
+    /// S4: a control word is awaited.
+    InitialisingWithoutBc,
+    /// S5: Unlock or Set V(R) was sent.
+    InitialisingWithBc,
+    /// S6: no AD service; after a start, an alert or Terminate.
+    Initial,
+}
+
+impl SenderState {
+    fn from_number(number: u8) -> SenderState {
+        match number {
+            1 => SenderState::Active,
+            2 => SenderState::RetransmitWithoutWait,
+            3 => SenderState::RetransmitWithWait,
+            4 => SenderState::InitialisingWithoutBc,
+            5 => SenderState::InitialisingWithBc,
+            _ => SenderState::Initial,
+        }
+    }
+}
+
+/// The directives of table 7-3.
+#[derive(Clone, Copy, PartialEq, Eq, Debug)]
+pub enum Directive {
+    /// Initiate AD service without CLCW check.
+    InitiateWithoutCheck,
+    /// Initiate AD service with CLCW check.
+    InitiateWithClcwCheck,
+    /// Initiate AD service with Unlock.
+    InitiateWithUnlock,
+    /// Initiate AD service with Set V(R).
+    InitiateWithSetVr(u8),
+    /// Terminate AD service.
+    Terminate,
+    /// Resume AD service: rejected for now, since nothing suspends.
+    Resume,
+    /// Set V(S), and NN(R) with it; in Initial only.
+    SetVs(u8),
+    /// Set K, 1 to 32.
+    SetK(u8),
+    /// Set T1_Initial, at least 1.
+    SetTimer(u16),
+    /// Set Transmission_Limit, at least 1.
+    SetTransmissionLimit(u8),
+    /// Set Timeout_Type, 0 only for now.
+    SetTimeoutType(u8),
+}
+
+impl Directive {
+    /// The directive's number and value.
+    pub fn number_and_value(self) -> (u32, u32) {
+        match self {
+            Directive::InitiateWithoutCheck => (1, 0),
+            Directive::InitiateWithClcwCheck => (2, 0),
+            Directive::InitiateWithUnlock => (3, 0),
+            Directive::InitiateWithSetVr(value) => (4, u32::from(value)),
+            Directive::Terminate => (5, 0),
+            Directive::Resume => (6, 0),
+            Directive::SetVs(value) => (7, u32::from(value)),
+            Directive::SetK(value) => (8, u32::from(value)),
+            Directive::SetTimer(value) => (9, u32::from(value)),
+            Directive::SetTransmissionLimit(value) => (10, u32::from(value)),
+            Directive::SetTimeoutType(value) => (11, u32::from(value)),
+        }
+    }
+}
+
+/// What the lower layer says to a frame handed down. Until its accept, no further frame of
+/// that type comes.
+#[derive(Clone, Copy, PartialEq, Eq, Debug)]
+#[repr(u8)]
+pub enum LowerLayer {
+    /// It took the AD frame.
+    AdAccept = 1,
+    /// It did not: alert LLIF.
+    AdReject = 2,
+    /// It took the BC frame.
+    BcAccept = 3,
+    /// It did not: alert LLIF.
+    BcReject = 4,
+    /// It took the BD frame.
+    BdAccept = 5,
+    /// It did not: alert LLIF.
+    BdReject = 6,
+}
+
+/// The responses of table 7-8 to requests and directives. What becomes of an AD unit later
+/// is told by the runs.
+#[derive(Clone, Copy, PartialEq, Eq, Debug)]
+pub enum Response {
+    /// The AD unit got its number and was handed down.
+    AcceptAd,
+    /// The AD unit was not taken, or was waiting and is dropped.
+    RejectAd,
+    /// The lower layer took the BD frame.
+    AcceptBd,
+    /// BD_Out_Flag is Not_Ready.
+    RejectBd,
+    /// The directive is begun.
+    AcceptDirective,
+    /// The directive is not for this state, or invalid.
+    RejectDirective,
+    /// The directive is done: positive confirm.
+    ConfirmDirective,
+    /// The directive failed: negative confirm.
+    DenyDirective,
+}
+
+impl Response {
+    fn from_number(number: u8) -> Response {
+        match number {
+            1 => Response::AcceptAd,
+            2 => Response::RejectAd,
+            3 => Response::AcceptBd,
+            4 => Response::RejectBd,
+            5 => Response::AcceptDirective,
+            6 => Response::RejectDirective,
+            7 => Response::ConfirmDirective,
+            8 => Response::DenyDirective,
+            _ => unreachable!("the library tells responses 1 to 8"),
+        }
+    }
+}
+
+/// Why the AD service ended (table 7-4). The units outstanding are denied, a unit that waits
+/// is rejected, the timer stops, and the sender is Initial.
+#[derive(Clone, Copy, PartialEq, Eq, Debug)]
+pub enum Alert {
+    /// Report value and flags contradict the state.
+    Synch,
+    /// An invalid control word, or flags that cannot stand together.
+    Clcw,
+    /// At a transmission limit of 1, a control word asked for retransmission.
+    Limit,
+    /// NN(R): a report value that cannot be.
+    Nnr,
+    /// The receiver is locked out.
+    Lockout,
+    /// The timer expired at the transmission limit, or while a control word was awaited.
+    T1,
+    /// Terminate was asked.
+    Term,
+    /// The lower layer rejected a frame.
+    Llif,
+}
+
+impl Alert {
+    fn from_number(number: u8) -> Option<Alert> {
+        match number {
+            0 => None,
+            1 => Some(Alert::Synch),
+            2 => Some(Alert::Clcw),
+            3 => Some(Alert::Limit),
+            4 => Some(Alert::Nnr),
+            5 => Some(Alert::Lockout),
+            6 => Some(Alert::T1),
+            7 => Some(Alert::Term),
+            8 => Some(Alert::Llif),
+            _ => unreachable!("the library tells alerts 0 to 8"),
+        }
+    }
+}
+
+/// AD units whose numbers follow one another; 0 and 0 where there is none.
+#[derive(Clone, Copy, PartialEq, Eq, Debug, Default)]
+pub struct Run {
+    /// The number of the first unit.
+    pub first: u8,
+    /// How many.
+    pub count: u8,
+}
+
+impl Run {
+    /// The numbers, counted modulo 256.
+    ///
+    /// ```
+    /// let run = pondreszi::Run { first: 254, count: 3 };
+    /// assert_eq!(run.numbers().collect::<Vec<u8>>(), [254, 255, 0]);
+    /// ```
+    pub fn numbers(self) -> impl Iterator<Item = u8> {
+        (0..self.count).map(move |i| self.first.wrapping_add(i))
+    }
+}
+
+/// The answer to an event.
+#[derive(Clone, PartialEq, Eq, Debug)]
+pub struct Answer {
+    /// The row of table 7-8, 1 to 46 or 101 to 104; 0 where the event is none of them.
+    pub event: u8,
+    /// The next state.
+    pub state: SenderState,
+    /// The frame handed down, if any.
+    pub frame: Option<Vec<u8>>,
+    /// The lower layer is to drop AD and BC frames that it still holds.
+    pub abort: bool,
+    /// The responses in their order.
+    pub responses: Vec<Response>,
+    /// The alert, if any.
+    pub alert: Option<Alert>,
+    /// The units accepted on board, as is now known.
+    pub confirmed: Run,
+    /// The units of which it will not be known.
+    pub denied: Run,
+}
+
+impl Answer {
+    fn of(octets: &[u8; ANSWER_OCTETS], output: &[u8]) -> Answer {
+        let down = usize::from(u16::from_be_bytes([octets[FRAME], octets[FRAME + 1]]));
+        let responses = &octets[FIRST_RESPONSE..][..usize::from(octets[RESPONSES])];
+        Answer {
+            event: octets[EVENT],
+            state: SenderState::from_number(octets[STATE]),
+            frame: (down > 0).then(|| output[..down].to_vec()),
+            abort: octets[ABORT] != 0,
+            responses: responses
+                .iter()
+                .map(|r| Response::from_number(*r))
+                .collect(),
+            alert: Alert::from_number(octets[ALERT]),
+            confirmed: Run {
+                first: octets[CONFIRMED],
+                count: octets[CONFIRMED + 1],
+            },
+            denied: Run {
+                first: octets[DENIED],
+                count: octets[DENIED + 1],
+            },
+        }
+    }
+}
+
+/// An event that was refused, and so changed nothing. The answer tells the state, and of an
+/// invalid directive the reject.
+#[derive(Clone, PartialEq, Eq, Debug)]
+pub struct RefusedEvent {
+    /// Why.
+    pub refusal: Refusal,
+    /// The answer.
+    pub answer: Answer,
+}
+
+impl fmt::Display for RefusedEvent {
+    fn fmt(&self, f: &mut fmt::Formatter<'_>) -> fmt::Result {
+        self.refusal.fmt(f)
+    }
+}
+
+impl Error for RefusedEvent {
+    fn source(&self) -> Option<&(dyn Error + 'static)> {
+        Some(&self.refusal)
+    }
+}
+
+impl From<RefusedEvent> for Refused {
+    fn from(refused: RefusedEvent) -> Refused {
+        refused.refusal.into()
+    }
+}
+
+/// FOP-1, the sender (table 7-8), with its store of units.
+///
+/// Frames handed down are in the answers; each wants an accept or reject of the lower layer
+/// ([`Sender::lower_layer`]) before the next of its type comes.
+#[derive(Clone, PartialEq, Eq)]
+pub struct Sender {
+    state: [u8; SENDER_STATE_OCTETS],
+    store: Box<[u8]>,
+}
+
+impl fmt::Debug for Sender {
+    fn fmt(&self, f: &mut fmt::Formatter<'_>) -> fmt::Result {
+        f.debug_struct("Sender")
+            .field("state", &self.state())
+            .field("vs", &self.vs())
+            .field("nnr", &self.nnr())
+            .field("timer", &self.timer())
+            .field("sent", &self.sent())
+            .field("waiting", &self.waiting())
+            .finish_non_exhaustive()
+    }
+}
+
+/// The four buffers that every event lends, as pointers and lengths.
+struct Lent {
+    state: *mut u8,
+    store: *mut u8,
+    store_len: usize,
+    output: *mut u8,
+    answer: *mut u8,
+}
+
+impl Sender {
+    /// A sender at its start: Initial, queues empty, flags Ready, timer stopped.
+    ///
+    /// ```
+    /// use pondreszi::{Refusal, Sender, SenderSettings, SenderState};
+    /// let settings = SenderSettings {
+    ///     k: 10, t1_initial: 50, transmission_limit: 3,
+    ///     spacecraft: 42, channel: 3, vs: 0, nnr: 0,
+    /// };
+    /// assert_eq!(Sender::new(settings)?.state(), SenderState::Initial);
+    /// let wide = SenderSettings { k: 33, ..settings };
+    /// assert_eq!(Sender::new(wide).unwrap_err().refusal, Refusal::Setting);
+    /// # Ok::<(), pondreszi::Refused>(())
+    /// ```
+    pub fn new(settings: SenderSettings) -> Result<Sender, Refused> {
+        let mut state = [0; SENDER_STATE_OCTETS];
+        let store = vec![0; STORE_OCTETS].into_boxed_slice();
+        let number = unsafe {
+            library::sender_new(
+                settings.k,
+                settings.t1_initial,
+                settings.transmission_limit,
+                settings.spacecraft,
+                settings.channel,
+                settings.vs,
+                settings.nnr,
+                store.as_ptr(),
+                store.len(),
+                state.as_mut_ptr(),
+                state.len(),
+            )
+        };
+        judged(number)?;
+        Ok(Sender { state, store })
+    }
+
+    /// A sender from octets and a store that were kept together; `Setting` where the octets
+    /// are no state, `Room` where the store is under 8,217 octets.
+    ///
+    /// ```
+    /// use pondreszi::{Refusal, Sender, SenderSettings};
+    /// # let settings = SenderSettings {
+    /// #     k: 10, t1_initial: 50, transmission_limit: 3,
+    /// #     spacecraft: 42, channel: 3, vs: 0, nnr: 0,
+    /// # };
+    /// let sender = Sender::new(settings)?;
+    /// let mut kept = sender.octets().to_vec();
+    /// assert_eq!(Sender::restore(&kept, sender.store().into())?, sender);
+    /// kept[3] = 0;
+    /// let refused = Sender::restore(&kept, sender.store().into()).unwrap_err();
+    /// assert_eq!(refused.refusal, Refusal::Setting);
+    /// # Ok::<(), pondreszi::Refused>(())
+    /// ```
+    pub fn restore(octets: &[u8], store: Box<[u8]>) -> Result<Sender, Refused> {
+        let Ok(state) = octets.try_into() else {
+            return Err(Refusal::Setting.into());
+        };
+        let mut sender = Sender { state, store };
+        // An empty control word is refused with `Length` by every sender, and changes
+        // nothing; octets that are no state are refused before.
+        let refused = sender.control_word_raw(&[]).0;
+        if refused == Refusal::Setting.number() {
+            return Err(Refusal::Setting.into());
+        }
+        if sender.store.len() < STORE_OCTETS {
+            return Err(Refusal::Room.into());
+        }
+        Ok(sender)
+    }
+
+    /// The state, to be kept over a reset together with the store.
+    pub fn octets(&self) -> &[u8; SENDER_STATE_OCTETS] {
+        &self.state
+    }
+
+    /// The store of units.
+    pub fn store(&self) -> &[u8] {
+        &self.store
+    }
+
+    /// A unit of 1 to 249 octets for the AD service: in sequence, and sent again until it is
+    /// confirmed or denied.
+    ///
+    /// One unit can wait, for the window or the lower layer; its accept then comes with a
+    /// later event. A further one is rejected.
+    ///
+    /// ```
+    /// use pondreszi::{Directive, LowerLayer, Refusal, Response, Sender, SenderSettings};
+    /// # let settings = SenderSettings {
+    /// #     k: 10, t1_initial: 50, transmission_limit: 3,
+    /// #     spacecraft: 42, channel: 3, vs: 0, nnr: 0,
+    /// # };
+    /// let mut sender = Sender::new(settings)?;
+    /// assert_eq!(sender.request_ad(b"early")?.responses, [Response::RejectAd]);
+    /// sender.directive(Directive::InitiateWithoutCheck)?;
+    /// assert_eq!(sender.request_ad(b"first")?.responses, [Response::AcceptAd]);
+    /// assert!(sender.request_ad(b"second")?.responses.is_empty());
+    /// assert_eq!(sender.request_ad(b"third")?.responses, [Response::RejectAd]);
+    /// let answer = sender.lower_layer(LowerLayer::AdAccept)?;
+    /// assert_eq!(answer.responses, [Response::AcceptAd]);
+    /// assert!(answer.frame.is_some());
+    /// assert_eq!(sender.request_ad(b"").unwrap_err().refusal, Refusal::Length);
+    /// # Ok::<(), pondreszi::Refused>(())
+    /// ```
+    pub fn request_ad(&mut self, unit: &[u8]) -> Result<Answer, RefusedEvent> {
+        self.event(|lent| unsafe {
+            library::sender_request_ad(
+                lent.state,
+                SENDER_STATE_OCTETS,
+                unit.as_ptr(),
+                unit.len(),
+                lent.store,
+                lent.store_len,
+                lent.output,
+                LARGEST_FRAME,
+                lent.answer,
+                ANSWER_OCTETS,
+            )
+        })
+    }
+
+    /// A unit of 1 to 249 octets for the BD service: sent once, in any state, never confirmed.
+    ///
+    /// ```
+    /// use pondreszi::{LowerLayer, Response, Sender, SenderSettings};
+    /// # let settings = SenderSettings {
+    /// #     k: 10, t1_initial: 50, transmission_limit: 3,
+    /// #     spacecraft: 42, channel: 3, vs: 0, nnr: 0,
+    /// # };
+    /// let mut sender = Sender::new(settings)?;
+    /// assert!(sender.request_bd(b"unit")?.frame.is_some());
+    /// assert_eq!(sender.request_bd(b"unit")?.responses, [Response::RejectBd]);
+    /// let answer = sender.lower_layer(LowerLayer::BdAccept)?;
+    /// assert_eq!(answer.responses, [Response::AcceptBd]);
+    /// # Ok::<(), pondreszi::Refused>(())
+    /// ```
+    pub fn request_bd(&mut self, unit: &[u8]) -> Result<Answer, RefusedEvent> {
+        self.event(|lent| unsafe {
+            library::sender_request_bd(
+                lent.state,
+                SENDER_STATE_OCTETS,
+                unit.as_ptr(),
+                unit.len(),
+                lent.store,
+                lent.store_len,
+                lent.output,
+                LARGEST_FRAME,
+                lent.answer,
+                ANSWER_OCTETS,
+            )
+        })
+    }
+
+    /// A directive.
+    ///
+    /// ```
+    /// use pondreszi::{Directive, Refusal, Response, Sender, SenderSettings, SenderState};
+    /// # let settings = SenderSettings {
+    /// #     k: 10, t1_initial: 50, transmission_limit: 3,
+    /// #     spacecraft: 42, channel: 3, vs: 0, nnr: 0,
+    /// # };
+    /// let mut sender = Sender::new(settings)?;
+    /// let answer = sender.directive(Directive::InitiateWithUnlock)?;
+    /// assert_eq!(answer.state, SenderState::InitialisingWithBc);
+    /// assert_eq!(answer.frame.unwrap().len(), 8);
+    ///
+    /// let refused = sender.directive(Directive::SetK(33)).unwrap_err();
+    /// assert_eq!(refused.refusal, Refusal::Setting);
+    /// assert_eq!(refused.answer.event, 40);
+    /// assert_eq!(refused.answer.responses, [Response::RejectDirective]);
+    /// # Ok::<(), pondreszi::Refused>(())
+    /// ```
+    pub fn directive(&mut self, directive: Directive) -> Result<Answer, RefusedEvent> {
+        let (number, value) = directive.number_and_value();
+        self.directive_raw(number, value)
+    }
+
+    /// A directive by its number, 1 to 11, and value. Any other number, or a value outside its
+    /// limit, is the invalid directive: `Setting`, with the reject in the answer.
+    ///
+    /// ```
+    /// use pondreszi::{Refusal, Sender, SenderSettings};
+    /// # let settings = SenderSettings {
+    /// #     k: 10, t1_initial: 50, transmission_limit: 3,
+    /// #     spacecraft: 42, channel: 3, vs: 0, nnr: 0,
+    /// # };
+    /// let mut sender = Sender::new(settings)?;
+    /// sender.directive_raw(9, 65_535)?;
+    /// assert_eq!(sender.directive_raw(9, 65_536).unwrap_err().refusal, Refusal::Setting);
+    /// assert_eq!(sender.directive_raw(12, 0).unwrap_err().refusal, Refusal::Setting);
+    /// # Ok::<(), pondreszi::Refused>(())
+    /// ```
+    pub fn directive_raw(&mut self, number: u32, value: u32) -> Result<Answer, RefusedEvent> {
+        self.event(|lent| unsafe {
+            library::sender_directive(
+                lent.state,
+                SENDER_STATE_OCTETS,
+                number,
+                value,
+                lent.store,
+                lent.store_len,
+                lent.output,
+                LARGEST_FRAME,
+                lent.answer,
+                ANSWER_OCTETS,
+            )
+        })
+    }
+
+    /// A tick of the clock that T1 is counted in: a running timer falls by one, and the tick
+    /// that makes it 0 is its expiry.
+    ///
+    /// ```
+    /// use pondreszi::{Alert, Directive, Sender, SenderSettings};
+    /// # let settings = SenderSettings {
+    /// #     k: 10, t1_initial: 50, transmission_limit: 3,
+    /// #     spacecraft: 42, channel: 3, vs: 0, nnr: 0,
+    /// # };
+    /// let mut sender = Sender::new(SenderSettings {
+    ///     t1_initial: 2, transmission_limit: 1, ..settings
+    /// })?;
+    /// sender.directive(Directive::InitiateWithoutCheck)?;
+    /// sender.request_ad(b"unit")?;
+    /// assert_eq!(sender.tick()?.alert, None);
+    /// let answer = sender.tick()?;
+    /// assert_eq!(answer.alert, Some(Alert::T1));
+    /// assert_eq!(answer.denied.count, 1);
+    /// # Ok::<(), pondreszi::Refused>(())
+    /// ```
+    pub fn tick(&mut self) -> Result<Answer, RefusedEvent> {
+        self.event(|lent| unsafe {
+            library::sender_tick(
+                lent.state,
+                SENDER_STATE_OCTETS,
+                lent.store,
+                lent.store_len,
+                lent.output,
+                LARGEST_FRAME,
+                lent.answer,
+                ANSWER_OCTETS,
+            )
+        })
+    }
+
+    /// The lower layer's accept or reject of a frame handed down.
+    ///
+    /// ```
+    /// use pondreszi::{Alert, LowerLayer, Sender, SenderSettings};
+    /// # let settings = SenderSettings {
+    /// #     k: 10, t1_initial: 50, transmission_limit: 3,
+    /// #     spacecraft: 42, channel: 3, vs: 0, nnr: 0,
+    /// # };
+    /// let mut sender = Sender::new(settings)?;
+    /// sender.request_bd(b"unit")?;
+    /// let answer = sender.lower_layer(LowerLayer::BdReject)?;
+    /// assert_eq!(answer.alert, Some(Alert::Llif));
+    /// # Ok::<(), pondreszi::Refused>(())
+    /// ```
+    pub fn lower_layer(&mut self, said: LowerLayer) -> Result<Answer, RefusedEvent> {
+        self.event(|lent| unsafe {
+            library::sender_lower_layer(
+                lent.state,
+                SENDER_STATE_OCTETS,
+                said as u8,
+                lent.store,
+                lent.store_len,
+                lent.output,
+                LARGEST_FRAME,
+                lent.answer,
+                ANSWER_OCTETS,
+            )
+        })
+    }
+
+    /// A control word from the receiver, any octets. An invalid one is an event, since it ends
+    /// the AD service; `Length` where it is not of four octets, `Address` where it is another
+    /// channel's.
+    ///
+    /// ```
+    /// use pondreszi::{Alert, Directive, Refusal, Sender, SenderSettings};
+    /// # let settings = SenderSettings {
+    /// #     k: 10, t1_initial: 50, transmission_limit: 3,
+    /// #     spacecraft: 42, channel: 3, vs: 0, nnr: 0,
+    /// # };
+    /// let mut sender = Sender::new(settings)?;
+    /// sender.directive(Directive::InitiateWithoutCheck)?;
+    /// let other = [0x01, 0x10, 0, 0];
+    /// assert_eq!(sender.control_word(&other).unwrap_err().refusal, Refusal::Address);
+    /// let invalid = [0x81, 0x0C, 0, 0];
+    /// assert_eq!(sender.control_word(&invalid)?.alert, Some(Alert::Clcw));
+    /// # Ok::<(), pondreszi::Refused>(())
+    /// ```
+    pub fn control_word(&mut self, word: &[u8]) -> Result<Answer, RefusedEvent> {
+        let (number, answer) = self.control_word_raw(word);
+        concluded(number, answer)
+    }
+
+    fn control_word_raw(&mut self, word: &[u8]) -> (u8, Answer) {
+        self.call(|lent| unsafe {
+            library::sender_control_word(
+                lent.state,
+                SENDER_STATE_OCTETS,
+                word.as_ptr(),
+                word.len(),
+                lent.store,
+                lent.store_len,
+                lent.output,
+                LARGEST_FRAME,
+                lent.answer,
+                ANSWER_OCTETS,
+            )
+        })
+    }
+
+    fn event(&mut self, call: impl FnOnce(Lent) -> u8) -> Result<Answer, RefusedEvent> {
+        let (number, answer) = self.call(call);
+        concluded(number, answer)
+    }
+
+    /// Room for any frame is lent, so that no event is short of it.
+    fn call(&mut self, call: impl FnOnce(Lent) -> u8) -> (u8, Answer) {
+        let mut output = [0; LARGEST_FRAME];
+        let mut answer = [0; ANSWER_OCTETS];
+        let number = call(Lent {
+            state: self.state.as_mut_ptr(),
+            store: self.store.as_mut_ptr(),
+            store_len: self.store.len(),
+            output: output.as_mut_ptr(),
+            answer: answer.as_mut_ptr(),
+        });
+        (number, Answer::of(&answer, &output))
+    }
+
+    /// The state of table 7-8.
+    pub fn state(&self) -> SenderState {
+        SenderState::from_number(self.state[2])
+    }
+
+    /// V(S), the number that the next AD unit gets.
+    pub fn vs(&self) -> u8 {
+        self.state[11]
+    }
+
+    /// NN(R), the number of the oldest AD unit not confirmed.
+    pub fn nnr(&self) -> u8 {
+        self.state[12]
+    }
+
+    /// The ticks left of the timer; none where it is stopped.
+    pub fn timer(&self) -> Option<u16> {
+        match u16::from_be_bytes([self.state[13], self.state[14]]) {
+            0 => None,
+            ticks => Some(ticks),
+        }
+    }
+
+    /// The units on the sent queue: sent, neither confirmed nor denied.
+    pub fn sent(&self) -> u8 {
+        self.state[18]
+    }
+
+    /// Those of them that are to be sent again, always the last ones.
+    pub fn marked(&self) -> u8 {
+        self.state[19]
+    }
+
+    /// Whether a unit waits.
+    pub fn waiting(&self) -> bool {
+        self.state[16] & 8 != 0
+    }
+}
+
+fn concluded(number: u8, answer: Answer) -> Result<Answer, RefusedEvent> {
+    match judged(number) {
+        Ok(()) => Ok(answer),
+        Err(refusal) => Err(RefusedEvent { refusal, answer }),
+    }
+}
