@@ -75,7 +75,7 @@ extern "C" {
 #define PONDRESZI_SMALLEST_TRANSMISSION_LIMIT 1
 #define PONDRESZI_LARGEST_TRANSMISSION_LIMIT 255
 
-#define PONDRESZI_STORE_OCTETS 8217 /* the sender's store: 32 units of 249 octets sent and one waiting */
+#define PONDRESZI_STORE_OCTETS 8217 /* the sender's store: 32 units of 249 octets sent and one waiting; keep nothing else in it */
 #define PONDRESZI_SENDER_STATE_OCTETS 88
 #define PONDRESZI_ANSWER_OCTETS 17
 #define PONDRESZI_RECEIVER_STATE_OCTETS 12

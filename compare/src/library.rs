@@ -96,6 +96,134 @@ mod c {
             counter: *mut u8,
             report: *mut u8,
         ) -> u8;
+        pub fn receiver_new(
+            spacecraft: u16,
+            channel: u8,
+            window: u8,
+            vr: u8,
+            buffers: u8,
+            state: *mut u8,
+            state_len: usize,
+        ) -> u8;
+        pub fn receiver_frame(
+            state: *mut u8,
+            state_len: usize,
+            frame: *const u8,
+            frame_len: usize,
+            event: *mut u8,
+            unit: *mut u8,
+            first: *mut u64,
+            count: *mut u64,
+        ) -> u8;
+        pub fn receiver_release(state: *mut u8, state_len: usize, event: *mut u8) -> u8;
+        pub fn receiver_word(
+            state: *const u8,
+            state_len: usize,
+            output: *mut u8,
+            output_len: usize,
+            count: *mut u64,
+        ) -> u8;
+        pub fn sender_new(
+            k: u8,
+            t1_initial: u16,
+            transmission_limit: u8,
+            spacecraft: u16,
+            channel: u8,
+            vs: u8,
+            nnr: u8,
+            store: *const u8,
+            store_len: usize,
+            state: *mut u8,
+            state_len: usize,
+        ) -> u8;
+        pub fn sender_request_ad(
+            state: *mut u8,
+            state_len: usize,
+            unit: *const u8,
+            unit_len: usize,
+            store: *mut u8,
+            store_len: usize,
+            output: *mut u8,
+            output_len: usize,
+            answer: *mut u8,
+            answer_len: usize,
+        ) -> u8;
+        pub fn sender_request_bd(
+            state: *mut u8,
+            state_len: usize,
+            unit: *const u8,
+            unit_len: usize,
+            store: *mut u8,
+            store_len: usize,
+            output: *mut u8,
+            output_len: usize,
+            answer: *mut u8,
+            answer_len: usize,
+        ) -> u8;
+        pub fn sender_directive(
+            state: *mut u8,
+            state_len: usize,
+            number: u32,
+            value: u32,
+            store: *mut u8,
+            store_len: usize,
+            output: *mut u8,
+            output_len: usize,
+            answer: *mut u8,
+            answer_len: usize,
+        ) -> u8;
+        pub fn sender_tick(
+            state: *mut u8,
+            state_len: usize,
+            store: *mut u8,
+            store_len: usize,
+            output: *mut u8,
+            output_len: usize,
+            answer: *mut u8,
+            answer_len: usize,
+        ) -> u8;
+        pub fn sender_lower_layer(
+            state: *mut u8,
+            state_len: usize,
+            number: u8,
+            store: *mut u8,
+            store_len: usize,
+            output: *mut u8,
+            output_len: usize,
+            answer: *mut u8,
+            answer_len: usize,
+        ) -> u8;
+        pub fn sender_control_word(
+            state: *mut u8,
+            state_len: usize,
+            word: *const u8,
+            word_len: usize,
+            store: *mut u8,
+            store_len: usize,
+            output: *mut u8,
+            output_len: usize,
+            answer: *mut u8,
+            answer_len: usize,
+        ) -> u8;
+    }
+}
+
+/// A buffer of which only the first `lent` octets are lent.
+#[derive(Clone, PartialEq, Eq, Debug)]
+pub struct Lent {
+    pub octets: Vec<u8>,
+    pub lent: usize,
+}
+
+impl Lent {
+    /// The lent octets.
+    pub fn seen(&self) -> &[u8] {
+        &self.octets[..self.lent]
+    }
+
+    fn pointer(&mut self) -> *mut u8 {
+        assert!(self.lent <= self.octets.len());
+        self.octets.as_mut_ptr()
     }
 }
 
@@ -286,5 +414,202 @@ pub fn clcw_read(octets: &mut [u8], channel: u8) -> clcw::Read {
         flags,
         counter,
         report,
+    }
+}
+
+/// What the receiver says of a frame.
+#[derive(Clone, Copy, PartialEq, Eq, Debug)]
+pub struct Received {
+    pub number: u8,
+    /// The event of Table 7-9.
+    pub event: u8,
+    /// 0 none, 1 AD, 2 BD.
+    pub unit: u8,
+    /// The unit's first octet in the frame, and the octets that it has.
+    pub first: u64,
+    pub count: u64,
+}
+
+pub fn receiver_new(
+    spacecraft: u16,
+    channel: u8,
+    [window, vr, buffers]: [u8; 3],
+    state: &mut Lent,
+) -> u8 {
+    unsafe {
+        c::receiver_new(
+            spacecraft,
+            channel,
+            window,
+            vr,
+            buffers,
+            state.pointer(),
+            state.lent,
+        )
+    }
+}
+
+pub fn receiver_frame(state: &mut Lent, frame: &mut [u8]) -> Received {
+    let mut event = UNWRITTEN_8;
+    let mut unit = UNWRITTEN_8;
+    let mut first = UNWRITTEN;
+    let mut count = UNWRITTEN;
+    let number = unsafe {
+        c::receiver_frame(
+            state.pointer(),
+            state.lent,
+            frame.as_mut_ptr(),
+            frame.len(),
+            &mut event,
+            &mut unit,
+            &mut first,
+            &mut count,
+        )
+    };
+    Received {
+        number,
+        event,
+        unit,
+        first,
+        count,
+    }
+}
+
+/// The number, and the event.
+pub fn receiver_release(state: &mut Lent) -> (u8, u8) {
+    let mut event = UNWRITTEN_8;
+    let number = unsafe { c::receiver_release(state.pointer(), state.lent, &mut event) };
+    (number, event)
+}
+
+pub fn receiver_word(state: &mut Lent, output: &mut Lent) -> Written {
+    let mut count = UNWRITTEN;
+    let number = unsafe {
+        c::receiver_word(
+            state.pointer(),
+            state.lent,
+            output.pointer(),
+            output.lent,
+            &mut count,
+        )
+    };
+    Written { number, count }
+}
+
+/// What a new sender is given.
+#[derive(Clone, Copy, PartialEq, Eq, Debug)]
+pub struct SenderSettings {
+    pub k: u8,
+    pub t1_initial: u16,
+    pub transmission_limit: u8,
+    pub spacecraft: u16,
+    pub channel: u8,
+    pub vs: u8,
+    pub nnr: u8,
+}
+
+pub fn sender_new(settings: &SenderSettings, store: &mut Lent, state: &mut Lent) -> u8 {
+    unsafe {
+        c::sender_new(
+            settings.k,
+            settings.t1_initial,
+            settings.transmission_limit,
+            settings.spacecraft,
+            settings.channel,
+            settings.vs,
+            settings.nnr,
+            store.pointer(),
+            store.lent,
+            state.pointer(),
+            state.lent,
+        )
+    }
+}
+
+/// An event of the sender.
+#[derive(Clone, PartialEq, Eq, Debug)]
+pub enum SenderEvent {
+    RequestAd(Vec<u8>),
+    RequestBd(Vec<u8>),
+    Directive { number: u32, value: u32 },
+    Tick,
+    LowerLayer(u8),
+    ControlWord(Vec<u8>),
+}
+
+/// What is lent with it.
+#[derive(Clone, PartialEq, Eq, Debug)]
+pub struct SenderMemory {
+    pub state: Lent,
+    pub store: Lent,
+    pub output: Lent,
+    pub answer: Lent,
+}
+
+/// Each event has its function.
+pub fn sender_event(event: &mut SenderEvent, memory: &mut SenderMemory) -> u8 {
+    let (state, state_len) = (memory.state.pointer(), memory.state.lent);
+    let (store, store_len) = (memory.store.pointer(), memory.store.lent);
+    let (output, output_len) = (memory.output.pointer(), memory.output.lent);
+    let (answer, answer_len) = (memory.answer.pointer(), memory.answer.lent);
+    match event {
+        SenderEvent::RequestAd(unit) => unsafe {
+            c::sender_request_ad(
+                state,
+                state_len,
+                unit.as_mut_ptr(),
+                unit.len(),
+                store,
+                store_len,
+                output,
+                output_len,
+                answer,
+                answer_len,
+            )
+        },
+        SenderEvent::RequestBd(unit) => unsafe {
+            c::sender_request_bd(
+                state,
+                state_len,
+                unit.as_mut_ptr(),
+                unit.len(),
+                store,
+                store_len,
+                output,
+                output_len,
+                answer,
+                answer_len,
+            )
+        },
+        SenderEvent::Directive { number, value } => unsafe {
+            c::sender_directive(
+                state, state_len, *number, *value, store, store_len, output, output_len, answer,
+                answer_len,
+            )
+        },
+        SenderEvent::Tick => unsafe {
+            c::sender_tick(
+                state, state_len, store, store_len, output, output_len, answer, answer_len,
+            )
+        },
+        SenderEvent::LowerLayer(number) => unsafe {
+            c::sender_lower_layer(
+                state, state_len, *number, store, store_len, output, output_len, answer, answer_len,
+            )
+        },
+        SenderEvent::ControlWord(word) => unsafe {
+            c::sender_control_word(
+                state,
+                state_len,
+                word.as_mut_ptr(),
+                word.len(),
+                store,
+                store_len,
+                output,
+                output_len,
+                answer,
+                answer_len,
+            )
+        },
     }
 }

@@ -1,28 +1,37 @@
-//! Compares the proved library with the independent side on fixed and random inputs, or
-//! the proved program of FARM-1 with the independent one.
+//! Compares the proved library with the independent side on fixed and random inputs, its
+//! sender and receiver with the independent ones event by event, or the proved program of
+//! FARM-1 with the independent one.
 //!
 //!   compare [COUNT] [--seed N] [--fault NAME]
 //!   compare --faults
+//!   compare --sender [EVENTS] [--seed N] [--fault NAME]
+//!   compare --receiver [EVENTS] [--seed N] [--fault NAME]
+//!   compare --session [EVENTS] [--seed N] [--fault NAME]
+//!   compare --sender --faults
+//!   compare --receiver --faults
 //!   compare --program [RUNS] [--seed N] [--fault NAME]
 //!   compare --program --lines LINES [--seed N] [--fault NAME]
 //!   compare --program --faults
 //!
 //! COUNT is the number of inputs, RUNS that of runs of the program, the fixed ones
 //! included, which are always compared; LINES is the length of one run, whose speed is
-//! told. Exit status: 0 no difference; 1 differences; 2 bad usage; 3 no difference, but
-//! no random input met a number, or a kind, that the operation can answer, or no run met
-//! something that FARM-1 can come to; 4 the proved program can't be started, or does not
-//! end.
+//! told; EVENTS is the number of events of all runs. Exit status: 0 no difference; 1
+//! differences; 2 bad usage; 3 no difference, but no random input met a number, or a
+//! kind, that the operation can answer, or no run met something that FARM-1 or FOP-1 can
+//! come to; 4 the proved program can't be started, or does not end.
 
 mod cases;
 mod check;
+mod ends;
 mod inputs;
 mod library;
+mod octets;
 mod program;
 mod random;
 
 use cases::OPERATIONS;
 use check::Tally;
+use ends::Mode;
 use independent::fault::{Fault, FAULTS};
 use random::Random;
 use std::process::ExitCode;
@@ -44,11 +53,16 @@ fn main() -> ExitCode {
         }
         return ExitCode::from(0);
     }
-    if words.first().is_some_and(|word| word == "--program") {
-        return program::main(&words[1..]);
+    match words.first().map(String::as_str) {
+        Some("--program") => return program::main(&words[1..]),
+        Some("--sender") => return ends::main(Mode::Sender, &words[1..]),
+        Some("--receiver") => return ends::main(Mode::Receiver, &words[1..]),
+        Some("--session") => return ends::main(Mode::Session, &words[1..]),
+        _ => (),
     }
     let Some(settings) = read_settings(&words) else {
         eprintln!("usage: compare [COUNT] [--seed N] [--fault NAME]\n       compare --faults");
+        eprintln!("{}", ends::USAGE);
         eprintln!("{}", program::USAGE);
         return ExitCode::from(2);
     };

@@ -250,14 +250,28 @@ impl Sender {
         units
     }
 
-    /// Takes an event with so much room lent for a frame. A refused event changes
-    /// nothing (document 01, FOP-1: 10, 12, 7, 11, then the table).
+    /// Takes an event with the store and so much room lent for a frame.
     pub fn take(&mut self, event: &Event, room: usize, fault: Fault) -> Answer {
+        self.take_with_store(event, STORE, room, fault)
+    }
+
+    /// Takes an event with so long a store and so much room for a frame lent. A refused
+    /// event changes nothing (document 01, FOP-1: 10, 12, 7, 11, then the table).
+    pub fn take_with_store(
+        &mut self,
+        event: &Event,
+        store: usize,
+        room: usize,
+        fault: Fault,
+    ) -> Answer {
         let mut next = self.clone();
         let occurrence = match self.judge(event, fault) {
             Err(refusal) => return self.refuse(event, refusal),
             Ok(occurrence) => occurrence,
         };
+        if store < STORE {
+            return Answer::refused(ROOM, self.state);
+        }
         if *event == Event::Tick {
             next.timer = next.timer.saturating_sub(1);
         }

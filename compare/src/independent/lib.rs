@@ -21,6 +21,14 @@ pub mod session_random;
 pub mod table_7_8;
 
 #[cfg(test)]
+extern crate self as independent;
+
+#[cfg(test)]
+#[allow(dead_code)]
+#[path = "../octets.rs"]
+mod octets;
+
+#[cfg(test)]
 #[allow(dead_code)]
 #[path = "../random.rs"]
 mod random;

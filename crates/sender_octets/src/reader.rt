@@ -146,7 +146,7 @@ fn queues_in(octets: &[u8]) -> Queues
 }
 
 // The state.
-pub fn state_in(octets: &[u8]) -> Sender
+pub(crate) fn state_in(octets: &[u8]) -> Sender
     requires { ⌜ length (now octets) ≡ 88 ⌝ }
     ensures { λ r. ⌜ r ≡ stateIn (now (octets .entry)) ⌝ }
 {

@@ -1,0 +1,281 @@
+//! Random runs of a receiver.
+
+use super::{compare_octets, damage, receiver_end, refusal, Counts, Report, Settings};
+use crate::check::Tally;
+use crate::inputs::farm1_frames::{self as inputs, Start};
+use crate::inputs::lent;
+use crate::library::{self, Lent};
+use crate::octets::{no_receiver_state, RECEIVER_STATE};
+use crate::random::Random;
+use independent::bits;
+use independent::clcw;
+use independent::farm1::{self, Arrival, Farm1, EVENTS, STATES};
+use independent::fault::Fault;
+use independent::frame;
+use independent::refusal::{
+    ADDRESS, CHECK, COMMAND, DONE, FILL, HEADER, LENGTH, RELEASE, ROOM, SETTING, SHORT,
+};
+use independent::session::{carried, Received};
+
+const REFUSALS: [u8; 11] = [
+    DONE, SHORT, FILL, HEADER, ADDRESS, CHECK, COMMAND, LENGTH, ROOM, SETTING, RELEASE,
+];
+
+const KINDS: [&str; 8] = [
+    "new",
+    "new refused",
+    "frame",
+    "release",
+    "word",
+    "AD unit",
+    "BD unit",
+    "no state",
+];
+
+/// Both receivers, and their address.
+struct Pair {
+    state: Lent,
+    farm: Farm1,
+    spacecraft: u16,
+    channel: u8,
+}
+
+struct Met {
+    kinds: Counts,
+    refusals: Counts,
+    cells: Counts,
+}
+
+impl Met {
+    fn new() -> Met {
+        let cells = EVENTS.iter().flat_map(|event| {
+            let possible = STATES
+                .iter()
+                .filter(move |state| *event != farm1::Event::E1 || **state != farm1::State::Wait);
+            possible.map(move |state| format!("{event:?} {}", state.number()))
+        });
+        let kinds = KINDS.iter().map(|name| name.to_string());
+        Met {
+            kinds: Counts::new("kinds", kinds),
+            refusals: Counts::new("refusals", REFUSALS.iter().map(|number| refusal(*number))),
+            cells: Counts::new("cells", cells),
+        }
+    }
+}
+
+pub fn compare(settings: &Settings) -> Report {
+    let mut random = Random::new(settings.seed);
+    let mut met = Met::new();
+    let mut tally = Tally::new();
+    let mut runs = 0;
+    while tally.inputs < settings.events {
+        if let Some(pair) = start(&mut random, &mut tally, &mut met) {
+            runs += 1;
+            run(pair, settings, &mut random, &mut tally, &mut met);
+        }
+    }
+    Report {
+        tally,
+        runs,
+        counts: vec![met.kinds, met.refusals, met.cells],
+    }
+}
+
+/// A new receiver, where it is not refused.
+fn start(random: &mut Random, tally: &mut Tally, met: &mut Met) -> Option<Pair> {
+    let start = inputs::start(random);
+    let Start {
+        spacecraft,
+        channel,
+        variables: [window, v_r, buffers],
+    } = start;
+    let octets = match random.below(12) {
+        0 => random.below(RECEIVER_STATE),
+        1 => random.between(RECEIVER_STATE, RECEIVER_STATE + 20),
+        _ => RECEIVER_STATE,
+    };
+    let before = lent(random, octets);
+    let mut state = before.clone();
+    let number = library::receiver_new(spacecraft, channel, start.variables, &mut state);
+    let started = match spacecraft <= 1023 && channel <= 63 {
+        true => Farm1::start(window as usize, v_r as usize, buffers as usize),
+        false => Err(SETTING),
+    };
+    let expected = match &started {
+        Err(refusal) => *refusal,
+        Ok(_) if octets < RECEIVER_STATE => ROOM,
+        Ok(_) => DONE,
+    };
+    let mut differences = Vec::new();
+    if number != expected {
+        differences.push(format!("number {number}, not {expected}"));
+    }
+    let mut after = before.octets.clone();
+    if let (Ok(farm), DONE) = (&started, expected) {
+        let state = receiver_end::state(farm, spacecraft, channel);
+        after[..RECEIVER_STATE].copy_from_slice(state.seen());
+    }
+    compare_octets("state", &state, &after, &mut differences);
+    met.refusals.meet(&refusal(number));
+    met.kinds
+        .meet(if number == DONE { "new" } else { "new refused" });
+    tally.compared(differences.is_empty(), || {
+        format!("  new: {start:?}\n  {}\n", differences.join("\n  "))
+    });
+    if expected != DONE || !differences.is_empty() {
+        return None;
+    }
+    let farm = started.ok()?;
+    Some(Pair {
+        state: receiver_end::state(&farm, spacecraft, channel),
+        farm,
+        spacecraft,
+        channel,
+    })
+}
+
+/// The events of a receiver until they are enough, or differ.
+fn run(mut pair: Pair, settings: &Settings, random: &mut Random, tally: &mut Tally, met: &mut Met) {
+    let harm = *random.pick(&[4, 30, 300]);
+    for n in 0..random.between(50, 800) {
+        if tally.inputs >= settings.events {
+            return;
+        }
+        let before = pair.farm;
+        let differences = match random.below(20) {
+            0..=10 => pair.frame(random, harm, settings.fault, met),
+            11..=15 => pair.release(settings.fault, met),
+            16..=18 => pair.word(random, met),
+            _ => pair.no_state(random, met),
+        };
+        tally.compared(differences.is_empty(), || {
+            format!(
+                "  event {n} of the run, address {} {}, before it {before:?}\n  {}\n",
+                pair.spacecraft,
+                pair.channel,
+                differences.join("\n  ")
+            )
+        });
+        if !differences.is_empty() {
+            return;
+        }
+    }
+}
+
+impl Pair {
+    fn expected_state(&self) -> Lent {
+        receiver_end::state(&self.farm, self.spacecraft, self.channel)
+    }
+
+    fn meet_cell(&self, event: Result<farm1::Event, u8>, before: farm1::State, met: &mut Met) {
+        if let Ok(event) = event {
+            met.cells.meet(&format!("{event:?} {}", before.number()));
+        }
+    }
+
+    fn frame(
+        &mut self,
+        random: &mut Random,
+        harm: usize,
+        fault: Fault,
+        met: &mut Met,
+    ) -> Vec<String> {
+        let octets = inputs::frame(random, harm, &self.farm, self.spacecraft, self.channel);
+        let before = self.farm.state;
+        let read = frame::read(&octets, self.spacecraft, self.channel, Fault::None);
+        let arrival = match (read.number, read.kind) {
+            (DONE, frame::AD) => Arrival::Ad(read.value),
+            (DONE, frame::BD) => Arrival::Bd,
+            (DONE, frame::BC_UNLOCK) => Arrival::Unlock,
+            (DONE, _) => Arrival::SetVr(read.value),
+            _ => Arrival::InvalidFrame,
+        };
+        let event = self.farm.take(arrival, fault);
+        let is_unit = match event {
+            Ok(farm1::Event::E1) => before == farm1::State::Open,
+            Ok(farm1::Event::E6) => true,
+            _ => false,
+        };
+        let accepted = carried(&octets, self.spacecraft, self.channel).filter(|_| is_unit);
+        let received = Received {
+            event,
+            state: self.farm.state,
+            accepted,
+        };
+        let expected = receiver_end::expected_frame(read.number, &received);
+        met.kinds.meet("frame");
+        met.refusals.meet(&refusal(read.number));
+        match expected.unit {
+            1 => met.kinds.meet("AD unit"),
+            2 => met.kinds.meet("BD unit"),
+            _ => (),
+        }
+        self.meet_cell(event, before, met);
+        let state = self.expected_state();
+        receiver_end::frame(&mut self.state, &octets, &expected, &state)
+    }
+
+    fn release(&mut self, fault: Fault, met: &mut Met) -> Vec<String> {
+        let before = self.farm.state;
+        let event = self.farm.take(Arrival::Release, fault);
+        let received = Received {
+            event,
+            state: self.farm.state,
+            accepted: None,
+        };
+        let expected = receiver_end::expected_release(&received);
+        met.kinds.meet("release");
+        met.refusals.meet(&refusal(expected.0));
+        self.meet_cell(event, before, met);
+        let state = self.expected_state();
+        receiver_end::release(&mut self.state, expected, &state)
+    }
+
+    fn word(&mut self, random: &mut Random, met: &mut Met) -> Vec<String> {
+        let room = random.between(0, 8);
+        let output = lent(random, room);
+        met.kinds.meet("word");
+        met.refusals
+            .meet(&refusal(if room < 4 { ROOM } else { DONE }));
+        let word = word_of(&self.farm, self.channel);
+        receiver_end::word(&mut self.state, output, Ok(&word)).1
+    }
+
+    /// A call with octets that are no state. Octets that perhaps are one are passed over.
+    fn no_state(&mut self, random: &mut Random, met: &mut Met) -> Vec<String> {
+        let mut state = self.state.clone();
+        damage(random, &mut state);
+        if !no_receiver_state(state.seen()) {
+            return Vec::new();
+        }
+        met.kinds.meet("no state");
+        met.refusals.meet(&refusal(SETTING));
+        let before = state.clone();
+        match random.below(3) {
+            0 => {
+                let octets = inputs::frame(random, 8, &self.farm, self.spacecraft, self.channel);
+                let nothing = &receiver_end::NOTHING_RECEIVED;
+                receiver_end::frame(&mut state, &octets, nothing, &before)
+            }
+            1 => receiver_end::release(&mut state, (SETTING, 0), &before),
+            _ => {
+                let room = random.between(0, 8);
+                let output = lent(random, room);
+                receiver_end::word(&mut state, output, Err(SETTING)).1
+            }
+        }
+    }
+}
+
+/// The control word of a receiver.
+fn word_of(farm: &Farm1, channel: u8) -> Vec<u8> {
+    let report = clcw::Report {
+        channel,
+        lockout: farm.lockout_flag as u8,
+        wait: farm.wait_flag as u8,
+        retransmit: farm.retransmit_flag as u8,
+        counter: farm.farm_b_counter,
+        value: farm.v_r,
+    };
+    bits::to_octets(&clcw::encode(&report, Fault::None))
+}

@@ -1,0 +1,125 @@
+//! The library's receiver, and what it must be after an event.
+
+use super::compare_octets;
+use crate::inputs::GUARD;
+use crate::library::{self, Lent, Received};
+use crate::octets::{self, RECEIVER_STATE};
+use independent::farm1::{Event, Farm1};
+use independent::frame::{AD, BD};
+use independent::output::Written;
+use independent::refusal::{DONE, ROOM};
+use independent::session::{self, Carried};
+
+/// The octets of the primary header, of a control word.
+const HEADER: u64 = 5;
+const WORD: usize = 4;
+
+/// The octets of a receiver's state in a longer buffer.
+pub fn state(farm: &Farm1, spacecraft: u16, channel: u8) -> Lent {
+    let mut octets = octets::receiver_state(farm, spacecraft, channel).to_vec();
+    octets.resize(RECEIVER_STATE + GUARD, 0xA5);
+    Lent {
+        octets,
+        lent: RECEIVER_STATE,
+    }
+}
+
+fn event_number(event: Result<Event, u8>) -> u8 {
+    match event {
+        Ok(event) => event as u8 + 1,
+        Err(_) => 0,
+    }
+}
+
+/// What is said of a frame that is read with this number.
+pub fn expected_frame(number: u8, received: &session::Received) -> Received {
+    let (unit, first, count) = match &received.accepted {
+        None => (0, 0, 0),
+        Some(Carried { kind: AD, data, .. }) => (1, HEADER, data.len()),
+        Some(Carried { kind: BD, data, .. }) => (2, HEADER, data.len()),
+        Some(other) => unreachable!("{other:?} is no unit"),
+    };
+    Received {
+        number,
+        event: event_number(received.event),
+        unit,
+        first,
+        count: count as u64,
+    }
+}
+
+/// The number and the event of a release.
+pub fn expected_release(received: &session::Received) -> (u8, u8) {
+    let number = match received.event {
+        Ok(_) => DONE,
+        Err(refusal) => refusal,
+    };
+    (number, event_number(received.event))
+}
+
+/// Nothing is said where the octets are no state.
+pub const NOTHING_RECEIVED: Received = Received {
+    number: independent::refusal::SETTING,
+    event: 0,
+    unit: 0,
+    first: 0,
+    count: 0,
+};
+
+/// A frame comes to the library's receiver; its state is compared with the expected one.
+pub fn frame(
+    state: &mut Lent,
+    octets: &[u8],
+    expected: &Received,
+    expected_state: &Lent,
+) -> Vec<String> {
+    let mut frame = octets.to_vec();
+    let received = library::receiver_frame(state, &mut frame);
+    let mut differences = Vec::new();
+    if received != *expected {
+        differences.push(format!("frame: {received:?}, not {expected:?}"));
+    }
+    if frame != octets {
+        differences.push("the frame is changed".to_string());
+    }
+    compare_octets("state", state, &expected_state.octets, &mut differences);
+    differences
+}
+
+pub fn release(state: &mut Lent, expected: (u8, u8), expected_state: &Lent) -> Vec<String> {
+    let released = library::receiver_release(state);
+    let mut differences = Vec::new();
+    if released != expected {
+        differences.push(format!("release: {released:?}, not {expected:?}"));
+    }
+    compare_octets("state", state, &expected_state.octets, &mut differences);
+    differences
+}
+
+/// The control word, written into the output where it has room, or refused.
+pub fn word(
+    state: &mut Lent,
+    mut output: Lent,
+    expected: Result<&[u8], u8>,
+) -> (Vec<u8>, Vec<String>) {
+    let (state_before, mut output_after) = (state.octets.clone(), output.octets.clone());
+    let written = library::receiver_word(state, &mut output);
+    let expected = match expected {
+        Ok(word) if output.lent >= WORD => {
+            output_after[..WORD].copy_from_slice(word);
+            Written {
+                number: DONE,
+                count: WORD as u64,
+            }
+        }
+        Ok(_) => Written::refused(ROOM),
+        Err(refusal) => Written::refused(refusal),
+    };
+    let mut differences = Vec::new();
+    if written != expected {
+        differences.push(format!("word: {written:?}, not {expected:?}"));
+    }
+    compare_octets("state", state, &state_before, &mut differences);
+    compare_octets("output", &output, &output_after, &mut differences);
+    (output.octets[..WORD].to_vec(), differences)
+}

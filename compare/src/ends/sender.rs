@@ -1,0 +1,331 @@
+//! Random runs of a sender.
+
+use super::sender_end::{self, call, Call, Expected, SenderEnd};
+use super::{damage, refusal, Counts, Report, Settings};
+use crate::check::Tally;
+use crate::inputs::fop1::{self as inputs, Manner};
+use crate::library::{SenderEvent, SenderMemory};
+use crate::octets::ANSWER;
+use crate::random::Random;
+use independent::clcw;
+use independent::fault::Fault;
+use independent::fop1::{Sender, STORE};
+use independent::refusal::{ADDRESS, DONE, LENGTH, ROOM, SETTING};
+use independent::table_7_8::{cell, Cell, STATES, TABLE};
+
+/// These rows need a Timeout_Type of 1 or a Suspend_State: document 01, FOP-1.
+const ROWS_NEVER_MET: [u8; 6] = [18, 31, 32, 33, 34, 104];
+
+const KINDS: [&str; 34] = [
+    "new",
+    "new refused 11",
+    "new refused 12",
+    "AD request",
+    "BD request",
+    "directive 1",
+    "directive 2",
+    "directive 3",
+    "directive 4",
+    "directive 5",
+    "directive 6",
+    "directive 7",
+    "directive 8",
+    "directive 9",
+    "directive 10",
+    "directive 11",
+    "directive of another number",
+    "value above 65535",
+    "tick",
+    "AD_Accept",
+    "AD_Reject",
+    "BC_Accept",
+    "BC_Reject",
+    "BD_Accept",
+    "BD_Reject",
+    "lower layer of another number",
+    "word",
+    "word of another channel",
+    "word invalid",
+    "word of another length",
+    "frame handed down",
+    "unit of 249 octets",
+    "32 units sent",
+    "32 units sent and one waiting",
+];
+
+const LENDINGS: [&str; 6] = [
+    "whole",
+    "output too short",
+    "store too short",
+    "answer too short",
+    "no state",
+    "damaged and perhaps a state",
+];
+
+struct Met {
+    kinds: Counts,
+    lendings: Counts,
+    refusals: Counts,
+    states: Counts,
+    rows: Counts,
+    cells: Counts,
+}
+
+impl Met {
+    fn new() -> Met {
+        let text = |names: &[&str]| {
+            names
+                .iter()
+                .map(|name| name.to_string())
+                .collect::<Vec<_>>()
+        };
+        let rows = || {
+            TABLE
+                .iter()
+                .map(|row| row.event)
+                .filter(|row| !ROWS_NEVER_MET.contains(row))
+        };
+        let refusals = [DONE, ADDRESS, LENGTH, ROOM, SETTING].map(refusal);
+        let met_in = |row: u8| {
+            STATES
+                .into_iter()
+                .filter(move |state| cell(row, *state) != Cell::NotApplicable)
+                .map(move |state| cell_name(row, state.number()))
+        };
+        Met {
+            kinds: Counts::new("kinds", text(&KINDS).into_iter()),
+            lendings: Counts::new("lent", text(&LENDINGS).into_iter()),
+            refusals: Counts::new("refusals", refusals.into_iter()),
+            states: Counts::new("states", STATES.iter().map(|state| format!("{state:?}"))),
+            rows: Counts::new("rows", rows().map(|row| format!("E{row}"))),
+            // Some cells can't be come to.
+            cells: Counts {
+                required: false,
+                ..Counts::new("cells", rows().flat_map(met_in))
+            },
+        }
+    }
+}
+
+fn cell_name(row: u8, state: u8) -> String {
+    format!("E{row} S{state}")
+}
+
+pub fn compare(settings: &Settings) -> Report {
+    let mut random = Random::new(settings.seed);
+    let mut met = Met::new();
+    let mut tally = Tally::new();
+    let mut runs = 0;
+    while tally.inputs < settings.events {
+        let Some((end, sender)) = start(&mut random, &mut tally, &mut met) else {
+            continue;
+        };
+        runs += 1;
+        run(end, sender, settings, &mut random, &mut tally, &mut met);
+    }
+    Report {
+        tally,
+        runs,
+        counts: vec![
+            met.kinds,
+            met.lendings,
+            met.refusals,
+            met.states,
+            met.rows,
+            met.cells,
+        ],
+    }
+}
+
+/// A new sender, where it is not refused.
+fn start(random: &mut Random, tally: &mut Tally, met: &mut Met) -> Option<(SenderEnd, Sender)> {
+    let (settings, store, state) = inputs::start(random);
+    let (number, pair, differences) = sender_end::start(&settings, store, state);
+    met.refusals.meet(&refusal(number));
+    met.kinds.meet(match number {
+        DONE => "new",
+        ROOM => "new refused 11",
+        _ => "new refused 12",
+    });
+    tally.compared(differences.is_empty(), || {
+        format!("  new: {settings:?}\n  {}\n", differences.join("\n  "))
+    });
+    pair
+}
+
+/// The events of a sender until they are enough, or differ.
+fn run(
+    mut end: SenderEnd,
+    mut sender: Sender,
+    settings: &Settings,
+    random: &mut Random,
+    tally: &mut Tally,
+    met: &mut Met,
+) {
+    let manner = Manner::new(random);
+    for n in 0..random.between(100, 1500) {
+        if tally.inputs >= settings.events {
+            return;
+        }
+        let event = inputs::event(random, &manner, &sender);
+        let memory = memory(&event, &end, &sender, random, met);
+        let before = sender.clone();
+        let call = call(&event, memory);
+        let is_damaged = call.before.state != end.state;
+        let expected = match call.refused_at_once() {
+            Some(expected) => expected,
+            // Perhaps a state by chance, which is not judged.
+            None if is_damaged => {
+                met.lendings.meet("damaged and perhaps a state");
+                tally.compared(!call.beyond_lent(), || {
+                    format!("  event {n}: {event:?}\n  octets behind the lent ones are changed\n")
+                });
+                continue;
+            }
+            None => expected(&call, &mut sender, settings.fault),
+        };
+        if is_damaged {
+            met.lendings.meet("no state");
+        }
+        meet(&call, &expected, &before, met);
+        let differences = call.differences(&expected, &sender);
+        tally.compared(differences.is_empty(), || {
+            format!(
+                "  event {n} of the run: {}\n{}",
+                differences.join("\n  "),
+                call.show(&expected, &before)
+            )
+        });
+        if !differences.is_empty() {
+            return;
+        }
+        if !is_damaged {
+            end.keep(call);
+        }
+    }
+}
+
+/// What the independent sender answers.
+fn expected(call: &Call, sender: &mut Sender, fault: Fault) -> Expected {
+    let event = sender_end::independent_event(&call.event).expect("a good number");
+    let (store, room) = (call.before.store.lent, call.before.output.lent);
+    let answer = sender.take_with_store(&event, store, room, fault);
+    Expected {
+        number: answer.refusal,
+        answer: Some(answer),
+    }
+}
+
+/// What is lent: mostly enough.
+fn memory(
+    event: &SenderEvent,
+    end: &SenderEnd,
+    sender: &Sender,
+    random: &mut Random,
+    met: &mut Met,
+) -> SenderMemory {
+    let output = match random.below(24) {
+        0 => random.below(17),
+        1 => random.between(0, 260),
+        2 => need(event, sender),
+        3 => need(event, sender).saturating_sub(1),
+        _ => random.between(256, 260),
+    };
+    let answer = match random.below(4) {
+        0 => random.between(ANSWER, ANSWER + 20),
+        _ => ANSWER,
+    };
+    let mut memory = end.memory(random, output, answer);
+    match random.below(160) {
+        0 => memory.answer.lent = random.below(ANSWER),
+        1 => memory.store.lent = *random.pick(&[0, 249, STORE - 1, STORE - 249]),
+        2..=4 => damage(random, &mut memory.state),
+        _ => (),
+    }
+    if memory.answer.lent < ANSWER {
+        met.lendings.meet("answer too short");
+    } else if memory.store.lent < STORE {
+        met.lendings.meet("store too short");
+    } else if memory.state == end.state {
+        met.lendings.meet("whole");
+    }
+    memory
+}
+
+/// The octets of the frame that the event hands down, or some.
+fn need(event: &SenderEvent, sender: &Sender) -> usize {
+    let Some(event) = sender_end::independent_event(event) else {
+        return 0;
+    };
+    let answer = sender.clone().take(&event, usize::MAX, Fault::None);
+    answer.frame.map_or(8, |frame| frame.len())
+}
+
+fn meet(call: &Call, expected: &Expected, before: &Sender, met: &mut Met) {
+    met.refusals.meet(&refusal(call.number));
+    meet_event(&call.event, before, met);
+    match (before.sent_queue.len(), before.wait_queue.is_some()) {
+        (32, false) => met.kinds.meet("32 units sent"),
+        (32, true) => met.kinds.meet("32 units sent and one waiting"),
+        _ => (),
+    }
+    met.states.meet(&format!("S{}", before.state.number()));
+    let Some(answer) = &expected.answer else {
+        return;
+    };
+    if answer.refusal == ROOM && call.before.store.lent >= STORE {
+        met.lendings.meet("output too short");
+    }
+    if answer.row != 0 {
+        met.rows.meet(&format!("E{}", answer.row));
+        if cell(answer.row, before.state) != Cell::NotApplicable {
+            met.cells
+                .meet(&cell_name(answer.row, before.state.number()));
+        }
+    }
+    if answer.frame.is_some() {
+        met.kinds.meet("frame handed down");
+    }
+}
+
+fn meet_event(event: &SenderEvent, sender: &Sender, met: &mut Met) {
+    let lower = [
+        "AD_Accept",
+        "AD_Reject",
+        "BC_Accept",
+        "BC_Reject",
+        "BD_Accept",
+        "BD_Reject",
+    ];
+    let name = match event {
+        SenderEvent::RequestAd(_) => "AD request",
+        SenderEvent::RequestBd(_) => "BD request",
+        SenderEvent::Directive {
+            number: number @ 1..=11,
+            ..
+        } => KINDS[4 + *number as usize],
+        SenderEvent::Directive { .. } => "directive of another number",
+        SenderEvent::Tick => "tick",
+        SenderEvent::LowerLayer(number @ 1..=6) => lower[*number as usize - 1],
+        SenderEvent::LowerLayer(_) => "lower layer of another number",
+        SenderEvent::ControlWord(word) => {
+            let read = clcw::read(word, sender.channel, Fault::None);
+            match (read.number, read.valid) {
+                (LENGTH, _) => "word of another length",
+                (ADDRESS, _) => "word of another channel",
+                (_, 0) => "word invalid",
+                _ => "word",
+            }
+        }
+    };
+    met.kinds.meet(name);
+    match event {
+        SenderEvent::Directive { value, .. } if *value > 65_535 => {
+            met.kinds.meet("value above 65535")
+        }
+        SenderEvent::RequestAd(unit) | SenderEvent::RequestBd(unit) if unit.len() == 249 => {
+            met.kinds.meet("unit of 249 octets")
+        }
+        _ => (),
+    }
+}

@@ -1,0 +1,284 @@
+//! Random runs of a sender: what it starts with, and its events.
+
+use super::lent;
+use crate::library::{Lent, SenderEvent, SenderSettings};
+use crate::octets::SENDER_STATE;
+use crate::random::Random;
+use independent::bits;
+use independent::clcw::{self, NO_BIT_LOCK_FLAG, NO_RF_AVAILABLE_FLAG, STATUS_FIELD};
+use independent::fault::Fault;
+use independent::fop1::{Sender, STORE, UNIT_MOST};
+use independent::table_7_8::State;
+
+/// Settings, store and the room for a state, some of them beyond their limits.
+pub fn start(random: &mut Random) -> (SenderSettings, Lent, Lent) {
+    let mut settings = settings(random);
+    if random.once_in(2) {
+        for _ in 0..random.between(1, 2) {
+            spoil(random, &mut settings);
+        }
+    }
+    let store = match random.below(12) {
+        0 => STORE - 1,
+        1 => random.below(STORE),
+        2 => random.between(STORE, STORE + 300),
+        _ => STORE,
+    };
+    let state = match random.below(12) {
+        0 => random.below(SENDER_STATE),
+        1 => SENDER_STATE - 1,
+        2 => random.between(SENDER_STATE, SENDER_STATE + 20),
+        _ => SENDER_STATE,
+    };
+    (settings, lent(random, store), lent(random, state))
+}
+
+/// Settings within their limits.
+fn settings(random: &mut Random) -> SenderSettings {
+    let nnr = match random.below(4) {
+        0 => random.between(224, 255) as u8,
+        _ => random.number() as u8,
+    };
+    let ahead = match random.below(4) {
+        0 => random.between(0, 32) as u8,
+        1 => *random.pick(&[1, 31, 32]),
+        _ => 0,
+    };
+    SenderSettings {
+        k: match random.below(3) {
+            0 => random.between(1, 3) as u8,
+            1 => 32,
+            _ => random.between(1, 32) as u8,
+        },
+        t1_initial: match random.below(4) {
+            0 => random.between(1, 3) as u16,
+            1 => random.between(1, 65_535) as u16,
+            _ => random.between(1, 60) as u16,
+        },
+        transmission_limit: match random.below(6) {
+            0 => 1,
+            1 | 2 => random.between(2, 4) as u8,
+            _ => random.between(1, 255) as u8,
+        },
+        spacecraft: random.between(0, 1023) as u16,
+        channel: random.between(0, 63) as u8,
+        vs: nnr.wrapping_add(ahead),
+        nnr,
+    }
+}
+
+/// One setting at or beyond its limit.
+fn spoil(random: &mut Random, settings: &mut SenderSettings) {
+    match random.below(7) {
+        0 => settings.k = *random.pick(&[0, 1, 32, 33, 34, 128, 255]),
+        1 => settings.t1_initial = *random.pick(&[0, 1, 256, 65_535]),
+        2 => settings.transmission_limit = *random.pick(&[0, 1, 255]),
+        3 => settings.spacecraft = *random.pick(&[0, 1023, 1024, 32_768, 65_535]),
+        4 => settings.channel = *random.pick(&[0, 63, 64, 128, 255]),
+        5 => settings.vs = settings.nnr.wrapping_add(*random.pick(&[32, 33, 128, 255])),
+        _ => settings.vs = random.number() as u8,
+    }
+}
+
+/// What a run is like.
+pub struct Manner {
+    /// The shares of its events, in the order of `event`.
+    shares: [usize; 9],
+    /// Once in so many times something comes that may end the service.
+    harm: usize,
+    /// Long units too.
+    long: bool,
+}
+
+impl Manner {
+    pub fn new(random: &mut Random) -> Manner {
+        // Much is sent and little of it acknowledged.
+        let deep = random.once_in(3);
+        let mut shares = match deep {
+            true => [120, 4, 4, 10, 120, 8, 8, 1, 8],
+            false => [60, 10, 12, 40, 60, 8, 10, 1, 50],
+        };
+        for share in &mut shares {
+            let most = *share;
+            *share = match random.below(4) {
+                0 => random.between(most / 8, most),
+                1 => most / 4,
+                _ => most,
+            };
+            *share = (*share).max(1);
+        }
+        Manner {
+            shares,
+            harm: match deep {
+                true => *random.pick(&[300, 5000]),
+                false => *random.pick(&[5, 40, 300, 5000]),
+            },
+            long: random.once_in(3),
+        }
+    }
+}
+
+/// The next event.
+pub fn event(random: &mut Random, manner: &Manner, sender: &Sender) -> SenderEvent {
+    if sender.state == State::S6 && random.once_in(3) {
+        let number = random.between(1, 4) as u32;
+        let value = random.below(256) as u32;
+        return SenderEvent::Directive { number, value };
+    }
+    // No word ends this where V(S) is not NN(R).
+    let initialising = matches!(sender.state, State::S4 | State::S5);
+    if initialising && sender.unacknowledged() > 0 && random.once_in(20) {
+        return SenderEvent::Directive {
+            number: 5,
+            value: 0,
+        };
+    }
+    let kinds: [usize; 9] = std::array::from_fn(|kind| kind);
+    let mut rest = random.below(manner.shares.iter().sum());
+    let kind = kinds.into_iter().find(|kind| {
+        let is_this = rest < manner.shares[*kind];
+        rest = rest.saturating_sub(manner.shares[*kind]);
+        is_this
+    });
+    match kind.expect("the shares add up") {
+        0 => SenderEvent::RequestAd(unit(random, manner)),
+        1 => SenderEvent::RequestBd(unit(random, manner)),
+        2 => directive(random, manner, sender),
+        3 => SenderEvent::Tick,
+        4 => lower(random, manner, 1),
+        5 => lower(random, manner, 3),
+        6 => lower(random, manner, 5),
+        7 => SenderEvent::LowerLayer(*random.pick(&[0, 7, 8, 128, 255])),
+        _ => SenderEvent::ControlWord(word(random, manner, sender)),
+    }
+}
+
+fn unit(random: &mut Random, manner: &Manner) -> Vec<u8> {
+    let length = match random.below(40) {
+        0 => 0,
+        1 => *random.pick(&[250, 251, 256, 505]),
+        2 => UNIT_MOST,
+        3 => 1,
+        _ if manner.long => random.between(1, UNIT_MOST),
+        _ => random.between(1, 12),
+    };
+    random.octets(length)
+}
+
+/// An accept by its number, or the reject that follows it.
+fn lower(random: &mut Random, manner: &Manner, accept: u8) -> SenderEvent {
+    match random.once_in(4 * manner.harm) {
+        true => SenderEvent::LowerLayer(accept + 1),
+        false => SenderEvent::LowerLayer(accept),
+    }
+}
+
+/// Any directive; Terminate seldom.
+fn directive(random: &mut Random, manner: &Manner, sender: &Sender) -> SenderEvent {
+    let number = match random.below(12) {
+        0 => random.between(0, 16) as u32,
+        // Of these some octets are those of a directive.
+        1 => random.between(1, 11) as u32 + *random.pick(&[256, 65_536, 1 << 24, 1 << 31]),
+        2 => *random.pick(&[0, 12, 255, 256, u32::MAX]),
+        3 if sender.state == State::S6 => 7,
+        3..=5 => random.between(1, 4) as u32,
+        _ => random.between(6, 11) as u32,
+    };
+    let number = match number {
+        5 => 6,
+        _ if random.once_in(manner.harm) => 5,
+        _ => number,
+    };
+    let least_and_most: [u32; 2] = match number {
+        8 => [1, 32],
+        9 => [1, *random.pick(&[3, 60, 65_535])],
+        10 => [1, *random.pick(&[1, 4, 255])],
+        11 => [0, 0],
+        _ => [0, 255],
+    };
+    let value = match random.below(8) {
+        0 => *random.pick(&[0, 1, 2, 32, 33, 255, 256, 65_535, 65_536]),
+        1 => least_and_most[1] + 1,
+        2 => {
+            let high = *random.pick(&[65_536, 1 << 24, 1 << 31]);
+            high + random.between(1, 32) as u32
+        }
+        3 if random.once_in(4) => random.number() as u32,
+        _ => random.between(least_and_most[0] as usize, least_and_most[1] as usize) as u32,
+    };
+    SenderEvent::Directive { number, value }
+}
+
+/// A control word: most of them of this channel, and such as a receiver sends.
+fn word(random: &mut Random, manner: &Manner, sender: &Sender) -> Vec<u8> {
+    let (beyond, flags) = match random.once_in(manner.harm) {
+        true => wild_report(random, sender),
+        false => fitting_report(random, sender),
+    };
+    let report = clcw::Report {
+        channel: match random.below(40) {
+            0 => random.between(0, 63) as u8,
+            1 => sender.channel ^ 1,
+            _ => sender.channel,
+        },
+        lockout: flags & 4,
+        wait: flags & 2,
+        retransmit: flags & 1,
+        counter: random.below(4) as u8,
+        value: sender.nn_r.wrapping_add(beyond),
+    };
+    let mut word = clcw::encode(&report, Fault::None);
+    if random.once_in(4) {
+        bits::put(&mut word, STATUS_FIELD, random.below(8));
+        bits::put(&mut word, NO_RF_AVAILABLE_FLAG, random.below(2));
+        bits::put(&mut word, NO_BIT_LOCK_FLAG, random.below(2));
+    }
+    let mut octets = bits::to_octets(&word);
+    match random.below(60) {
+        0 => octets.truncate(random.below(4)),
+        1 => octets.extend(vec![0; random.between(1, 4)]),
+        _ => (),
+    }
+    if octets.len() == 4 && random.once_in(2 * manner.harm) {
+        match random.below(3) {
+            0 => octets = random.octets(4),
+            _ => random.flip_a_bit(&mut octets[..3]),
+        }
+    }
+    octets
+}
+
+/// N(R) - NN(R) and the flags, whatever they are.
+fn wild_report(random: &mut Random, sender: &Sender) -> (u8, u8) {
+    let outstanding = sender.unacknowledged();
+    let beyond = match random.below(6) {
+        0 => 0,
+        1 => outstanding,
+        2 => outstanding.wrapping_add(1),
+        3 => 255,
+        4 => random.number() as u8,
+        _ => random.below(outstanding as usize + 1) as u8,
+    };
+    (beyond, random.below(8) as u8)
+}
+
+/// N(R) - NN(R) and the flags such that the service goes on, if that can be.
+fn fitting_report(random: &mut Random, sender: &Sender) -> (u8, u8) {
+    let outstanding = sender.unacknowledged() as usize;
+    let resending = matches!(sender.state, State::S2 | State::S3);
+    let initialising = matches!(sender.state, State::S4 | State::S5);
+    if initialising || outstanding == 0 {
+        return (outstanding as u8, 0);
+    }
+    let some_of = |random: &mut Random, least: usize, most: usize| match random.below(3) {
+        0 => least as u8,
+        1 => random.between(least, most.min(least + 3)) as u8,
+        _ => random.between(least, most) as u8,
+    };
+    if random.once_in(3) {
+        let flags = *random.pick(&[1, 1, 3]);
+        return (some_of(random, 0, outstanding - 1), flags);
+    }
+    let least = if resending { 1 } else { 0 };
+    (some_of(random, least, outstanding), 0)
+}

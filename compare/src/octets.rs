@@ -1,0 +1,406 @@
+//! The octets that cross the boundary: the state of a sender, its answer, its store, and
+//! the state of a receiver. Numbers of two octets have the most significant first.
+
+use independent::farm1::{self, Farm1};
+use independent::fop1::{Answer, Response, Sender, K_MOST, UNIT_MOST};
+use independent::frame::Content;
+use independent::table_7_8::Reason;
+
+pub const SENDER_STATE: usize = 88;
+pub const ANSWER: usize = 17;
+pub const RECEIVER_STATE: usize = 12;
+
+const SENDER_MARK: u8 = 0x53;
+const RECEIVER_MARK: u8 = 0x52;
+const LAYOUT: u8 = 1;
+
+/// The units of the store: 32 sent, one waiting.
+const PLACES: usize = K_MOST + 1;
+const LENGTHS: usize = 22;
+const RESPONSES: usize = 4;
+
+/// Document 01, Limits.
+const SPACECRAFT_MOST: u16 = 1023;
+const CHANNEL_MOST: u8 = 63;
+const BUFFERS_MOST: u8 = 8;
+
+/// A sender's variables, settings and queues.
+#[derive(Clone, PartialEq, Eq, Debug)]
+pub struct SenderState {
+    pub state: u8,
+    pub k: u8,
+    pub t1_initial: u16,
+    pub transmission_limit: u8,
+    pub timeout_type: u8,
+    pub spacecraft: u16,
+    pub channel: u8,
+    pub v_s: u8,
+    pub nn_r: u8,
+    pub timer: u16,
+    pub transmission_count: u8,
+    pub ad_out_ready: bool,
+    pub bc_out_ready: bool,
+    pub bd_out_ready: bool,
+    pub suspend_state: u8,
+    /// The marks of the units sent, the oldest first.
+    pub marks: Vec<bool>,
+    pub waiting: bool,
+    /// The type-BC frame: 0 none, 1 Unlock, 2 Set V(R), and its value.
+    pub control: (u8, u8),
+    pub control_marked: bool,
+    /// The lengths of the units sent and waiting.
+    pub lengths: Vec<u16>,
+}
+
+fn two(octets: &[u8], place: usize) -> u16 {
+    u16::from_be_bytes([octets[place], octets[place + 1]])
+}
+
+impl SenderState {
+    /// The state of the independent sender.
+    pub fn of(sender: &Sender) -> SenderState {
+        let mut marks = Vec::new();
+        let mut control = (0, 0);
+        let mut control_marked = false;
+        for frame in &sender.sent_queue {
+            match frame.content {
+                Content::Ad { .. } => marks.push(frame.to_be_retransmitted),
+                Content::Unlock => control = (1, 0),
+                Content::SetVr { value } => control = (2, value),
+                Content::Bd { .. } => unreachable!("no copy of a type-BD frame is kept"),
+            }
+            control_marked |= frame.number().is_none() && frame.to_be_retransmitted;
+        }
+        let lengths = sender.stored().into_iter().map(|unit| unit.len() as u16);
+        SenderState {
+            state: sender.state.number(),
+            k: sender.k,
+            t1_initial: sender.t1_initial,
+            transmission_limit: sender.transmission_limit,
+            timeout_type: sender.timeout_type,
+            spacecraft: sender.spacecraft,
+            channel: sender.channel,
+            v_s: sender.v_s,
+            nn_r: sender.nn_r,
+            timer: sender.timer,
+            transmission_count: sender.transmission_count,
+            ad_out_ready: sender.ad_out_ready,
+            bc_out_ready: sender.bc_out_ready,
+            bd_out_ready: sender.bd_out_ready,
+            suspend_state: sender.suspend_state,
+            marks,
+            waiting: sender.wait_queue.is_some(),
+            control,
+            control_marked,
+            lengths: lengths.collect(),
+        }
+    }
+
+    /// Reads a state back; none where the octets are not laid out as one. Each octet is
+    /// read but the lengths of places that hold no unit.
+    pub fn read(octets: &[u8]) -> Option<SenderState> {
+        let laid_out = octets.len() == SENDER_STATE
+            && octets[0] == SENDER_MARK
+            && octets[1] == LAYOUT
+            && (1..=6).contains(&octets[2])
+            && octets[16] < 32
+            && octets[18] as usize <= K_MOST
+            && octets[19] <= octets[18]
+            && octets[20] <= 2
+            && (octets[20] == 2 || octets[21] == 0);
+        if !laid_out {
+            return None;
+        }
+        let flag = |weight| octets[16] & weight != 0;
+        let (sent, marked) = (octets[18] as usize, octets[19] as usize);
+        let held = sent + flag(8) as usize;
+        let lengths = (0..held).map(|place| two(octets, LENGTHS + 2 * place));
+        Some(SenderState {
+            state: octets[2],
+            k: octets[3],
+            t1_initial: two(octets, 4),
+            transmission_limit: octets[6],
+            timeout_type: octets[7],
+            spacecraft: two(octets, 8),
+            channel: octets[10],
+            v_s: octets[11],
+            nn_r: octets[12],
+            timer: two(octets, 13),
+            transmission_count: octets[15],
+            ad_out_ready: flag(1),
+            bc_out_ready: flag(2),
+            bd_out_ready: flag(4),
+            suspend_state: octets[17],
+            marks: (0..sent).map(|place| place >= sent - marked).collect(),
+            waiting: flag(8),
+            control: (octets[20], octets[21]),
+            control_marked: flag(16),
+            lengths: lengths.collect(),
+        })
+    }
+
+    fn within_limits(&self) -> bool {
+        (1..=K_MOST).contains(&(self.k as usize))
+            && self.t1_initial >= 1
+            && self.transmission_limit >= 1
+            && self.timeout_type == 0
+            && self.spacecraft <= SPACECRAFT_MOST
+            && self.channel <= CHANNEL_MOST
+    }
+
+    /// No more units are sent than V(S) - NN(R), none in Initial.
+    fn numbers_hold(&self) -> bool {
+        let unacknowledged = self.v_s.wrapping_sub(self.nn_r) as usize;
+        unacknowledged <= K_MOST
+            && self.marks.len() <= unacknowledged
+            && (self.marks.is_empty() || self.state != 6)
+            && self.transmission_count >= 1
+            && self.suspend_state == 0
+            && !self.lengths.contains(&0)
+    }
+}
+
+/// Octets that no sender's state has.
+pub fn no_sender_state(octets: &[u8]) -> bool {
+    match SenderState::read(octets) {
+        None => true,
+        Some(state) => {
+            let lengths = (0..PLACES).map(|place| two(octets, LENGTHS + 2 * place));
+            let too_long = lengths.max() > Some(UNIT_MOST as u16);
+            too_long || !state.within_limits() || !state.numbers_hold()
+        }
+    }
+}
+
+/// Puts the units of the independent sender at their places of a store.
+pub fn put_stored(sender: &Sender, store: &mut [u8]) {
+    for (place, unit) in sender.stored().iter().enumerate() {
+        let first = place * UNIT_MOST;
+        store[first..first + unit.len()].copy_from_slice(unit);
+    }
+}
+
+fn response_number(response: Response) -> u8 {
+    match response {
+        Response::AdAccept => 1,
+        Response::AdReject => 2,
+        Response::BdAccept => 3,
+        Response::BdReject => 4,
+        Response::DirectiveAccept => 5,
+        Response::DirectiveReject => 6,
+        Response::DirectivePositiveConfirm => 7,
+        Response::DirectiveNegativeConfirm => 8,
+    }
+}
+
+fn alert_number(alert: Option<Reason>) -> u8 {
+    match alert {
+        None => 0,
+        Some(Reason::Synch) => 1,
+        Some(Reason::Clcw) => 2,
+        Some(Reason::Limit) => 3,
+        Some(Reason::NnR) => 4,
+        Some(Reason::Lockout) => 5,
+        Some(Reason::T1) => 6,
+        Some(Reason::Term) => 7,
+        Some(Reason::Llif) => 8,
+    }
+}
+
+/// The octets of an answer.
+pub fn answer(answer: &Answer) -> [u8; ANSWER] {
+    let frame = answer.frame.as_ref().map_or(0, Vec::len) as u16;
+    let mut octets = [0; ANSWER];
+    octets[0] = answer.refusal;
+    octets[1] = answer.row;
+    octets[2] = answer.state.number();
+    octets[3..5].copy_from_slice(&frame.to_be_bytes());
+    octets[5] = answer.abort as u8;
+    octets[6] = alert_number(answer.alert);
+    octets[7] = answer.suspend as u8;
+    octets[8] = answer.responses.len() as u8;
+    assert!(answer.responses.len() <= RESPONSES);
+    for (place, response) in answer.responses.iter().enumerate() {
+        octets[9 + place] = response_number(*response);
+    }
+    octets[13] = answer.confirmed.first;
+    octets[14] = answer.confirmed.count;
+    octets[15] = answer.denied.first;
+    octets[16] = answer.denied.count;
+    octets
+}
+
+/// The octets of a receiver's state.
+pub fn receiver_state(farm: &Farm1, spacecraft: u16, channel: u8) -> [u8; RECEIVER_STATE] {
+    let state = match farm.state {
+        farm1::State::Open => 1,
+        farm1::State::Wait => 2,
+        farm1::State::Lockout => 3,
+    };
+    let [high, low] = spacecraft.to_be_bytes();
+    let flags = 4 * farm.lockout_flag as u8 + 2 * farm.wait_flag as u8 + farm.retransmit_flag as u8;
+    [
+        RECEIVER_MARK,
+        LAYOUT,
+        state,
+        high,
+        low,
+        channel,
+        farm.window,
+        farm.buffers,
+        farm.taken,
+        farm.v_r,
+        flags,
+        farm.farm_b_counter,
+    ]
+}
+
+/// Octets that no receiver's state has.
+pub fn no_receiver_state(octets: &[u8]) -> bool {
+    if octets.len() != RECEIVER_STATE {
+        return true;
+    }
+    let (window, buffers, taken) = (octets[6], octets[7], octets[8]);
+    let flag = |weight| octets[10] & weight != 0;
+    let (lockout, wait, retransmit) = (flag(4), flag(2), flag(1));
+    let flags_hold = match octets[2] {
+        1 => !lockout && !wait,
+        2 => !lockout && wait && retransmit,
+        3 => lockout && (retransmit || !wait),
+        _ => false,
+    };
+    let holds = octets[0] == RECEIVER_MARK
+        && octets[1] == LAYOUT
+        && two(octets, 3) <= SPACECRAFT_MOST
+        && octets[5] <= CHANNEL_MOST
+        && (2..=254).contains(&window)
+        && window % 2 == 0
+        && (1..=BUFFERS_MOST).contains(&buffers)
+        && taken <= buffers
+        && (taken == buffers || !wait)
+        && octets[10] < 8
+        && flags_hold
+        && octets[11] < 4;
+    !holds
+}
+
+#[cfg(test)]
+mod tests {
+    use super::*;
+    use independent::fault::Fault;
+    use independent::fop1::{Event, Settings, STORE};
+
+    const DIRECTIVE: fn(usize, usize) -> Event = |number, value| Event::Directive { number, value };
+
+    fn started() -> Sender {
+        let settings = Settings {
+            spacecraft: 0x2A5,
+            channel: 3,
+            v_s: 255,
+            nn_r: 255,
+            k: 2,
+            t1_initial: 0x1234,
+            transmission_limit: 5,
+        };
+        Sender::start(&settings, STORE).unwrap()
+    }
+
+    /// Takes an event with room, and answers its octets.
+    fn take(sender: &mut Sender, event: Event) -> [u8; ANSWER] {
+        answer(&sender.take(&event, 256, Fault::None))
+    }
+
+    /// The first octets of a state, the others zero.
+    fn whole(first: &[u8]) -> Vec<u8> {
+        let mut octets = first.to_vec();
+        octets.resize(SENDER_STATE, 0);
+        octets
+    }
+
+    #[test]
+    fn state_at_the_start() {
+        let octets = whole(&[
+            0x53, 1, 6, 2, 0x12, 0x34, 5, 0, 0x02, 0xA5, 3, 255, 255, 0, 0, 1, 7, 0, 0, 0, 0, 0,
+        ]);
+        assert_eq!(
+            SenderState::read(&octets),
+            Some(SenderState::of(&started()))
+        );
+        assert!(!no_sender_state(&octets));
+    }
+
+    // Two units of 3 and 249 octets sent and resent in part, one of 1 octet waiting.
+    #[test]
+    fn state_with_units() {
+        let mut sender = started();
+        take(&mut sender, DIRECTIVE(1, 0));
+        let sent = take(&mut sender, Event::AdRequest(vec![7; 3]));
+        assert_eq!(sent, [0, 19, 1, 0, 10, 0, 0, 0, 1, 1, 0, 0, 0, 0, 0, 0, 0]);
+        take(&mut sender, Event::AdRequest(vec![8; 249]));
+        let sent = take(&mut sender, Event::AdAccept);
+        assert_eq!(sent, [0, 41, 1, 1, 0, 0, 0, 0, 1, 1, 0, 0, 0, 0, 0, 0, 0]);
+        take(&mut sender, Event::AdRequest(vec![9]));
+        take(&mut sender, Event::AdAccept);
+        let resent = take(&mut sender, Event::ControlWord(vec![1, 0x0C, 8, 255]));
+        assert_eq!(
+            resent,
+            [0, 10, 2, 0, 10, 1, 0, 0, 0, 0, 0, 0, 0, 0, 0, 0, 0]
+        );
+        let octets = whole(&[
+            0x53, 1, 2, 2, 0x12, 0x34, 5, 0, 0x02, 0xA5, 3, 1, 255, 0x12, 0x34, 2, 14, 0, 2, 1, 0,
+            0, 0, 3, 0, 249, 0, 1,
+        ]);
+        let state = SenderState::of(&sender);
+        assert_eq!(SenderState::read(&octets), Some(state.clone()));
+        assert_eq!(state.marks, [false, true]);
+        assert!(!no_sender_state(&octets));
+        let mut store = vec![0; STORE];
+        put_stored(&sender, &mut store);
+        assert_eq!(store[..5], [7, 7, 7, 0, 0]);
+        assert_eq!(store[248..500], [&[0][..], &[8; 249], &[9, 0]].concat());
+
+        let ended = take(&mut sender, DIRECTIVE(5, 0));
+        assert_eq!(
+            ended,
+            [0, 29, 6, 0, 0, 0, 7, 0, 3, 5, 2, 7, 0, 0, 0, 255, 2]
+        );
+    }
+
+    #[test]
+    fn state_with_a_command() {
+        let mut sender = started();
+        let sent = take(&mut sender, DIRECTIVE(4, 200));
+        assert_eq!(sent, [0, 27, 5, 0, 10, 0, 0, 0, 1, 5, 0, 0, 0, 0, 0, 0, 0]);
+        let mut octets = whole(&[
+            0x53, 1, 5, 2, 0x12, 0x34, 5, 0, 0x02, 0xA5, 3, 200, 200, 0x12, 0x34, 1, 5, 0, 0, 0, 2,
+            200,
+        ]);
+        let state = SenderState::of(&sender);
+        assert_eq!(SenderState::read(&octets), Some(state));
+        for (place, octet) in [(0, 0x52), (1, 2), (2, 0), (2, 7), (3, 0), (3, 33), (6, 0)] {
+            let good = std::mem::replace(&mut octets[place], octet);
+            assert!(no_sender_state(&octets));
+            octets[place] = good;
+        }
+        for (place, octet) in [(8, 4), (10, 64), (11, 233), (15, 0), (16, 32), (18, 1)] {
+            let good = std::mem::replace(&mut octets[place], octet);
+            assert!(no_sender_state(&octets));
+            octets[place] = good;
+        }
+        assert!(!no_sender_state(&octets));
+        assert!(no_sender_state(&octets[..87]));
+    }
+
+    #[test]
+    fn state_of_a_receiver() {
+        let mut farm = Farm1::start(20, 250, 1).unwrap();
+        farm.take(farm1::Arrival::Ad(250), Fault::None).unwrap();
+        farm.take(farm1::Arrival::Ad(251), Fault::None).unwrap();
+        farm.take(farm1::Arrival::Bd, Fault::None).unwrap();
+        let mut octets = receiver_state(&farm, 0x2A5, 3);
+        assert_eq!(octets, [0x52, 1, 2, 0x02, 0xA5, 3, 20, 1, 1, 251, 3, 1]);
+        assert!(!no_receiver_state(&octets));
+        octets[8] = 0;
+        assert!(no_receiver_state(&octets));
+    }
+}
