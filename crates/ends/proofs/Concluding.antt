@@ -1,19 +1,19 @@
 -- What our sender answers where an event was judged, by what the table machine's work on it is: the machine's answer and state where the
 -- frame handed down fits into the output lent, else 11, and nothing changes.
-use Prim.Native.Nat.{ℕ, _+_, _*_, _≤_, _<_}
-use mathlib.Core.Path.{_≡_, refl, sym, ap, subst, _∙_}
+use Prim.Native.Nat.{ℕ, _+_, _≤_}
+use mathlib.Core.Path.{_≡_, refl, sym, ap, _∙_}
 use mathlib.Core.Bool.{Bool, true, false}
-use mathlib.Core.List.{List, [], _∷_, _++_}
+use mathlib.Core.List.{List, _++_}
 use mathlib.Core.Option.{Option, none, some}
 use native.Mathlib.Omega.{arith}
-use borrow.Author.Tests.{eq-eqb, ne-eqb}
-use lib.Dec.{leb, eqb}
+use borrow.Author.Tests.{ne-eqb}
+use lib.Dec.{leb}
 use lib.ListN.{length, take, drop}
 use lib.Seq.{take-append-seam}
 use Rattle.base.specs.Choice.{pick}
 use Rattle.base.specs.Outcome.{Outcome, Outcome.done}
 use Rattle.base.specs.Outcome as outcome
-use Rattle.fop.specs.Units.{Own, Fdu, Frame, AD, BD, Unlock, SetVR, Refused, written}
+use Rattle.fop.specs.Units.{Own, Frame}
 use Rattle.fop.specs.Table.{FopEvent}
 use Rattle.fop.specs.Variables as machine
 use Rattle.fop.specs.Variables.{Fop}
@@ -22,12 +22,12 @@ use Rattle.fop_actions.specs.declared.Sender.{Sender}
 use Rattle.fop_actions.specs.declared.Work.{Work}
 use Rattle.fop_actions.specs.Actions.{responsesWith}
 use Rattle.fop_actions.specs.Start.{begun, senderOf}
-use Rattle.fop_actions.specs.View.{stateOf, reasonOf, responsesOf, runTold, fopOf, framesOf, view}
+use Rattle.fop_actions.specs.View.{stateOf, reasonOf, responsesOf, runTold, fopOf, view}
 use Rattle.fop_rows.specs.Rows.{eventOf}
 use Rattle.fop_view.specs.State.{Good}
 use Rattle.sender.specs.Answers as sender
 use Rattle.sender.specs.Answers.{Step, stepBy, refusedStep}
-use Rattle.ends.specs.Ours.{handedDown, answerOf, answerBy, lentOutput}
+use Rattle.ends.specs.Ours.{handedDown, answerBy, lentOutput}
 use Rattle.ends.proofs.Writing.{octetsIn, fitting}
 
 -- what a step of our sender is to the table machine: f is the machine's state before it, and m its work on the event

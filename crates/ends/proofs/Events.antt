@@ -1,12 +1,12 @@
 -- Every event of the session: our sender's step does what the table machine does on what the sender's state and store read as.
-use Prim.Native.Nat.{ℕ, _+_, _-_, _*_, _^_, _≤_, _<_}
+use Prim.Native.Nat.{ℕ, _-_, _*_, _<_}
 use mathlib.Core.Path.{_≡_, refl, sym, ap, subst, _∙_}
 use mathlib.Core.Bool.{Bool, true, false, _&&_, true≢false}
 use mathlib.Core.List.{List, [], _∷_}
-use mathlib.Core.Option.{Option, none, some}
+use mathlib.Core.Option.{none, some}
 use native.Mathlib.Omega.{arith}
 use borrow.Author.Tests.{leb-true, le-leb, eqb-true}
-use lib.Dec.{T, leb, ltb, eqb}
+use lib.Dec.{leb, ltb, eqb}
 use lib.ListN.{length, getD}
 use Rattle.base.specs.Choice.{pick, must}
 use Rattle.base.specs.Limits.{largestUnit}
@@ -23,35 +23,34 @@ use Rattle.clcw.specs.declared.Clcw.{Clcw}
 use Rattle.clcw.specs.declared.Reading.{Reading}
 use Rattle.clcw.specs.declared.Reading.the-variants as reading
 use Rattle.clcw.proofs.Word.{word-is}
-use Rattle.fop.specs.Units.{Own, Word, Heard, valid, invalid, other, heard, readWord, areOctets, legal}
-use Rattle.fop.specs.Table.{FopEvent, E15, E16, E17, E18, E19, E20, E21, E22, E39, E40, E41, E42, E43, E44, E45, E46, E103, E104}
+use Rattle.fop.specs.Units.{Own, Word, Heard, invalid, other, heard, readWord, areOctets, legal}
+use Rattle.fop.specs.Table.{FopEvent, E15, E18, E19, E20, E21, E22, E39, E103}
 use Rattle.fop.specs.Variables as machine
 use Rattle.fop.specs.Variables.{Fop}
 use Rattle.fop.specs.Machine.{fopDo}
-use Rattle.fop.specs.Events.{Line, when, first, SenderEvent, requestAd, requestBd, tick, lower, directive, wordArrives, isEmpty, seen, wordLines, wordEvent, expiryLines, validDirective, directiveLines, directiveEvent, work, fopAd, fopBd, fopTick, fopExpiry, fopLower, fopDirective, fopHeard, fopWord}
+use Rattle.fop.specs.Events.{when, first, SenderEvent, requestAd, requestBd, tick, lower, directive, wordArrives, isEmpty, seen, wordLines, wordEvent, expiryLines, validDirective, directiveLines, directiveEvent, work, fopAd, fopBd, fopTick, fopExpiry, fopLower, fopDirective, fopHeard, fopWord}
 use Rattle.fop.specs.Events as fop
-use Rattle.fop.specs.Answers.{judged, otherRefusal, octetsDown, refused}
+use Rattle.fop.specs.Answers.{judged, otherRefusal, refused}
 use Rattle.fop_actions.specs.declared.Sender.{Sender}
 use Rattle.fop_actions.specs.declared.Work.{Work}
-use Rattle.fop_actions.specs.Limits.{places}
 use Rattle.fop_actions.specs.Start.{begun, noneTold, senderOf}
 use Rattle.fop_actions.specs.View.{unitAt, fopOf}
 use Rattle.fop_actions.proofs.Ways.{yes, no}
 use Rattle.fop_rows.specs.Rows.{eventOf, rowIf, rowOf, rowNumbered}
 use Rattle.fop_events.specs.Events.{eventNumber, variablesOf, expiryNumber, adNumber, bdNumber, lowerNumber, directiveNumber, wordNumber, told}
 use Rattle.fop_view.specs.State.{Good}
-use Rattle.fop_view.specs.Rows.{brings, Meets}
+use Rattle.fop_view.specs.Rows.{brings, Meets, isOffering}
 use Rattle.session.proofs.Rows.{first-all}
 use Rattle.session.proofs.Octets.{octets-are}
 use Rattle.sender.specs.Answers.{Step, stepBy, refusedStep}
 use Rattle.sender.specs.Limits.{smallestStore}
-use Rattle.sender.specs.Events.{handedWriting, servedBy, served, offeredBy, bypassedBy, mustBeUnit, requestAdOf, requestBdOf, directiveOf, ticked, tickNumber, tickOf, lowerLayerOf, wordBy, controlWordOf}
-use Rattle.ends.specs.Ours.{Held, ifOctets, stepOf, lowerAnswer, answerBy, lentOutput}
-use Rattle.ends.proofs.Numbers.{number-event, row-event}
+use Rattle.sender.specs.Events.{handedWriting, servedBy, served, offeredBy, bypassedBy, requestAdOf, requestBdOf, directiveOf, ticked, tickOf, lowerLayerOf, wordBy, controlWordOf}
+use Rattle.ends.specs.Ours.{Held, stepOf, lowerAnswer, answerBy, lentOutput}
+use Rattle.ends.proofs.Numbers.{row-event}
 use Rattle.ends.proofs.Writing.{Fits, fitting}
 use Rattle.ends.proofs.Concluding.{Agrees, concludes, refuses-7, refuses-10, refuses-12}
 use Rattle.ends.proofs.Judged.{Does, agreed, refuses, refused-keeps, refused-good}
-use Rattle.ends.proofs.Served.{isOffering, serves}
+use Rattle.ends.proofs.Served.{serves}
 use Rattle.ends.proofs.Requested.{offers, rejects-ad, rejects-bd, bypasses-down, lengthless-21, lengthless-22}
 use Rattle.ends.proofs.Meets.{word-meets, directive-meets, expiry-meets, valid-not-40, invalid-is-40}
 

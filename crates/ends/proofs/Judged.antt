@@ -1,7 +1,7 @@
 -- The table machine's answer and next state, by how the event is judged: 10, 12 and 7 refuse it; where they do not, 11 does if the frame
 -- handed down does not fit. So a step of our sender that agrees with the machine's work does as the machine does.
 use Prim.Native.Nat.{ℕ}
-use mathlib.Core.Path.{_≡_, refl, sym, ap, subst, _∙_}
+use mathlib.Core.Path.{_≡_, refl, sym, ap, _∙_}
 use mathlib.Core.Bool.{Bool, true, false}
 use mathlib.Core.List.{List}
 use lib.Dec.{leb, eqb}
@@ -17,7 +17,7 @@ use Rattle.fop_actions.specs.View.{fopOf}
 use Rattle.fop_view.specs.State.{Good}
 use Rattle.sender.specs.Answers as sender
 use Rattle.sender.specs.Answers.{Step, refusedStep}
-use Rattle.ends.specs.Ours.{Held, answerBy}
+use Rattle.ends.specs.Ours.{answerBy}
 use Rattle.ends.proofs.Concluding.{Agrees}
 
 -- a step of our sender is what the table machine does at the event

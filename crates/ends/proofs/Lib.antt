@@ -4,6 +4,7 @@ pub mod Bypass
 pub mod Writing
 pub mod Concluding
 pub mod Judged
+pub mod Shown
 pub mod Served
 pub mod Requested
 pub mod Events

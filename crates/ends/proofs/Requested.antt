@@ -2,24 +2,20 @@
 use Prim.Native.Nat.{ℕ, suc, _+_, _*_, _≤_, _<_}
 use mathlib.Core.Path.{_≡_, refl, sym, ap, subst, _∙_}
 use mathlib.Core.Bool.{Bool, true, false, true≢false}
-use mathlib.Core.List.{List, []}
-use mathlib.Core.Option.{Option, none, some}
+use mathlib.Core.List.{List}
 use native.Mathlib.Omega.{arith}
-use borrow.Author.Tests.{eqb-true, eqb-false, eq-eqb, ne-eqb}
-use lib.Dec.{leb, eqb}
-use lib.ListN.{length, getD, set, length-replicate}
+use borrow.Author.Tests.{eqb-true, eqb-false}
+use lib.Dec.{eqb}
+use lib.ListN.{length, set}
 use Rattle.base.specs.Choice.{pick}
 use Rattle.base.specs.Limits.{largestUnit}
-use Rattle.base.specs.Outcome.{Outcome}
 use Rattle.memory.specs.Placed.{placed}
 use Rattle.store.specs.Slid.{slid}
 use Rattle.store.proofs.Parts.{slid-none}
-use Rattle.fop.specs.Limits.{largestK}
-use Rattle.fop.specs.Units.{Own, Frame}
+use Rattle.fop.specs.Units.{Own}
 use Rattle.fop.specs.Table.{FopEvent, table78, cell78, E19, E20, E21, E22}
 use Rattle.fop.specs.Variables as machine
 use Rattle.fop.specs.Machine.{fopDo}
-use Rattle.fop.specs.Answers.{octetsDown}
 use Rattle.fop_actions.specs.declared.Handed.{Handed}
 use Rattle.fop_actions.specs.declared.Handed.the-variants as handed
 use Rattle.fop_actions.specs.declared.State.{State}
@@ -30,43 +26,21 @@ use Rattle.fop_actions.specs.Actions as act
 use Rattle.fop_actions.specs.Parts.{withVariables, withTold}
 use Rattle.fop_actions.specs.Limits.{places}
 use Rattle.fop_actions.specs.Start.{begun, noneTold, senderOf}
-use Rattle.fop_actions.specs.View.{stateOf, unitAt, fopOf, framesOf}
-use Rattle.fop_actions.proofs.Ways.{yes, no}
+use Rattle.fop_actions.specs.View.{stateOf, unitAt, fopOf}
+use Rattle.fop_actions.proofs.Ways.{yes}
 use Rattle.fop_actions.proofs.ViewWaiting.{unit-same, unit-there}
 use Rattle.fop_rows.specs.Rows.{inMain, done, doneAll, doneCell, rowOf}
 use Rattle.fop_events.specs.Events.{eventNumber}
 use Rattle.fop_view.specs.State.{Good, held}
 use Rattle.fop_view.specs.Rows.{Meets, Shows, storeAfter}
 use Rattle.fop_view.proofs.Theorem.{row-view, row-lengths, row-few}
-use Rattle.sender.specs.Answers.{Step, stepBy}
+use Rattle.sender.specs.Answers.{stepBy}
 use Rattle.sender.specs.Events.{handedWriting, placeHanded, unitOffered, offeredBy, bypassedBy}
 use Rattle.ends.specs.Ours.{lentOutput}
-use Rattle.ends.proofs.Numbers.{number-event}
-use Rattle.ends.proofs.Writing.{Fits, fitting, Carries, handed-fits}
-use Rattle.ends.proofs.Concluding.{Agrees, SomeOctets, concludes}
+use Rattle.ends.proofs.Writing.{Fits, Carries}
+use Rattle.ends.proofs.Concluding.{Agrees}
 use Rattle.ends.proofs.Bypass.{bypasses, no-bypass}
-use Rattle.ends.proofs.Served.{frames-long, held-fits}
-
--- an event that shows the machine's work, by the unit u that is written and the store after it
-module _ (own : Own) (e : FopEvent) (o : List ℕ) (n : ℕ) (s : Sender) (store new u : List ℕ) (lent : ℕ) (w : Work) (m : machine.Work) (good : Good own s store)
-    (shows : Shows own e o n w new m)
-    (carried : Carries own (s .settings) (good .spacecraft) (good .channel) (good .spacecraft-most) (good .channel-most) (w .queues .lengths) new o u lent (w .told .handed)) where
-  written-is : handedWriting (s .settings) (w .told .handed) u (length (lentOutput lent)) ≡ fitting (octetsDown own (m .frames)) lent
-  written-is =
-      ap (handedWriting (s .settings) (w .told .handed) u) (length-replicate lent 0)
-      ∙ handed-fits own (s .settings) (good .spacecraft) (good .channel) (good .spacecraft-most) (good .channel-most) (w .queues .lengths) new o u lent (w .told .handed) carried
-      ∙ ap (λ (x : List Frame). fitting (octetsDown own x) lent) (sym (ap (λ (x : machine.Work). x .frames) (shows .is)))
-
-  some-octets : SomeOctets (octetsDown own (m .frames))
-  some-octets =
-      subst (λ (x : List Frame). SomeOctets (octetsDown own x)) (sym (ap (λ (x : machine.Work). x .frames) (shows .is)))
-      (frames-long own (w .told .handed) (w .queues .lengths) new o)
-
-  pub shown : Agrees own lent (fopOf (begun s) store) m
-      (stepBy (eventNumber e) s w (handedWriting (s .settings) (w .told .handed) u (length (lentOutput lent))) new store (lentOutput lent))
-  shown =
-      subst (λ (x : Outcome (Unit {0})). Agrees own lent (fopOf (begun s) store) m (stepBy (eventNumber e) s w x new store (lentOutput lent))) (sym written-is)
-      (concludes own (some e) (eventNumber e) (number-event e) o n s store new w m lent (shows .is) (shows .confirmed) (shows .denied) (shows .good) good some-octets)
+use Rattle.ends.proofs.Shown.{held-fits, shown}
 
 -- What rows E19 (out of S1 to S3), E20, E21 and E22 hand down and confirm, by computing.
 module _ (n l : ℕ) (s : Sender) where

@@ -4,23 +4,14 @@ use Prim.Native.Nat.{ℕ, _+_, _*_, _≤_, _<_}
 use mathlib.Core.Path.{_≡_, refl, sym, ap, subst, _∙_}
 use mathlib.Core.Bool.{Bool, true, false, true≢false}
 use mathlib.Core.List.{List, []}
-use mathlib.Core.Option.{Option, none, some}
 use native.Mathlib.Omega.{arith}
-use lib.Dec.{leb, eqb}
-use lib.ListN.{length, getD, length-replicate}
+use lib.Dec.{eqb}
 use Rattle.base.specs.Limits.{largestUnit}
-use Rattle.base.specs.Outcome.{Outcome}
 use Rattle.store.specs.Slid.{slid}
-use Rattle.frame.specs.Frame.{bypassOf, controlOf, numberOf, dataOf, frameOf}
-use Rattle.frame.proofs.Emitted.{length-frame}
-use Rattle.frame.specs.declared.Kind.{Kind}
-use Rattle.frame.specs.declared.Kind.the-variants as kind
-use Rattle.fop.specs.Limits.{largestK}
-use Rattle.fop.specs.Units.{Own, Frame, AD, BD, Unlock, SetVR, Refused, written}
+use Rattle.fop.specs.Units.{Own, Unlock}
 use Rattle.fop.specs.Table.{FopEvent}
 use Rattle.fop.specs.Variables as machine
 use Rattle.fop.specs.Machine.{fopDo}
-use Rattle.fop.specs.Answers.{octetsDown}
 use Rattle.fop_actions.specs.declared.Handed.{Handed}
 use Rattle.fop_actions.specs.declared.Handed.the-variants as handed
 use Rattle.fop_actions.specs.declared.Queues.{Queues}
@@ -28,69 +19,25 @@ use Rattle.fop_actions.specs.declared.Sender.{Sender}
 use Rattle.fop_actions.specs.declared.Work.{Work}
 use Rattle.fop_actions.specs.Limits.{places}
 use Rattle.fop_actions.specs.Start.{begun, senderOf}
-use Rattle.fop_actions.specs.View.{unitAt, fopOf, framesOf}
+use Rattle.fop_actions.specs.View.{unitAt, fopOf}
 use Rattle.fop_actions.proofs.SentQueue.{unit-slid}
-use Rattle.fop_rows.specs.Rows.{eventOf, rowOf}
+use Rattle.fop_actions.proofs.Ways.{no}
+use Rattle.fop_rows.specs.Rows.{rowOf}
 use Rattle.fop_events.specs.Events.{eventNumber}
 use Rattle.fop_view.specs.State.{Good, held}
-use Rattle.fop_view.specs.Rows.{Brings, brings, nothing, acknowledging, again, offering, numbering, widening, clocking, limiting, timing, suspending, Meets, Shows, storeBy, storeAfter, lengthsBy, lengthsAfter}
+use Rattle.fop_view.specs.Rows.{Brings, brings, Meets, Shows, storeBy, lengthsBy, isOffering}
 use Rattle.fop_view.proofs.Theorem.{row-view, row-lengths, row-few}
-use Rattle.sender.specs.Answers.{Step, stepBy}
-use Rattle.sender.specs.Events.{handedWriting, placeHanded, unitBefore, servedBy}
+use Rattle.sender.specs.Events.{placeHanded, unitBefore, servedBy}
 use Rattle.ends.specs.Ours.{lentOutput}
-use Rattle.ends.proofs.Numbers.{number-event}
-use Rattle.ends.proofs.Writing.{Fits, fitting, unit-fits, Carries, handed-fits}
-use Rattle.ends.proofs.Concluding.{Agrees, SomeOctets, concludes}
+use Rattle.ends.proofs.Writing.{Fits, Carries}
+use Rattle.ends.proofs.Concluding.{Agrees}
 use Rattle.ends.proofs.Bypass.{bypasses, no-bypass}
-
--- every frame handed down has octets
-module _ (own : Own) where
-  long : (k : Kind) (u : List ℕ) → 1 ≤ length (frameOf (own .spacecraft) (own .channel) k u)
-  long k u = omega (arith, length-frame (bypassOf k) (controlOf k) (numberOf k) (own .spacecraft) (own .channel) (dataOf k u))
-
-  pub frames-long : (h : Handed) (lengths store o : List ℕ) → SomeOctets (octetsDown own (framesOf h lengths store o))
-  unfolding written
-  frames-long handed.None lengths store o = tt
-  frames-long (handed.Ad n i) lengths store o = long (kind.Ad n) (unitAt lengths i store)
-  frames-long handed.Bd lengths store o = long kind.Bd o
-  frames-long handed.Unlock lengths store o = long kind.Unlock []
-  frames-long (handed.SetVr n) lengths store o = long (kind.SetVr n) []
-
--- the unit at a place that holds one of the sent units
-pub held-fits : (own : Own) (s : Sender) (store : List ℕ) (i : ℕ) → Good own s store → i < s .queues .sent → Fits (unitAt (s .queues .lengths) i store)
-unfolding begun
-held-fits own s store i g h =
-    unit-fits (s .queues .lengths) store i (omega (arith, g .formed .outstanding, g .formed .window, h)) (g .filled i (below (s .queues .sent) (s .queues .waiting) h))
-    (g .formed .units i) (g .formed .room) where
-      below : (sent : ℕ) (waiting : Bool) → i < sent → i < held sent waiting
-      below sent true k = omega arith
-      below sent false k = k
-
-abbrev pub isOffering : Brings → Bool
-isOffering nothing = false
-isOffering acknowledging = false
-isOffering again = false
-isOffering offering = true
-isOffering numbering = false
-isOffering widening = false
-isOffering clocking = false
-isOffering limiting = false
-isOffering timing = false
-isOffering suspending = false
+use Rattle.ends.proofs.Shown.{held-fits, shown}
 
 -- what an event that offers no unit does to the store and the lengths
 others : (b : Brings) (o : List ℕ) (s : Sender) (w : Work) (store : List ℕ) → isOffering b ≡ false
     → (storeBy b o s w store ≡ slid (largestUnit * w .told .confirmed .count) store) × (lengthsBy b o s w ≡ slid (w .told .confirmed .count) (s .queues .lengths))
-others nothing o s w store t = (refl, refl)
-others acknowledging o s w store t = (refl, refl)
-others again o s w store t = (refl, refl)
-others offering o s w store t = absurd (true≢false t)
-others numbering o s w store t = (refl, refl)
-others widening o s w store t = (refl, refl)
-others clocking o s w store t = (refl, refl)
-others limiting o s w store t = (refl, refl)
-others timing o s w store t = (refl, refl)
-others suspending o s w store t = (refl, refl)
+others b o s w store t = (no _ _ _ t, no _ _ _ t)
 
 -- g is the state whose row it is: s, or s with its timer lowered
 module _ (own : Own) (e : FopEvent) (n : ℕ) (s g : Sender) (store : List ℕ) (lent : ℕ) (good : Good own s store) (by-good : Good own g store)
@@ -142,20 +89,6 @@ module _ (own : Own) (e : FopEvent) (n : ℕ) (s g : Sender) (store : List ℕ) 
   carried handed.Unlock q = tt
   carried (handed.SetVr k) q = tt
 
-  written-is : handedWriting (s .settings) (w .told .handed) (unitBefore s w store) (length (lentOutput lent)) ≡ fitting (octetsDown own (m .frames)) lent
-  written-is =
-      ap (handedWriting (s .settings) (w .told .handed) (unitBefore s w store)) (length-replicate lent 0)
-      ∙ handed-fits own (s .settings) (good .spacecraft) (good .channel) (good .spacecraft-most) (good .channel-most) (w .queues .lengths) new [] (unitBefore s w store) lent
-      (w .told .handed) (carried (w .told .handed) refl)
-      ∙ ap (λ (x : List Frame). fitting (octetsDown own x) lent) (sym (ap (λ (x : machine.Work). x .frames) (shows .is)))
-
-  some-octets : SomeOctets (octetsDown own (m .frames))
-  some-octets =
-      subst (λ (x : List Frame). SomeOctets (octetsDown own x)) (sym (ap (λ (x : machine.Work). x .frames) (shows .is)))
-      (frames-long own (w .told .handed) (w .queues .lengths) new [])
-
   pub serves : Agrees own lent (fopOf (begun s) store) m (servedBy (eventNumber e) s w store (lentOutput lent))
   unfolding servedBy
-  serves =
-      subst (λ (x : Outcome (Unit {0})). Agrees own lent (fopOf (begun s) store) m (stepBy (eventNumber e) s w x new store (lentOutput lent))) (sym written-is)
-      (concludes own (some e) (eventNumber e) (number-event e) [] n s store new w m lent (shows .is) (shows .confirmed) (shows .denied) (shows .good) good some-octets)
+  serves = shown own e [] n s store new (unitBefore s w store) lent w m good shows (carried (w .told .handed) refl)

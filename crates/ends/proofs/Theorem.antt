@@ -3,37 +3,31 @@
 -- session's theorem holds of them.
 use Prim.Native.Nat.{ℕ, _%_, _≤_}
 use mathlib.Core.Path.{_≡_, refl, sym, ap, subst, _∙_}
-use mathlib.Core.Bool.{Bool, true}
+use mathlib.Core.Bool.{true}
 use mathlib.Core.List.{List}
 use native.Mathlib.Omega.{arith}
 use borrow.Author.Tests.{le-leb, eq-eqb}
-use lib.Dec.{leb}
-use lib.ListN.{length, getD}
-use Rattle.base.specs.Choice.{must, both}
+use lib.ListN.{length}
 use Rattle.base.specs.Modulo.{offset}
 use Rattle.fop.specs.Limits.{largestK}
 use Rattle.fop.specs.Table as table
-use Rattle.fop.specs.Variables as machine
 use Rattle.fop.specs.Variables.{Fop}
 use Rattle.fop.specs.Machine as action
 use Rattle.fop.specs.Events as events
-use Rattle.fop.specs.Events.{SenderEvent, directive}
+use Rattle.fop.specs.Events.{directive}
 use Rattle.fop.specs.Answers as answers
 use Rattle.fop_actions.specs.declared.Sender.{Sender}
 use Rattle.fop_actions.specs.Start.{startOf, begun}
 use Rattle.fop_actions.specs.View.{fopOf}
-use Rattle.fop_actions.proofs.ViewStart.{started, well-started}
+use Rattle.fop_actions.proofs.ViewStart.{well-started}
 use Rattle.fop_view.specs.State.{Good}
 use Rattle.farm.specs.Receiver as farm
 use Rattle.farm.specs.declared.Start.the-variants.{Ready}
-use Rattle.session.specs.Ends.{Settings, Within, Ends, Tied, startSender, startReceiver}
-use Rattle.session.specs.Session.{Event}
+use Rattle.session.specs.Ends.{Settings, Within, Tied, startSender, startReceiver}
 use Rattle.session.proofs.Theorem.{demand3}
 use Rattle.session.proofs.Strong.{stronger-claims}
 use Rattle.sender.specs.Limits.{smallestStore}
-use Rattle.sender.specs.Start as start
 use Rattle.sender.specs.Start.{startingOf, withinLimits}
-use Rattle.sender.specs.Answers.{Step}
 use Rattle.sender.specs.Events.{directiveOf}
 use Rattle.ends.specs.Ours.{Held, heldAfter, senderSettings, lentOutput, startHeld, ours}
 use Rattle.ends.specs.Demand.{Demand3, Besides}

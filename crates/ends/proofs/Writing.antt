@@ -1,31 +1,28 @@
 -- The frame handed down, as our sender writes it: the octets that the table machine hands down where they fit into the output, else 11.
-use Prim.Native.Nat.{ℕ, _+_, _-_, _*_, _≤_, _<_}
+use Prim.Native.Nat.{ℕ, _+_, _-_, _*_, _≤_}
 use mathlib.Core.Path.{_≡_, refl, sym, ap, _∙_}
 use mathlib.Core.Bool.{Bool, true, false}
-use mathlib.Core.List.{List, [], _∷_, _++_}
+use mathlib.Core.List.{List, []}
 use mathlib.Core.Option.{Option, none, some}
 use native.Mathlib.Omega.{arith}
 use borrow.Author.Tests.{leb-true, leb-false, le-leb}
 use lib.Dec.{leb}
-use lib.ListN.{length, take, drop, getD, length-drop}
+use lib.ListN.{length, drop, getD, length-drop}
 use lib.Seq.{length-take-le}
 use Rattle.base.specs.Choice.{pick}
 use Rattle.base.specs.Limits.{largestUnit, largestSpacecraft, largestChannel}
 use Rattle.base.specs.Outcome.{Outcome, Outcome.done, Outcome.refused}
-use Rattle.frame.specs.Frame.{bypassOf, controlOf, numberOf, dataOf, frameOf, writing, unlockCommand, setVrCommand}
+use Rattle.frame.specs.Frame.{bypassOf, controlOf, numberOf, dataOf, frameOf, writing}
 use Rattle.frame.specs.declared.Kind.{Kind}
 use Rattle.frame.specs.declared.Kind.the-variants as kind
 use Rattle.frame.proofs.Emitted.{length-frame, writing-room, writing-done}
 use Rattle.fop.specs.Limits.{largestK}
-use Rattle.fop.specs.Units.{Own, Frame, written}
+use Rattle.fop.specs.Units.{Own, written}
 use Rattle.fop.specs.Answers.{octetsDown, room}
 use Rattle.fop_actions.specs.declared.Settings.{Settings}
 use Rattle.fop_actions.specs.declared.Handed.{Handed}
 use Rattle.fop_actions.specs.declared.Handed.the-variants as handed
-use Rattle.fop_actions.specs.declared.Sender.{Sender}
 use Rattle.fop_actions.specs.View.{unitAt, framesOf}
-use Rattle.fop_actions.specs.Start.{begun}
-use Rattle.fop_view.specs.State.{Good, held}
 use Rattle.sender.specs.Events.{handedWriting}
 
 -- the octets of a frame, none where there is none

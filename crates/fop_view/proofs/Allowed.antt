@@ -1,7 +1,7 @@
 -- Every cell of table 7-8 is allowed: the mode in which its event begins leads through its actions to one that its next state asks.
 use Prim.Native.Nat.{ℕ}
 use mathlib.Core.Path.{_≡_, refl}
-use mathlib.Core.Bool.{Bool, true, false}
+use mathlib.Core.Bool.{Bool, true}
 use mathlib.Core.List.{List}
 use Rattle.base.specs.Choice.{both}
 use Rattle.base.proofs.Tests.{both-left, both-right}

@@ -1,6 +1,6 @@
 -- The actions that change the store stand first in their cells: Remove acknowledged frames moves it down, Add to Wait_Queue puts a unit
 -- into it. What is known before them is what is known of the sender.
-use Prim.Native.Nat.{ℕ, suc, _+_, _-_, _*_, _%_, _≤_, _<_}
+use Prim.Native.Nat.{ℕ, _+_, _-_, _*_, _%_, _≤_, _<_}
 use mathlib.Core.Path.{_≡_, refl, sym, ap, subst, _∙_}
 use mathlib.Core.Bool.{Bool, true, false}
 use mathlib.Core.List.{List, []}

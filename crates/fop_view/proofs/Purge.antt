@@ -1,5 +1,5 @@
 -- Alert and Initialise: both queues are purged, which denies the units sent and leaves both empty, with no type-BC frame.
-use Prim.Native.Nat.{ℕ, suc, _≤_, _<_}
+use Prim.Native.Nat.{ℕ, suc, _≤_}
 use mathlib.Core.Path.{_≡_, refl, ap, _∙_}
 use mathlib.Core.Bool.{Bool, true, false}
 use mathlib.Core.List.{List, _++_}

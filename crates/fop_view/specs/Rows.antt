@@ -1,6 +1,7 @@
 -- What the row of an event, done to the sender's struct and store, has to show: the table machine's work on what they read as.
 use Prim.Native.Nat.{ℕ, _*_, _≤_, _<_}
 use mathlib.Core.Path.{_≡_}
+use mathlib.Core.Bool.{Bool, true, false}
 use mathlib.Core.List.{List}
 use mathlib.Core.Option.{some}
 use lib.ListN.{length, set}
@@ -18,7 +19,7 @@ use Rattle.fop.specs.Answers.{runOf}
 use Rattle.fop_actions.specs.declared.Handed.the-variants as handed
 use Rattle.fop_actions.specs.declared.Sender.{Sender}
 use Rattle.fop_actions.specs.declared.Work.{Work}
-use Rattle.fop_actions.specs.Start.{begun, senderOf}
+use Rattle.fop_actions.specs.Start.{senderOf}
 use Rattle.fop_actions.specs.View.{view, runTold}
 use Rattle.fop_rows.specs.Rows.{inMain}
 use Rattle.fop_view.specs.State.{Good}
@@ -105,35 +106,33 @@ Needed suspending o n s = ⊥
 abbrev pub Meets : FopEvent → List ℕ → ℕ → Sender → Type 0
 Meets e o n s = Needed (brings e) o n s
 
+-- whether it is a unit for the empty Wait_Queue
+abbrev pub isOffering : Brings → Bool
+isOffering nothing = false
+isOffering acknowledging = false
+isOffering again = false
+isOffering offering = true
+isOffering numbering = false
+isOffering widening = false
+isOffering clocking = false
+isOffering limiting = false
+isOffering timing = false
+isOffering suspending = false
+
 -- the store after an event: the unit offered is put behind the sent ones where it is added to the Wait_Queue; the units confirmed are
 -- removed from the front
 abbrev pub storeBy : Brings → List ℕ → Sender → Work → List ℕ → List ℕ
-storeBy offering o s w store = pick (inMain (s .state)) (placed store (largestUnit * s .queues .sent) o) store
-storeBy nothing o s w store = slid (largestUnit * w .told .confirmed .count) store
-storeBy acknowledging o s w store = slid (largestUnit * w .told .confirmed .count) store
-storeBy again o s w store = slid (largestUnit * w .told .confirmed .count) store
-storeBy numbering o s w store = slid (largestUnit * w .told .confirmed .count) store
-storeBy widening o s w store = slid (largestUnit * w .told .confirmed .count) store
-storeBy clocking o s w store = slid (largestUnit * w .told .confirmed .count) store
-storeBy limiting o s w store = slid (largestUnit * w .told .confirmed .count) store
-storeBy timing o s w store = slid (largestUnit * w .told .confirmed .count) store
-storeBy suspending o s w store = slid (largestUnit * w .told .confirmed .count) store
+storeBy b o s w store =
+    pick (isOffering b) (pick (inMain (s .state)) (placed store (largestUnit * s .queues .sent) o) store) (slid (largestUnit * w .told .confirmed .count) store)
 
 abbrev pub storeAfter : FopEvent → List ℕ → Sender → Work → List ℕ → List ℕ
 storeAfter e o s w store = storeBy (brings e) o s w store
 
 -- and so the lengths of the units
 abbrev pub lengthsBy : Brings → List ℕ → Sender → Work → List ℕ
-lengthsBy offering o s w = pick (inMain (s .state)) (set (s .queues .lengths) (s .queues .sent) (length o)) (s .queues .lengths)
-lengthsBy nothing o s w = slid (w .told .confirmed .count) (s .queues .lengths)
-lengthsBy acknowledging o s w = slid (w .told .confirmed .count) (s .queues .lengths)
-lengthsBy again o s w = slid (w .told .confirmed .count) (s .queues .lengths)
-lengthsBy numbering o s w = slid (w .told .confirmed .count) (s .queues .lengths)
-lengthsBy widening o s w = slid (w .told .confirmed .count) (s .queues .lengths)
-lengthsBy clocking o s w = slid (w .told .confirmed .count) (s .queues .lengths)
-lengthsBy limiting o s w = slid (w .told .confirmed .count) (s .queues .lengths)
-lengthsBy timing o s w = slid (w .told .confirmed .count) (s .queues .lengths)
-lengthsBy suspending o s w = slid (w .told .confirmed .count) (s .queues .lengths)
+lengthsBy b o s w =
+    pick (isOffering b) (pick (inMain (s .state)) (set (s .queues .lengths) (s .queues .sent) (length o)) (s .queues .lengths))
+    (slid (w .told .confirmed .count) (s .queues .lengths))
 
 abbrev pub lengthsAfter : FopEvent → List ℕ → Sender → Work → List ℕ
 lengthsAfter e o s w = lengthsBy (brings e) o s w

@@ -1,0 +1,77 @@
+-- An event whose row shows the machine's work (crate fop_view, specs/Rows) agrees with it, by the unit that is written: the one that the
+-- machine hands down.
+use Prim.Native.Nat.{ℕ, _≤_, _<_}
+use mathlib.Core.Path.{_≡_, sym, ap, subst, _∙_}
+use mathlib.Core.Bool.{Bool, true, false}
+use mathlib.Core.List.{List, []}
+use mathlib.Core.Option.{some}
+use native.Mathlib.Omega.{arith}
+use lib.ListN.{length, length-replicate}
+use Rattle.base.specs.Outcome.{Outcome}
+use Rattle.frame.specs.Frame.{bypassOf, controlOf, numberOf, dataOf, frameOf}
+use Rattle.frame.proofs.Emitted.{length-frame}
+use Rattle.frame.specs.declared.Kind.{Kind}
+use Rattle.frame.specs.declared.Kind.the-variants as kind
+use Rattle.fop.specs.Units.{Own, Frame, Unlock, written}
+use Rattle.fop.specs.Table.{FopEvent}
+use Rattle.fop.specs.Variables as machine
+use Rattle.fop.specs.Answers.{octetsDown}
+use Rattle.fop_actions.specs.declared.Handed.{Handed}
+use Rattle.fop_actions.specs.declared.Handed.the-variants as handed
+use Rattle.fop_actions.specs.declared.Sender.{Sender}
+use Rattle.fop_actions.specs.declared.Work.{Work}
+use Rattle.fop_actions.specs.Start.{begun}
+use Rattle.fop_actions.specs.View.{unitAt, fopOf, framesOf}
+use Rattle.fop_events.specs.Events.{eventNumber}
+use Rattle.fop_view.specs.State.{Good, held}
+use Rattle.fop_view.specs.Rows.{Shows}
+use Rattle.sender.specs.Answers.{stepBy}
+use Rattle.sender.specs.Events.{handedWriting}
+use Rattle.ends.specs.Ours.{lentOutput}
+use Rattle.ends.proofs.Numbers.{number-event}
+use Rattle.ends.proofs.Writing.{Fits, fitting, unit-fits, Carries, handed-fits}
+use Rattle.ends.proofs.Concluding.{Agrees, SomeOctets, concludes}
+
+-- every frame handed down has octets
+module _ (own : Own) where
+  long : (k : Kind) (u : List ℕ) → 1 ≤ length (frameOf (own .spacecraft) (own .channel) k u)
+  long k u = omega (arith, length-frame (bypassOf k) (controlOf k) (numberOf k) (own .spacecraft) (own .channel) (dataOf k u))
+
+  pub frames-long : (h : Handed) (lengths store o : List ℕ) → SomeOctets (octetsDown own (framesOf h lengths store o))
+  unfolding written
+  frames-long handed.None lengths store o = tt
+  frames-long (handed.Ad n i) lengths store o = long (kind.Ad n) (unitAt lengths i store)
+  frames-long handed.Bd lengths store o = long kind.Bd o
+  frames-long handed.Unlock lengths store o = long kind.Unlock []
+  frames-long (handed.SetVr n) lengths store o = long (kind.SetVr n) []
+
+-- the unit at a place that holds one of the sent units
+pub held-fits : (own : Own) (s : Sender) (store : List ℕ) (i : ℕ) → Good own s store → i < s .queues .sent → Fits (unitAt (s .queues .lengths) i store)
+unfolding begun
+held-fits own s store i g h =
+    unit-fits (s .queues .lengths) store i (omega (arith, g .formed .outstanding, g .formed .window, h)) (g .filled i (below (s .queues .sent) (s .queues .waiting) h))
+    (g .formed .units i) (g .formed .room) where
+      below : (sent : ℕ) (waiting : Bool) → i < sent → i < held sent waiting
+      below sent true k = omega arith
+      below sent false k = k
+
+-- an event that shows the machine's work, by the unit u that is written and the store after it
+module _ (own : Own) (e : FopEvent) (o : List ℕ) (n : ℕ) (s : Sender) (store new u : List ℕ) (lent : ℕ) (w : Work) (m : machine.Work) (good : Good own s store)
+    (shows : Shows own e o n w new m)
+    (carried : Carries own (s .settings) (good .spacecraft) (good .channel) (good .spacecraft-most) (good .channel-most) (w .queues .lengths) new o u lent (w .told .handed)) where
+  written-is : handedWriting (s .settings) (w .told .handed) u (length (lentOutput lent)) ≡ fitting (octetsDown own (m .frames)) lent
+  written-is =
+      ap (handedWriting (s .settings) (w .told .handed) u) (length-replicate lent 0)
+      ∙ handed-fits own (s .settings) (good .spacecraft) (good .channel) (good .spacecraft-most) (good .channel-most) (w .queues .lengths) new o u lent (w .told .handed) carried
+      ∙ ap (λ (x : List Frame). fitting (octetsDown own x) lent) (sym (ap (λ (x : machine.Work). x .frames) (shows .is)))
+
+  some-octets : SomeOctets (octetsDown own (m .frames))
+  some-octets =
+      subst (λ (x : List Frame). SomeOctets (octetsDown own x)) (sym (ap (λ (x : machine.Work). x .frames) (shows .is)))
+      (frames-long own (w .told .handed) (w .queues .lengths) new o)
+
+  pub shown : Agrees own lent (fopOf (begun s) store) m
+      (stepBy (eventNumber e) s w (handedWriting (s .settings) (w .told .handed) u (length (lentOutput lent))) new store (lentOutput lent))
+  shown =
+      subst (λ (x : Outcome (Unit {0})). Agrees own lent (fopOf (begun s) store) m (stepBy (eventNumber e) s w x new store (lentOutput lent))) (sym written-is)
+      (concludes own (some e) (eventNumber e) (number-event e) o n s store new w m lent (shows .is) (shows .confirmed) (shows .denied) (shows .good) good some-octets)
