@@ -7,7 +7,6 @@ use borrow.Author.Tests.{lt-ltb}
 use Rattle.base.proofs.Tests.{tests}
 use Rattle.farm.specs.Receiver.{releaseOf}
 use Rattle.farm.specs.declared.Released.the-variants.{Done}
-use Rattle.farm.specs.declared.Event.the-variants.{E1, E10}
 use Rattle.farm.proofs.Cells.{differ}
 use Rattle.farm.proofs.Receiver.release.Statement.{statement}
 use Rattle.farm.proofs.Receiver.release.Tie as tie
@@ -22,7 +21,7 @@ sub-less : tie.Need-sub-less
 sub-less c = search needs
 
 answer-requires : tie.Need-answer-requires
-answer-requires c κs = differ E10 E1 refl
+answer-requires c κs = differ _ _ refl
 
 returns-2 : tie.Need-returns-2
 unfolding releaseOf

@@ -1,5 +1,8 @@
 -- What the callees ensure, put together, is the definition.
+use mathlib.Core.Path.{ap, _∙_}
+use Prim.Native.Nat.{ℕ}
 use borrow.Author.Needs.{needs}
+use Rattle.fop_actions.specs.Actions.{least}
 use Rattle.fop_actions.proofs.release.staying.Statement.{statement}
 use Rattle.fop_actions.proofs.release.staying.Tie as tie
 
@@ -10,7 +13,7 @@ least-requires : tie.Need-least-requires
 least-requires c κs = search needs
 
 returns : tie.Need-returns
-returns c = cc
+returns c = c .least .ensures ∙ ap (λ (x : ℕ). least (c .before .before .args .work .queues .sent) x) (c .before .difference .ensures)
 
 pub staying-spec : {M : Type 1} → statement M
 staying-spec = tie.close (tie.spec difference-requires least-requires returns)
