@@ -38,6 +38,12 @@ module _ (set : Settings) (within : Within set) (store : List ℕ) (long : small
   abbrev first : Sender
   first = startOf (senderSettings set) (set .n) (set .n)
 
+  -- told to initiate without check, the machine's start is the session's
+  active : answers.senderNext (set .own) (directive 1 0) 0 (fopOf (begun first) store) ≡ startSender set
+  unfolding startSender answers.senderNext answers.senderRefusal answers.judged answers.needed events.work events.fopDirective events.directiveEvent
+      table.table78 action.fopDo action.performCell action.performAll action.perform action.purge action.denyBc action.rejectWaiting startOf begun
+  active = refl
+
   -- the settings of a session are within the limits of a start
   no-offset : offset (set .n) (set .n) ≤ largestK
   no-offset = omega (arith, within .number)
@@ -85,11 +91,6 @@ module _ (set : Settings) (within : Within set) (store : List ℕ) (long : small
   -- Initiate without check, at the start
   initiated : Does (set .own) 0 (directive 1 0) (fopOf (begun first) store) (directiveOf 1 0 first store (lentOutput 0))
   initiated = directive-does (set .own) first store 0 first-good 1 0
-
-  active : answers.senderNext (set .own) (directive 1 0) 0 (fopOf (begun first) store) ≡ startSender set
-  unfolding startSender answers.senderNext answers.senderRefusal answers.judged answers.needed events.work events.fopDirective events.directiveEvent
-      table.table78 action.fopDo action.performCell action.performAll action.perform action.purge action.denyBc action.rejectWaiting startOf begun
-  active = refl
 
   started-as : startHeld set store ≡ heldAfter (directiveOf 1 0 first store (lentOutput 0))
   unfolding startHeld
