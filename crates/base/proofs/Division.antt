@@ -4,13 +4,13 @@ use mathlib.Core.Path.{_≡_, refl, sym, ap, ap₂, _∙_, subst}
 use mathlib.Core.Logic.{_⊎_, inl, inr, ⊎-elim}
 use mathlib.Core.List.{List, [], _∷_, _++_}
 use Prim.Native.Nat.{ℕ, zero, suc, _+_, _*_, _/_, _%_, _^_, _<_, _≤_}
-use native.Mathlib.Nat.{pow-suc, mod-lt, mul-assoc, mul-comm, mul-add, div-add-mod', div-eq-of-lt, le-div-iff-mul-le, mul-div-mul-right, zero-mul, one-mul}
+use native.Mathlib.Nat.{pow-suc, mod-lt, mul-assoc, mul-add, div-add-mod', div-eq-of-lt, le-div-iff-mul-le, mul-div-mul-right, zero-mul, one-mul}
 use native.Mathlib.Omega.{arith}
 use lib.Bits.{bitXor, xor-shifted, xor-comm, xor-lt, xor-shr, xor-zero-r}
 use lib.ListN.{length, replicate, length-append, length-replicate}
 use lib.Pow.{pow-pos}
 use Rattle.base.specs.Register.{shiftBit, shiftBits, register}
-use Rattle.base.specs.Octets.{Below, Bits, Octets, bitsOf, octetBits}
+use Rattle.base.specs.Octets.{Bits, Octets, bitsOf, octetBits}
 use Rattle.base.specs.Polynomial.{horner, times, Remainder}
 use Rattle.base.proofs.Lists.{below-append}
 use Rattle.base.proofs.Xor.{xor-assoc, xor-undo, xor-equal, across, scale, swap, four, double, bit-times}

@@ -9,7 +9,7 @@ use lib.ListN.{length, take, drop, getD, length-append, length-take, length-drop
 use lib.Seq.{drop-nil, drop-cons, drop-drop, take-add, take-at, drop-at, take-append-le, drop-append-le, drop-append-add}
 use lib.Pow.{mod-pow-add, shr-shr, high}
 use Rattle.base.specs.Octets.{Bits, Octets, same, bitsOf, octetBits}
-use Rattle.base.specs.Fields.{Location, Field, digitsOf, valueOf, packed, octetsOf, fieldAt}
+use Rattle.base.specs.Fields.{Field, digitsOf, valueOf, packed, octetsOf, fieldAt}
 use Rattle.base.proofs.Computed.{below, is-true}
 use Rattle.base.proofs.Lists.{same-equal, below-append, below-take, below-drop}
 
@@ -183,11 +183,3 @@ field-joined s f v w h =
     ∙ value-append 0 (take v (drop f bs)) (take w (drop (f + v) bs))
     ∙ value-from (valueOf 0 (take v (drop f bs))) (take w (drop (f + v) bs))
     ∙ ap (λ (j : ℕ). valueOf 0 (take v (drop f bs)) * 2 ^ j + valueOf 0 (take w (drop (f + v) bs))) l
-
--- fields are read at the front of a list as before what stands behind
-pub field-before : (s t : List ℕ) (f w : ℕ) → f + w ≤ 8 * length s → fieldAt (record { first = f; width = w }) (s ++ t) ≡ fieldAt (record { first = f; width = w }) s
-unfolding fieldAt
-field-before s t f w h =
-    ap (λ (l : List ℕ). valueOf 0 (take w (drop f l))) (bits-append s t)
-    ∙ ap (λ (l : List ℕ). valueOf 0 (take w l)) (drop-append-le f (octetBits s) (octetBits t) (omega (arith, length-bits s)))
-    ∙ ap (valueOf 0) (take-append-le w (drop f (octetBits s)) (octetBits t) (simp length-drop (omega (arith, length-bits s))))

@@ -3,13 +3,13 @@
 use mathlib.Core.Path.{_≡_, refl, sym, ap, _∙_}
 use mathlib.Core.Bool.{true, false}
 use mathlib.Core.List.{List, [], _∷_, _++_}
-use Prim.Native.Nat.{ℕ, zero, suc, _+_, _-_, _<_, _≤_}
+use Prim.Native.Nat.{ℕ, zero, suc, _+_, _-_, _<_}
 use native.Mathlib.Nat.{le-of-suc-le-suc, not-suc-le-zero, le-refl}
 use native.Mathlib.Numerals.{add-one}
 use native.Mathlib.Omega.{arith}
 use borrow.Author.Tests.{eqb-true, eq-eqb}
 use lib.Dec.{eqb}
-use lib.ListN.{length, take, drop, getD, set, length-append, length-take, length-drop}
+use lib.ListN.{length, take, drop, getD, set, length-drop}
 use lib.Seq.{drop-cons, take-all, take-length}
 use Rattle.base.specs.Octets.{Below, Octets, same}
 use Rattle.base.proofs.Tests.{apart, not-so, both-left, both-right, both-true}
@@ -32,10 +32,6 @@ store-by c d o i v eo ev h k = ap (λ (l : List ℕ). set l i v) eo ∙ ap (set 
 -- with all of c it is c, and d from there
 pub stored : (c d : List ℕ) (i : ℕ) → i ≡ length c → take i c ++ drop i d ≡ c ++ drop (length c) d
 stored c d i e = rw (e, take-length)
-
--- such a list is as long as d
-pub length-stored : (c d : List ℕ) (i : ℕ) → i ≤ length c → length c ≤ length d → length (take i c ++ drop i d) ≡ length d
-length-stored c d i h k = simp (length-append, length-take, length-drop) (omega arith)
 
 -- the rest of a list, as a loop that counts up by one meets it
 pub next : (s : List ℕ) (i : ℕ) → i < length s → drop i s ≡ getD s i 0 ∷ drop (i + 1) s

@@ -3,6 +3,7 @@ pub mod Limits
 pub mod Outcome
 pub mod Octets
 pub mod Fields
+pub mod Flags
 pub mod Polynomial
 pub mod Register
 pub mod Modulo

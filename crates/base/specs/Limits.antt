@@ -1,24 +1,26 @@
 -- Document 01, "Limits", by name.
 use Prim.Native.Nat.{ℕ}
 
--- a transfer frame with its FECF, in octets
+-- "Frame 8 to 256 octets with its FECF": the smallest one
 abbrev pub smallestFrame : ℕ
 smallestFrame = 8
 
+-- the largest one
 abbrev pub largestFrame : ℕ
 largestFrame = 256
 
--- what is lent to the CLTU reader, in octets
+-- "Lent input to the CLTU reader: at most 4,096 octets"
 abbrev pub largestInput : ℕ
 largestInput = 4096
 
--- document 01: a unit (FDU), so that its frame stays within its limits: header 5 octets, FECF 2
+-- "so a unit (FDU) of 1 to 249": the frame less header, 5 octets, and FECF, 2
 abbrev pub largestUnit : ℕ
 largestUnit = 249
 
--- document 01: spacecraft and channel
+-- "Spacecraft 0 to 1,023"
 abbrev pub largestSpacecraft : ℕ
 largestSpacecraft = 1023
 
+-- "channel 0 to 63"
 abbrev pub largestChannel : ℕ
 largestChannel = 63

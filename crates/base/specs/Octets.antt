@@ -10,9 +10,11 @@ abbrev pub Below : ℕ → List ℕ → Type 0
 Below bound [] = Unit {0}
 Below bound (x ∷ xs) = (x < bound) × Below bound xs
 
+-- a list of bits
 abbrev pub Bits : List ℕ → Type 0
 Bits = Below 2
 
+-- a list of octets
 abbrev pub Octets : List ℕ → Type 0
 Octets = Below 256
 

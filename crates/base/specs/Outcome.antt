@@ -15,6 +15,7 @@ pub data Answer (A : Type 0) : Type 0 where
   done : ℕ → A → Answer A
   refused : ℕ → ℕ → Answer A
 
+-- the answer of an outcome
 abbrev pub answer : {A : Type 0} → Outcome A → Answer A
 answer (Outcome.done octets more) = Answer.done (length octets) more
 answer (Outcome.refused number place) = Answer.refused number place
@@ -24,11 +25,12 @@ abbrev pub after : {A : Type 0} → Outcome A → List ℕ → List ℕ
 after (Outcome.done octets more) old = octets ++ drop (length octets) old
 after (Outcome.refused number place) old = old
 
--- the answer by document 01's number, 0 where the operation is done, and the count of octets handed out
+-- the answer by document 01's number, 0 where the operation is done
 abbrev pub numberOf : {A : Type 0} → Answer A → ℕ
 numberOf (Answer.done count more) = 0
 numberOf (Answer.refused number place) = number
 
+-- and the count of octets handed out, 0 by a refusal
 abbrev pub countOf : {A : Type 0} → Answer A → ℕ
 countOf (Answer.done count more) = count
 countOf (Answer.refused number place) = 0

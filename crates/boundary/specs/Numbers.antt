@@ -3,6 +3,7 @@ use Prim.Native.Nat.{ℕ, _+_, _*_}
 use mathlib.Core.Bool.{Bool, true, false, not}
 use lib.Dec.{eqb}
 use Rattle.base.specs.Outcome.{Answer, Answer.done, Answer.refused}
+use Rattle.base.specs.Flags.{bitOf}
 use Rattle.cltu.specs.Cltu.{Found}
 use Rattle.frame.specs.declared.Kind.{Kind}
 use Rattle.frame.specs.declared.Kind.the-variants.{Ad, Bd, Unlock, SetVr}
@@ -13,51 +14,51 @@ use Rattle.clcw.specs.declared.Received.{Received}
 use Rattle.clcw.specs.declared.Reading.{Reading as WordReading}
 use Rattle.clcw.specs.declared.Reading.the-variants.{Word, Invalid, Address, Length as NotFour}
 
--- the place and the count of corrected codeblocks of a CLTU reading
+-- the place that a CLTU reading tells
 abbrev pub placeOf : Answer Found → ℕ
 placeOf (done count found) = found .place
 placeOf (refused number place) = place
 
+-- the count of corrected codeblocks, 0 by a refusal
 abbrev pub correctedOf : Answer Found → ℕ
 correctedOf (done count found) = found .corrected
 correctedOf (refused number place) = 0
 
--- a truth value: 1 or 0
-abbrev pub truth : Bool → ℕ
-truth true = 1
-truth false = 0
-
--- the kind of a frame: 0 AD, 1 BD, 2 Unlock, 3 Set V(R); and what it carries, N(S) or the value
+-- table 6-3: the kind of a frame by number: 0 AD, 1 BD, 2 Unlock, 3 Set V(R)
 abbrev pub kindNumber : Kind → ℕ
 kindNumber (Ad number) = 0
 kindNumber Bd = 1
 kindNumber Unlock = 2
 kindNumber (SetVr value) = 3
 
+-- what a frame carries: N(S), or the value of Set V(R)
 abbrev pub kindValue : Kind → ℕ
 kindValue (Ad number) = number
 kindValue Bd = 0
 kindValue Unlock = 0
 kindValue (SetVr value) = value
 
--- the fields of a frame reading
+-- the kind of the frame that was read
 abbrev pub frameKind : Reading → ℕ
 frameKind (Frame fields) = kindNumber (fields .kind)
 frameKind (Refused number) = 0
 
+-- its N(S), or the value of Set V(R)
 abbrev pub frameValue : Reading → ℕ
 frameValue (Frame fields) = kindValue (fields .kind)
 frameValue (Refused number) = 0
 
+-- the octets of the whole frame (clause 6.2.2.8)
 abbrev pub frameTotal : Reading → ℕ
 frameTotal (Frame fields) = fields .total
 frameTotal (Refused number) = 0
 
+-- the octets of its data field (clause 6.2.3)
 abbrev pub frameField : Reading → ℕ
 frameField (Frame fields) = fields .field
 frameField (Refused number) = 0
 
--- the fields of a control word reading: 1 where it is a word, 0 where it is invalid or refused
+-- 1 where a control word was read, 0 where it is invalid or refused
 abbrev pub wordValid : WordReading → ℕ
 wordValid (Word received) = 1
 wordValid Invalid = 0
@@ -71,19 +72,23 @@ wordField f Invalid = 0
 wordField f Address = 0
 wordField f NotFour = 0
 
+-- Status Field: read and not judged
 abbrev pub statusTold : Received → ℕ
 statusTold received = received .status
 
--- no RF and no bit lock, the three flags: as one number, the first the highest bit
+-- the two flags of the physical channel as one number: 2 No RF Available, 1 No Bit Lock
 abbrev pub rfTold : Received → ℕ
-rfTold received = truth (received .«no_rf») * 2 + truth (received .«no_bit_lock»)
+rfTold received = bitOf (received .«no_rf») * 2 + bitOf (received .«no_bit_lock»)
 
+-- the three flags as one number: 4 lockout, 2 wait, 1 retransmit
 abbrev pub flagsTold : Received → ℕ
-flagsTold received = truth (received .word .lockout) * 4 + truth (received .word .wait) * 2 + truth (received .word .retransmit)
+flagsTold received = bitOf (received .word .lockout) * 4 + bitOf (received .word .wait) * 2 + bitOf (received .word .retransmit)
 
+-- FARM-B Counter
 abbrev pub counterTold : Received → ℕ
 counterTold received = received .word .counter
 
+-- Report Value, N(R)
 abbrev pub reportTold : Received → ℕ
 reportTold received = received .word .report
 

@@ -7,10 +7,9 @@ use Rattle.base.specs.Choice.{must}
 use Rattle.base.specs.Outcome as outcome
 use Rattle.clcw.specs.Clcw.{writing}
 use Rattle.farm.specs.Kept.{stateOctets, octetsOf, receiverIn, isState}
-use Rattle.farm.specs.Receiver.{startOf, receiveOf, unitPart, releaseOf, wordOf}
+use Rattle.farm.specs.Receiver.{startOf, startNumber, receiveOf, unitPart, releaseOf, releasedNumber, wordOf}
 use Rattle.farm.specs.declared.Event.{Event}
 use Rattle.farm.specs.declared.Event.the-variants as event
-use Rattle.farm.specs.declared.Receiver.{Receiver}
 use Rattle.farm.specs.declared.Received.{Received}
 use Rattle.farm.specs.declared.Unit.{Unit as AcceptedUnit}
 use Rattle.farm.specs.declared.Unit.the-variants as unit
@@ -54,8 +53,9 @@ pub record Called : Type 0 where
 abbrev pub starting : Start → List ℕ → Called
 starting (start.Ready r) old =
     must (leb stateOctets (length old)) (record { number = 11; state = old }) (record { number = 0; state = octetsOf r ++ drop stateOctets old })
-starting start.Setting old = record { number = 12; state = old }
+starting start.Setting old = record { number = startNumber start.Setting; state = old }
 
+-- `receiver_new`: a receiver at its start (document 01, "FARM-1")
 unfoldable pub newCall : ℕ → ℕ → ℕ → ℕ → ℕ → List ℕ → Called
 newCall spacecraft channel window vr buffers old = starting (startOf spacecraft channel window vr buffers) old
 
@@ -68,6 +68,7 @@ pub record Frame : Type 0 where
   pub count : ℕ
   pub state : List ℕ
 
+-- the answer to a frame that met a receiver
 abbrev pub received : Received → List ℕ → Frame
 received a part = record {
   number = a .refusal;
@@ -78,6 +79,7 @@ received a part = record {
   state = octetsOf (a .next);
 }
 
+-- `receiver_frame`: lent octets arrive as a frame
 unfoldable pub frameCall : List ℕ → List ℕ → Frame
 frameCall state frame =
     must (isState state) (record { number = 12; event = 0; unit = 0; first = 0; count = 0; state = state })
@@ -89,10 +91,12 @@ pub record Release : Type 0 where
   pub event : ℕ
   pub state : List ℕ
 
+-- the answer to a release; one that is refused changes nothing
 abbrev pub releasedBy : Released → List ℕ → Release
 releasedBy (released.Done a) old = record { number = 0; event = eventNumber (a .event); state = octetsOf (a .next) }
-releasedBy released.NoneTaken old = record { number = 13; event = 0; state = old }
+releasedBy released.NoneTaken old = record { number = releasedNumber released.NoneTaken; event = 0; state = old }
 
+-- `receiver_release`: a buffer is given back
 unfoldable pub releaseCall : List ℕ → Release
 releaseCall state = must (isState state) (record { number = 12; event = 0; state = state }) (releasedBy (releaseOf (receiverIn state)) state)
 

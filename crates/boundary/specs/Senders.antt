@@ -1,6 +1,6 @@
 -- The sender across the boundary: its state as octets in a lent buffer, its answer as octets in another (crate sender_octets).
 use Prim.Native.Nat.{ℕ}
-use mathlib.Core.Bool.{Bool, true, false, _||_, _&&_}
+use mathlib.Core.Bool.{Bool, _||_}
 use mathlib.Core.List.{List}
 use lib.Dec.{leb, eqb}
 use lib.ListN.{length}
@@ -46,15 +46,19 @@ calledBy event state store output answer =
     (must (leb answerOctets (length answer)) (refusedCall 11 state store output answer)
     (doneCall (event (senderIn state .sender .fop)) state answer))
 
+-- `sender_request_ad`: Request to transfer an AD unit (E19, E20)
 unfoldable pub requestAdCall : List ℕ → List ℕ → List ℕ → List ℕ → List ℕ → Called
 requestAdCall state unit store output answer = calledBy (λ s. requestAdOf s unit store output) state store output answer
 
+-- `sender_request_bd`: Request to transfer a BD unit (E21, E22)
 unfoldable pub requestBdCall : List ℕ → List ℕ → List ℕ → List ℕ → List ℕ → Called
 requestBdCall state unit store output answer = calledBy (λ s. requestBdOf s unit store output) state store output answer
 
+-- `sender_tick`: a tick of the timer (E16 to E18, E104 where it expires)
 unfoldable pub tickCall : List ℕ → List ℕ → List ℕ → List ℕ → Called
 tickCall state store output answer = calledBy (λ s. tickOf s store output) state store output answer
 
+-- `sender_control_word`: a control word, any octets (E1 to E15, E101 to E103)
 unfoldable pub wordCall : List ℕ → List ℕ → List ℕ → List ℕ → List ℕ → Called
 wordCall state word store output answer = calledBy (λ s. controlWordOf word s store output) state store output answer
 
@@ -64,6 +68,7 @@ lowerNumbered n =
     pick (eqb n 1) lower.AdAccept
     (pick (eqb n 2) lower.AdReject (pick (eqb n 3) lower.BcAccept (pick (eqb n 4) lower.BcReject (pick (eqb n 5) lower.BdAccept lower.BdReject))))
 
+-- `sender_lower_layer`: an answer of the lower layer (E41 to E46)
 unfoldable pub lowerCall : List ℕ → ℕ → List ℕ → List ℕ → List ℕ → Called
 lowerCall state n store output answer =
     must (leb 1 n) (refusedCall 12 state store output answer)
@@ -74,12 +79,15 @@ lowerCall state n store output answer =
 abbrev pub usesValue : ℕ → Bool
 usesValue d = eqb d 4 || leb 7 d
 
+-- the directive's number as the sender takes it
 abbrev pub narrowNumber : ℕ → ℕ → ℕ
 narrowNumber d v = must (leb d 11) 0 (must (leb v 65535) (pick (usesValue d) 0 d) d)
 
+-- and its value
 abbrev pub narrowValue : ℕ → ℕ
 narrowValue v = must (leb v 65535) 0 v
 
+-- `sender_directive`: a directive by its number and value (E23 to E40)
 unfoldable pub directiveCall : List ℕ → ℕ → ℕ → List ℕ → List ℕ → List ℕ → Called
 directiveCall state d v store output answer =
     calledBy (λ s. directiveOf (narrowNumber d v) (narrowValue v) s store output) state store output answer
@@ -89,16 +97,19 @@ pub record New : Type 0 where
   pub number : ℕ
   pub state : List ℕ
 
+-- a start, its state at the front of the lent buffer
 abbrev pub startedCall : Start → List ℕ → New
 startedCall start state =
     must (eqb (start .refusal) 0) (record { number = start .refusal; state = state })
     (must (leb stateOctets (length state)) (record { number = 11; state = state })
     (record { number = 0; state = placed state 0 (octetsOf (start .sender .fop)) }))
 
+-- the settings given; Timeout_Type is 0 for now
 abbrev pub settingsOf : ℕ → ℕ → ℕ → ℕ → ℕ → Settings
 settingsOf k t1 limit spacecraft channel =
     record { k = k; «t1_initial» = t1; «transmission_limit» = limit; «timeout_type» = 0; spacecraft = spacecraft; channel = channel }
 
+-- `sender_new`: a sender at its start (document 01, "FOP-1")
 unfoldable pub newCall : ℕ → ℕ → ℕ → ℕ → ℕ → ℕ → ℕ → List ℕ → List ℕ → New
 newCall k t1 limit spacecraft channel vs nnr store state =
     startedCall (startingOf (settingsOf k t1 limit spacecraft channel) vs nnr (length store)) state

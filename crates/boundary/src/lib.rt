@@ -10,10 +10,11 @@ use cltu::writer::Written;
 ghost use mathlib.Core.Path.{_≡_};
 ghost use lib.ListN.{length};
 ghost use Rattle.base.specs.Outcome.{answer, after, numberOf, countOf};
+ghost use Rattle.base.specs.Flags.{bitOf};
 ghost use Rattle.codeblock.specs.Codeblock.{errorControl, judged, isGood};
 ghost use Rattle.randomizer.specs.Randomizer.{octet};
 ghost use Rattle.cltu.specs.Cltu.{writing, reading};
-ghost use Rattle.boundary.specs.Numbers.{placeOf, correctedOf, truth};
+ghost use Rattle.boundary.specs.Numbers.{placeOf, correctedOf};
 
 #[no_mangle]
 pub extern "C" fn codeblock_error_control(information: &[u8]) -> u8
@@ -24,7 +25,7 @@ pub extern "C" fn codeblock_error_control(information: &[u8]) -> u8
 
 #[no_mangle]
 pub extern "C" fn codeblock_is_good(block: &[u8]) -> u8
-    ensures { λ r. ⌜ r ≡ truth (isGood (judged (now (block .entry)))) ⌝ }
+    ensures { λ r. ⌜ r ≡ bitOf (isGood (judged (now (block .entry)))) ⌝ }
 {
     if codeblock::is_good(block) {
         return 1;

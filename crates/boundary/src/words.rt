@@ -6,9 +6,10 @@ ghost use mathlib.Core.Path.{_≡_};
 ghost use Prim.Native.Nat.{_≤_};
 ghost use lib.ListN.{length};
 ghost use Rattle.base.specs.Outcome.{answer, after, numberOf, countOf};
+ghost use Rattle.base.specs.Flags.{bitOf};
 ghost use Rattle.clcw.specs.Clcw.{writing};
 ghost use Rattle.clcw.specs.Answers.{writtenAnswer, readingOf, readingNumber};
-ghost use Rattle.boundary.specs.Numbers.{wordGiven, truth, wordValid, wordField, statusTold, rfTold, flagsTold, counterTold, reportTold};
+ghost use Rattle.boundary.specs.Numbers.{wordGiven, wordValid, wordField, statusTold, rfTold, flagsTold, counterTold, reportTold};
 
 // What the writer answered, by its number and the count of octets written.
 pub(crate) fn told(written: Written, count: &mut u64) -> u8
@@ -54,7 +55,7 @@ pub extern "C" fn clcw_write(
 }
 
 fn flag(set: bool) -> u8
-    ensures number { λ r. ⌜ r ≡ truth set ⌝ }
+    ensures number { λ r. ⌜ r ≡ bitOf set ⌝ }
     ensures small { λ r. ⌜ r ≤ 1 ⌝ }
 {
     if set { 1 } else { 0 }

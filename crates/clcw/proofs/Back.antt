@@ -3,19 +3,18 @@
 -- 6-4's fields stand one behind the other, from bit 0 to bit 31 (`layout`).
 use mathlib.Core.Path.{_≡_, refl, sym, ap, _∙_}
 use mathlib.Core.Bool.{Bool, true, false}
-use mathlib.Core.List.{List, [], _∷_, _++_}
-use Prim.Native.Nat.{ℕ, _+_, _<_, _≤_}
+use mathlib.Core.List.{List}
+use Prim.Native.Nat.{ℕ, _<_, _≤_}
 use native.Mathlib.Omega.{arith}
 use borrow.Author.Tests.{eqb-true, eqb-false}
 use lib.Dec.{eqb}
 use lib.ListN.{length, take, drop}
-use Rattle.base.specs.Choice.{both}
-use Rattle.base.specs.Octets.{Bits}
 use Rattle.base.specs.Fields.{Location, digitsOf, valueOf, packed, fieldAt, contiguous}
 use Rattle.base.proofs.Fields.{value-field, bits-packed, bits-octets, length-octets}
+use Rattle.base.specs.Flags.{bitOf}
 use Rattle.clcw.specs.declared.Clcw.{Clcw}
 use Rattle.clcw.specs.declared.Reading.the-variants.{Word, Invalid, Address, Length as NotFour}
-use Rattle.clcw.specs.Clcw.{statusField, virtualChannel, noRfAvailable, noBitLock, lockoutFlag, waitFlag, retransmitFlag, farmBCounter, reportValue, bitOf, wordFields, clcwOf, isValid, wordOf}
+use Rattle.clcw.specs.Clcw.{statusField, virtualChannel, noRfAvailable, noBitLock, lockoutFlag, waitFlag, retransmitFlag, farmBCounter, reportValue, wordFields, clcwOf, isValid, wordOf}
 use Rattle.clcw.specs.Answers.{receivedOf, readingOf}
 use Rattle.clcw.proofs.Outcomes.{reading-length, reading-invalid, reading-address, reading-word}
 

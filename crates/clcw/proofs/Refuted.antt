@@ -9,11 +9,12 @@ use borrow.Author.Tests.{ne-eqb}
 use Rattle.base.specs.Octets.{bitsOf, octetBits}
 use Rattle.base.specs.Fields.{digitsOf, valueOf, packed, octetsOf, fieldAt}
 use Rattle.base.proofs.Tests.{apart, both-false}
+use Rattle.base.specs.Flags.{bitOf}
 use Rattle.clcw.specs.declared.Clcw.{Clcw}
 use Rattle.clcw.specs.declared.Received.{Received}
 use Rattle.clcw.specs.declared.Reading.{Reading}
 use Rattle.clcw.specs.declared.Reading.the-variants.{Word}
-use Rattle.clcw.specs.Clcw.{firstSpare, waitFlag, secondSpare, bitOf, wordFields, clcwOf, isValid, wordOf}
+use Rattle.clcw.specs.Clcw.{firstSpare, waitFlag, secondSpare, wordFields, clcwOf, isValid, wordOf}
 use Rattle.clcw.specs.Answers.{receivedOf, readingOf}
 use Rattle.clcw.proofs.Back.{Case, Case.not-four, Case.invalid, Case.address, Case.ours, reading-cases}
 use Rattle.clcw.proofs.Examples.{flags}

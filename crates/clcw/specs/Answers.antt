@@ -3,7 +3,7 @@ use Prim.Native.Nat.{ℕ}
 use mathlib.Core.List.{List}
 use lib.Dec.{eqb}
 use lib.ListN.{length}
-use Rattle.base.specs.Choice.{pick, must}
+use Rattle.base.specs.Choice.{must}
 use Rattle.base.specs.Fields.{fieldAt}
 use Rattle.base.specs.Outcome.{Answer, Answer.done, Answer.refused}
 use Rattle.clcw.specs.Clcw.{statusField, noRfAvailable, noBitLock, virtualChannel, isValid, wordOf}
@@ -13,6 +13,7 @@ use Rattle.clcw.specs.declared.Reading.the-variants.{Word, Invalid, Addr
 use Rattle.clcw.specs.declared.Written.{Written}
 use Rattle.clcw.specs.declared.Written.the-variants.{Done, Setting, Room}
 
+-- what writing answers: the count of octets, 12 or 11
 abbrev pub writtenAnswer : Written → Answer (Unit {0})
 writtenAnswer (Done count) = done count tt
 writtenAnswer Setting = refused 12 0

@@ -3,66 +3,78 @@ use Prim.Native.Nat.{ℕ}
 use mathlib.Core.Bool.{Bool, true, false}
 use mathlib.Core.List.{List, [], _∷_}
 use lib.Dec.{leb, eqb}
-use lib.ListN.{length}
-use Rattle.base.specs.Choice.{pick, must, both}
+use Rattle.base.specs.Choice.{must, both}
 use Rattle.base.specs.Fields.{Location, Field, packed, octetsOf, fieldAt}
 use Rattle.base.specs.Limits.{largestChannel}
 use Rattle.base.specs.Outcome.{Outcome, Outcome.done, Outcome.refused}
+use Rattle.base.specs.Flags.{bitOf}
 use Rattle.clcw.specs.declared.Clcw.{Clcw}
 
+-- a field's location by its first bit and its length in bits
 abbrev pub at : ℕ → ℕ → Location
 at first width = record { first = first; width = width }
 
--- table 6-4: each field with its location and its length in bits
+-- Table 6-4, row by row: each field with its location and its length in bits.
+
+-- Control Word Type: bit 0
 abbrev pub controlWordType : Location
 controlWordType = at 0 1
 
+-- CLCW Version Number: bits 1-2
 abbrev pub versionNumber : Location
 versionNumber = at 1 2
 
+-- Status Field: bits 3-5
 abbrev pub statusField : Location
 statusField = at 3 3
 
+-- COP in Effect: bits 6-7
 abbrev pub copInEffect : Location
 copInEffect = at 6 2
 
+-- Virtual Channel Identification: bits 8-13
 abbrev pub virtualChannel : Location
 virtualChannel = at 8 6
 
+-- Reserved Spare: bits 14-15
 abbrev pub firstSpare : Location
 firstSpare = at 14 2
 
+-- No RF Available Flag: bit 16
 abbrev pub noRfAvailable : Location
 noRfAvailable = at 16 1
 
+-- No Bit Lock Flag: bit 17
 abbrev pub noBitLock : Location
 noBitLock = at 17 1
 
+-- Lockout Flag: bit 18
 abbrev pub lockoutFlag : Location
 lockoutFlag = at 18 1
 
+-- Wait Flag: bit 19
 abbrev pub waitFlag : Location
 waitFlag = at 19 1
 
+-- Retransmit Flag: bit 20
 abbrev pub retransmitFlag : Location
 retransmitFlag = at 20 1
 
+-- FARM-B Counter: bits 21-22
 abbrev pub farmBCounter : Location
 farmBCounter = at 21 2
 
+-- Reserved Spare: bit 23
 abbrev pub secondSpare : Location
 secondSpare = at 23 1
 
+-- Report Value: bits 24-31
 abbrev pub reportValue : Location
 reportValue = at 24 8
 
+-- a field that holds a value
 abbrev pub holds : Location → ℕ → Field
 holds location value = record { location = location; value = value }
-
--- a flag as a bit
-abbrev pub bitOf : Bool → ℕ
-bitOf true = 1
-bitOf false = 0
 
 -- document 01: status, no RF and no bit lock are written zero
 unfoldable pub wordFields : Clcw → List Field

@@ -5,7 +5,8 @@ ghost use Prim.Native.Nat.{_*_, _≤_};
 ghost use lib.ListN.{length};
 ghost use Rattle.base.specs.Outcome.{answer, after};
 ghost use Rattle.base.specs.Limits.{largestChannel};
-ghost use Rattle.clcw.specs.Clcw.{clcwOf, writing, isValid, wordOf, bitOf};
+ghost use Rattle.base.specs.Flags.{bitOf};
+ghost use Rattle.clcw.specs.Clcw.{clcwOf, writing, isValid, wordOf};
 ghost use Rattle.clcw.specs.Answers.{writtenAnswer, receivedOf, readingOf};
 
 // The fields of a control word that FOP-1 and FARM-1 give a meaning: channel, the three flags, the FARM-B counter (0 to 3) and

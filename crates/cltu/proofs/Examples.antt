@@ -1,8 +1,8 @@
 -- A computed example of each outcome of reading and writing, and the exact needs 26 and 306.
 use mathlib.Core.Path.{_≡_, refl}
-use mathlib.Core.List.{List, [], _∷_, _++_, map}
+use mathlib.Core.List.{List, [], _∷_, _++_}
 use Prim.Native.Nat.{ℕ}
-use lib.ListN.{length, replicate}
+use lib.ListN.{replicate}
 use Rattle.base.specs.Outcome.{answer, numberOf}
 use Rattle.base.specs.Register.{shiftBit, shiftBits, register}
 use Rattle.codeblock.specs.Codeblock.{parity, errorControl, codeblockOf, judged}

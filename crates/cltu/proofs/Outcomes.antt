@@ -1,15 +1,15 @@
 -- What writing and reading come to, a law for each of their checks.
 use mathlib.Core.Path.{_≡_, sym, ap, _∙_}
 use mathlib.Core.List.{List}
-use Prim.Native.Nat.{ℕ, zero, suc, _+_, _-_, _*_, _/_, _<_, _≤_}
+use Prim.Native.Nat.{ℕ, _+_, _-_, _*_, _/_, _<_, _≤_}
 use native.Mathlib.Omega.{arith}
 use borrow.Author.Tests.{lt-ltb, le-ltb, le-leb, lt-leb}
 use lib.ListN.{length, take, drop}
-use Rattle.base.specs.Outcome.{Outcome, Outcome.done, Outcome.refused}
+use Rattle.base.specs.Outcome.{Outcome.done, Outcome.refused}
 use Rattle.base.proofs.Lists.{rest}
 use Rattle.randomizer.specs.Randomizer.{randomized}
-use Rattle.cltu.specs.Cltu.{need, cltuOf, writing, startOf, goodRun, informationIn, correctedIn, Found, readingRun, readingAfter, reading}
-use Rattle.cltu.proofs.Scan.{corrected-none, run-le}
+use Rattle.cltu.specs.Cltu.{need, cltuOf, writing, startOf, goodRun, informationIn, readingRun, readingAfter, reading}
+use Rattle.cltu.proofs.Scan.{corrected-none}
 
 module _ (frame : List ℕ) (room : ℕ) where
   pub writing-short : length frame < 8 → writing frame room ≡ refused 10 0

@@ -1,7 +1,7 @@
 -- What stands at each place of a written CLTU: the start sequence, the information randomized, the error control octet of each
 -- codeblock, which is not, and the tail sequence (`places`).
 use mathlib.Core.Path.{_≡_, refl, sym, ap, _∙_}
-use mathlib.Core.List.{List, [], _∷_, _++_}
+use mathlib.Core.List.{List, [], _++_}
 use Prim.Native.Nat.{ℕ, zero, suc, _+_, _-_, _*_, _<_, _≤_}
 use native.Mathlib.Nat.{le-of-suc-le-suc, not-suc-le-zero, zero-add, mul-suc}
 use native.Mathlib.Omega.{arith}

@@ -1,9 +1,8 @@
 -- Refuted by name: wrong readers and writers, each with a witness on which it differs from the definitions.
 use mathlib.Core.Path.{_≡_, refl, sym, ap, _∙_}
-use mathlib.Core.Bool.{Bool, true, false}
+use mathlib.Core.Bool.{Bool}
 use mathlib.Core.List.{List, [], _∷_, _++_}
 use Prim.Native.Nat.{ℕ, zero, suc, _+_, _-_, _*_}
-use lib.Bits.{bitXor}
 use lib.ListN.{length, take, drop, replicate}
 use Rattle.base.specs.Outcome.{Outcome, answer, numberOf}
 use Rattle.base.specs.Register.{shiftBit, shiftBits, register}

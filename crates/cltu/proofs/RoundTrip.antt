@@ -11,7 +11,6 @@ use lib.Dec.{eqb}
 use lib.ListN.{length, take, drop, length-append, length-take, length-drop, take-append-drop}
 use lib.Seq.{take-at, drop-at, drop-append-add}
 use Rattle.base.specs.Choice.{pick}
-use Rattle.base.specs.Octets.{same}
 use Rattle.base.specs.Outcome.{Outcome.done}
 use Rattle.base.specs.Register.{shiftBit, shiftBits, register}
 use Rattle.base.proofs.Tests.{both-false}
@@ -19,8 +18,8 @@ use Rattle.codeblock.specs.Codeblock.{parity, errorControl, codeblockOf, Judged
 use Rattle.codeblock.proofs.Codeblock.{judged-codeblock}
 use Rattle.randomizer.specs.Randomizer.{randomized}
 use Rattle.randomizer.proofs.Randomized.{randomized-twice}
-use Rattle.cltu.specs.Cltu.{codeblocks, need, filled, encoded, informationFor, cltuOf, startSequence, tailSequence, starts, startOf, goodRun, informationIn, Found, readingAfter, reading}
-use Rattle.cltu.proofs.Places.{length-block, length-information, length-encoded, length-cltu}
+use Rattle.cltu.specs.Cltu.{codeblocks, filled, encoded, informationFor, cltuOf, startSequence, tailSequence, starts, startOf, goodRun, informationIn, readingAfter, reading}
+use Rattle.cltu.proofs.Places.{length-block, length-information, length-encoded}
 use Rattle.cltu.proofs.Outcomes.{reading-found, after-done}
 use Rattle.base.proofs.Lists.{rest}
 

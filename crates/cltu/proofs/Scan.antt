@@ -3,7 +3,7 @@ use mathlib.Core.Path.{_≡_, refl, sym, ap, ap₂, _∙_}
 use mathlib.Core.Bool.{Bool, true, false}
 use mathlib.Core.List.{List, [], _∷_, _++_}
 use Prim.Native.Nat.{ℕ, zero, suc, _+_, _-_, _*_, _/_, _%_, _<_, _≤_}
-use native.Mathlib.Nat.{le-of-suc-le-suc, not-suc-le-zero, add-zero, zero-add, mul-suc}
+use native.Mathlib.Nat.{le-of-suc-le-suc, not-suc-le-zero, zero-add, mul-suc}
 use native.Mathlib.Numerals.{add-one}
 use native.Mathlib.Omega.{arith}
 use lib.ListN.{length, take, drop, getD, length-append, length-take, length-drop, List·getD-append, drop-of-length-le}
@@ -13,7 +13,7 @@ use lib.Seq.{drop-cons, drop-drop, take-take, getD-drop, getD-append-add, getD-t
 use Rattle.base.specs.Choice.{pick, both}
 use Rattle.base.specs.Octets.{same}
 use Rattle.base.proofs.Tests.{apart, both-false, both-true}
-use Rattle.codeblock.specs.Codeblock.{Judged, Judged.good, Judged.bad, judged, isGood, informationOf, correctedOf}
+use Rattle.codeblock.specs.Codeblock.{Judged, judged, isGood, informationOf, correctedOf}
 use Rattle.codeblock.proofs.Codeblock.{good-judged}
 use Rattle.randomizer.specs.Randomizer.{octet, randomized}
 use Rattle.randomizer.proofs.Randomized.{randomized-at, length-randomized}

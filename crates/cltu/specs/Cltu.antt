@@ -1,6 +1,6 @@
 -- Clauses 8.3, 8.6 and 8.7, and document 01, "Codeblock and CLTU": the CLTU of a frame, and the reading of a CLTU.
 use Prim.Native.Nat.{ℕ, zero, suc, _+_, _-_, _*_, _/_}
-use mathlib.Core.Bool.{Bool, true, false}
+use mathlib.Core.Bool.{Bool}
 use mathlib.Core.List.{List, [], _∷_, _++_}
 use lib.Dec.{ltb, leb}
 use lib.ListN.{length, take, drop, replicate}
@@ -27,6 +27,7 @@ codeblocks n = (n + 6) / 7
 abbrev pub fillOctet : ℕ
 fillOctet = 0b0101_0101
 
+-- the frame with its fill, a whole number of codeblocks
 unfoldable pub filled : List ℕ → List ℕ
 filled frame = frame ++ replicate (7 * codeblocks (length frame) - length frame) fillOctet
 
@@ -69,11 +70,12 @@ unfoldable pub goodRun : ℕ → List ℕ → ℕ
 goodRun zero input = 0
 goodRun (suc n) input = pick (isGood (judged (take 8 input))) (suc (goodRun n (drop 8 input))) 0
 
--- the information of the first n codeblocks, and how many bits were corrected in them
+-- the information of the first n codeblocks
 unfoldable pub informationIn : ℕ → List ℕ → List ℕ
 informationIn zero input = []
 informationIn (suc n) input = informationOf (judged (take 8 input)) ++ informationIn n (drop 8 input)
 
+-- how many bits were corrected in the first n codeblocks
 unfoldable pub correctedIn : ℕ → List ℕ → ℕ
 correctedIn zero input = 0
 correctedIn (suc n) input = correctedOf (judged (take 8 input)) + correctedIn n (drop 8 input)
@@ -92,6 +94,7 @@ readingRun offset input room n =
     (must (leb (7 * n) room) (refused 11 0)
     (done (randomized 0 (informationIn n input)) (record { place = offset + 8 * n; corrected = correctedIn n input }))))
 
+-- reading on, with the count of good codeblocks that the rest has
 abbrev pub readingAfter : ℕ → List ℕ → ℕ → Outcome Found
 readingAfter offset input room = readingRun offset input room (goodRun (length input / 8) input)
 

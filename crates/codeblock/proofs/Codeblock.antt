@@ -1,10 +1,9 @@
 -- Laws of a received codeblock: an encoding is good, what is good is an encoding, and how eight octets are judged.
-use mathlib.Core.Path.{_≡_, refl, sym, ap, ap₂, _∙_}
+use mathlib.Core.Path.{_≡_, refl, sym, ap, _∙_}
 use mathlib.Core.Bool.{Bool, true, false}
 use mathlib.Core.List.{List, [], _∷_, _++_}
 use Prim.Native.Nat.{ℕ, _+_, _/_, _%_}
 use native.Mathlib.Omega.{arith}
-use lib.Bits.{bitXor}
 use borrow.Author.Tests.{eq-eqb, ne-eqb, eqb-true, eqb-false}
 use lib.Dec.{eqb}
 use lib.ListN.{length, take, drop, getD, length-append, length-take, take-append-drop, drop-of-length-le}
@@ -13,7 +12,7 @@ use Rattle.base.specs.Choice.{pick}
 use Rattle.base.specs.Octets.{same}
 use Rattle.base.proofs.Tests.{apart, not-so}
 use Rattle.base.proofs.Lists.{same-equal, same-self, same-last}
-use Rattle.codeblock.specs.Codeblock.{parity, errorControl, codeblockOf, Judged, Judged.good, Judged.bad, judged, isGood, informationOf, correctedOf}
+use Rattle.codeblock.specs.Codeblock.{errorControl, codeblockOf, Judged.good, Judged.bad, judged, isGood}
 
 pub length-codeblock : (information : List ℕ) → length (codeblockOf information) ≡ length information + 1
 unfolding codeblockOf

@@ -1,10 +1,10 @@
 -- Clause 8.5: the parity check bits are the remainder of the information times x^7 by x^7 + x^6 + x^2 + 1, and no other number is.
 use mathlib.Core.Path.{_≡_}
 use mathlib.Core.List.{List}
-use Prim.Native.Nat.{ℕ, _^_}
+use Prim.Native.Nat.{ℕ}
 use native.Mathlib.Omega.{arith}
 use Rattle.base.specs.Octets.{Octets, octetBits}
-use Rattle.base.specs.Polynomial.{horner, times, Remainder}
+use Rattle.base.specs.Polynomial.{times, Remainder}
 use Rattle.base.proofs.Division.{register-remainder, one-remainder}
 use Rattle.codeblock.specs.Codeblock.{generator, parity}
 

@@ -38,14 +38,17 @@ pub data Judged : Type 0 where
 unfoldable pub judged : List ℕ → Judged
 judged block = pick (same block (codeblockOf (take 7 block))) (good (take 7 block) 0) bad
 
+-- whether it is good
 abbrev pub isGood : Judged → Bool
 isGood (good information corrected) = true
 isGood bad = false
 
+-- its information, none where it is bad
 abbrev pub informationOf : Judged → List ℕ
 informationOf (good information corrected) = information
 informationOf bad = []
 
+-- how many of its bits were corrected
 abbrev pub correctedOf : Judged → ℕ
 correctedOf (good information corrected) = corrected
 correctedOf bad = 0

@@ -30,6 +30,7 @@ use Rattle.console.specs.declared.Turn.{Turn}
 abbrev pub programSpacecraft : ℕ
 programSpacecraft = 0
 
+-- and its channel
 abbrev pub programChannel : ℕ
 programChannel = 0
 
@@ -46,6 +47,7 @@ abbrev pub opened : Start → Turn
 opened (Ready r) = record { session = Running r; output = Nothing }
 opened Setting = refusedIn Refusing
 
+-- the first line: "The first line is SET, W, V(R), buffers"
 unfoldable pub firstOf : Line → Turn
 firstOf (Set w v b) = opened (startOf programSpacecraft programChannel w v b)
 firstOf (Ad n) = refusedIn Refusing
@@ -56,6 +58,7 @@ firstOf Bad = refusedIn Refusing
 firstOf Free = refusedIn Refusing
 firstOf Malformed = refusedIn Refusing
 
+-- FREE: a release is E10; one that is refused (13) gives REFUSED
 abbrev pub releasedTurn : Receiver → Released → Turn
 releasedTurn r (Done received) = rowTurn received
 releasedTurn r NoneTaken = refusedIn (Running r)
@@ -71,12 +74,13 @@ laterOf r Bad = rowTurn (answered 0 E9 0 r)
 laterOf r Free = releasedTurn r (releaseOf r)
 laterOf r Malformed = refusedIn (Running r)
 
+-- a line: the first, a later one, or any line where the first was no good SET
 unfoldable pub turnOf : Session → Line → Turn
 turnOf Fresh line = firstOf line
 turnOf (Running r) line = laterOf r line
 turnOf Refusing line = refusedIn Refusing
 
--- the text of a row: event, state, V(R), flags (lockout, wait, retransmit), counter
+-- an event as text: E and its number
 abbrev pub eventText : Event → List ℕ
 eventText E1 = 0x45 ∷ 0x31 ∷ []
 eventText E2 = 0x45 ∷ 0x32 ∷ []
@@ -90,15 +94,18 @@ eventText E9 = 0x45 ∷ 0x39 ∷ []
 eventText E10 = 0x45 ∷ 0x31 ∷ 0x30 ∷ []
 eventText E11 = 0x45 ∷ 0x31 ∷ 0x31 ∷ []
 
+-- S1 Open, S2 Wait, S3 Lockout
 abbrev pub stateText : State → List ℕ
 stateText Open = 0x53 ∷ 0x31 ∷ []
 stateText Wait = 0x53 ∷ 0x32 ∷ []
 stateText Lockout = 0x53 ∷ 0x33 ∷ []
 
+-- a flag: 1 or 0
 abbrev pub flagText : Bool → ℕ
 flagText true = 0x31
 flagText false = 0x30
 
+-- "flags (lockout, wait, retransmit)"
 abbrev pub flagsText : Variables → List ℕ
 flagsText v = flagText (v .lockout) ∷ flagText (v .wait) ∷ flagText (v .retransmit) ∷ []
 
@@ -112,6 +119,7 @@ joined (field ∷ next ∷ fields) = field ++ (tab ∷ joined (next ∷ fields))
 abbrev pub refusedText : List ℕ
 refusedText = 0x52 ∷ 0x45 ∷ 0x46 ∷ 0x55 ∷ 0x53 ∷ 0x45 ∷ 0x44 ∷ []
 
+-- what is written for a line: "Output fields: event, state, V(R), flags .., counter", or REFUSED, or nothing
 unfoldable pub textOf : Output → List ℕ
 textOf Nothing = []
 textOf Refused = joined (refusedText ∷ [])

@@ -18,9 +18,11 @@ pub record Progress : Type 0 where
   pub session : Session
   pub line : List ℕ
 
+-- both together
 abbrev pub progress : Session → List ℕ → Progress
 progress session line = record { session = session; line = line }
 
+-- before the first octet
 abbrev pub atStart : Progress
 atStart = progress Fresh []
 
@@ -32,6 +34,7 @@ progressOf c = progress (c .session) (take (c .len) (c .kept))
 abbrev pub mostKept : ℕ
 mostKept = 64
 
+-- the line under way with one octet more
 abbrev pub keptWith : List ℕ → ℕ → List ℕ
 keptWith line octet = pick (ltb (length line) mostKept) (line ++ (octet ∷ [])) line
 
@@ -43,6 +46,7 @@ endOf p = turnOf (p .session) (lineOf (p .line))
 unfoldable pub octetNext : Progress → ℕ → Progress
 octetNext p octet = pick (eqb octet newline) (progress (endOf p .session) []) (progress (p .session) (keptWith (p .line) octet))
 
+-- and what is written then
 unfoldable pub octetText : Progress → ℕ → List ℕ
 octetText p octet = pick (eqb octet newline) (textOf (endOf p .output)) []
 
@@ -51,6 +55,7 @@ unfoldable pub chunkNext : Progress → List ℕ → Progress
 chunkNext p [] = p
 chunkNext p (octet ∷ chunk) = chunkNext (octetNext p octet) chunk
 
+-- and what is written for them
 unfoldable pub chunkText : Progress → List ℕ → List ℕ
 chunkText p [] = []
 chunkText p (octet ∷ chunk) = octetText p octet ++ chunkText (octetNext p octet) chunk
@@ -63,9 +68,11 @@ lastText p = pick (eqb (length (p .line)) 0) [] (textOf (endOf p .output))
 abbrev pub rowRoom : ℕ
 rowRoom = 20
 
+-- feeding a chunk: 11 where the room is short
 unfoldable pub feeding : Progress → List ℕ → ℕ → Outcome (Unit {0})
 feeding p chunk room = must (leb (length chunk * rowRoom) room) (refused 11 0) (done (chunkText p chunk) tt)
 
+-- and what is kept after it
 unfoldable pub fedNext : Progress → List ℕ → ℕ → Progress
 fedNext p chunk room = must (leb (length chunk * rowRoom) room) p (chunkNext p chunk)
 
@@ -74,9 +81,11 @@ unfoldable pub fedText : Progress → List (List ℕ) → List ℕ
 fedText p [] = lastText p
 fedText p (chunk ∷ chunks) = chunkText p chunk ++ fedText (chunkNext p chunk) chunks
 
+-- the input that chunks are the parts of
 abbrev pub joinedChunks : List (List ℕ) → List ℕ
 joinedChunks [] = []
 joinedChunks (chunk ∷ chunks) = chunk ++ joinedChunks chunks
 
+-- what the program writes for an input read in these chunks; it is `outputOf` of the whole input (proofs/Program)
 unfoldable pub programText : List (List ℕ) → List ℕ
 programText chunks = headerText ++ fedText atStart chunks

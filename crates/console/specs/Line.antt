@@ -11,25 +11,33 @@ use Rattle.text.specs.Fields.{fieldsOf}
 use Rattle.console.specs.declared.Line.{Line}
 use Rattle.console.specs.declared.Line.the-variants.{Set, Ad, Bd, Unlock, SetVr, Bad, Free, Malformed}
 
--- the words, octet by octet
+-- The words, octet by octet.
+
+-- SET
 abbrev pub wordSET : List ℕ
 wordSET = 0x53 ∷ 0x45 ∷ 0x54 ∷ []
 
+-- AD
 abbrev pub wordAD : List ℕ
 wordAD = 0x41 ∷ 0x44 ∷ []
 
+-- BD
 abbrev pub wordBD : List ℕ
 wordBD = 0x42 ∷ 0x44 ∷ []
 
+-- UNLOCK
 abbrev pub wordUNLOCK : List ℕ
 wordUNLOCK = 0x55 ∷ 0x4E ∷ 0x4C ∷ 0x4F ∷ 0x43 ∷ 0x4B ∷ []
 
+-- SETVR
 abbrev pub wordSETVR : List ℕ
 wordSETVR = 0x53 ∷ 0x45 ∷ 0x54 ∷ 0x56 ∷ 0x52 ∷ []
 
+-- BAD
 abbrev pub wordBAD : List ℕ
 wordBAD = 0x42 ∷ 0x41 ∷ 0x44 ∷ []
 
+-- FREE
 abbrev pub wordFREE : List ℕ
 wordFREE = 0x46 ∷ 0x52 ∷ 0x45 ∷ 0x45 ∷ []
 
@@ -37,14 +45,17 @@ wordFREE = 0x46 ∷ 0x52 ∷ 0x45 ∷ 0x45 ∷ []
 abbrev pub numberOf : List ℕ → Number
 numberOf text = numberWithin 255 text
 
+-- AD and N(S)
 abbrev pub adLine : Number → Line
 adLine (is n) = Ad n
 adLine none = Malformed
 
+-- SETVR and a value
 abbrev pub setVrLine : Number → Line
 setVrLine (is n) = SetVr n
 setVrLine none = Malformed
 
+-- SET, W, V(R), buffers
 abbrev pub setLine : Number → Number → Number → Line
 setLine (is w) (is v) (is b) = Set w v b
 setLine (is w) (is v) none = Malformed
@@ -66,5 +77,6 @@ byFields (word ∷ a ∷ b ∷ []) = Malformed
 byFields (word ∷ a ∷ b ∷ c ∷ []) = pick (same word wordSET) (setLine (numberOf a) (numberOf b) (numberOf c)) Malformed
 byFields (word ∷ a ∷ b ∷ c ∷ d ∷ more) = Malformed
 
+-- a line by its text; "one over 63 octets" is malformed
 unfoldable pub lineOf : List ℕ → Line
 lineOf text = must (leb (length text) 63) Malformed (byFields (fieldsOf text))

@@ -1,6 +1,6 @@
 -- What our sender answers where an event was judged, by what the table machine's work on it is: the machine's answer and state where the
 -- frame handed down fits into the output lent, else 11, and nothing changes.
-use Prim.Native.Nat.{ℕ, _+_, _≤_}
+use Prim.Native.Nat.{ℕ, _≤_}
 use mathlib.Core.Path.{_≡_, refl, sym, ap, _∙_}
 use mathlib.Core.Bool.{Bool, true, false}
 use mathlib.Core.List.{List, _++_}

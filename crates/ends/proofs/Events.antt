@@ -1,5 +1,5 @@
 -- Every event of the session: our sender's step does what the table machine does on what the sender's state and store read as.
-use Prim.Native.Nat.{ℕ, _-_, _*_, _<_}
+use Prim.Native.Nat.{ℕ, _*_, _<_}
 use mathlib.Core.Path.{_≡_, refl, sym, ap, subst, _∙_}
 use mathlib.Core.Bool.{Bool, true, false, _&&_, true≢false}
 use mathlib.Core.List.{List, [], _∷_}
@@ -23,7 +23,7 @@ use Rattle.clcw.specs.declared.Clcw.{Clcw}
 use Rattle.clcw.specs.declared.Reading.{Reading}
 use Rattle.clcw.specs.declared.Reading.the-variants as reading
 use Rattle.clcw.proofs.Word.{word-is}
-use Rattle.fop.specs.Units.{Own, Word, Heard, invalid, other, heard, readWord, areOctets, legal}
+use Rattle.fop.specs.Units.{Own, Word, Heard, invalid, heard, readWord, areOctets, legal}
 use Rattle.fop.specs.Table.{FopEvent, E15, E18, E19, E20, E21, E22, E39, E103}
 use Rattle.fop.specs.Variables as machine
 use Rattle.fop.specs.Variables.{Fop}

@@ -24,7 +24,8 @@ use Rattle.fop_actions.specs.Start.{begun}
 use Rattle.fop_rows.specs.Rows.{inMain, isFrame}
 use Rattle.fop_view.specs.State.{Good, held, withFrame}
 use Rattle.sender.specs.Limits.{smallestStore}
-use Rattle.sender.specs.State.{settingsHold, unitsHeld, numbersHold, isEmpty, stateHolds, lengthsHold, wellFormed}
+use Rattle.sender.specs.Start.{settingsHold}
+use Rattle.sender.specs.State.{unitsHeld, numbersHold, isEmpty, stateHolds, lengthsHold, wellFormed}
 
 -- two tests that hold
 joined : (a b : Bool) → a ≡ true → b ≡ true → both a b ≡ true

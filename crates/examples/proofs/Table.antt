@@ -1,7 +1,6 @@
 -- Every worked example of document 01 holds of the definitions: one statement over the table, by computing.
 use mathlib.Core.Path.{_≡_, refl}
-use mathlib.Core.List.{List, map}
-use Prim.Native.Nat.{ℕ}
+use mathlib.Core.List.{map}
 use Rattle.base.specs.Fields.{digitsOf, valueOf, packed, octetsOf}
 use Rattle.base.specs.Register.{shiftBit, shiftBits, register}
 use Rattle.clcw.specs.Clcw.{wordFields, clcwOf}

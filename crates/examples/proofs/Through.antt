@@ -2,18 +2,18 @@
 -- the frame reader's check 5 allows.
 use mathlib.Core.Path.{_≡_}
 use mathlib.Core.List.{List, _++_}
-use Prim.Native.Nat.{ℕ, zero, suc, _+_, _-_, _*_, _≤_, _<_}
+use Prim.Native.Nat.{ℕ, zero, suc, _+_, _-_, _*_, _≤_}
 use native.Mathlib.Omega.{arith}
 use lib.ListN.{length, replicate, length-replicate}
 use Rattle.base.specs.Octets.{Octets}
 use Rattle.base.specs.Outcome.{Outcome.done}
-use Rattle.cltu.specs.Cltu.{codeblocks, fillOctet, filled, cltuOf, startOf, Found, reading}
+use Rattle.cltu.specs.Cltu.{codeblocks, fillOctet, filled, cltuOf, startOf, reading}
 use Rattle.cltu.proofs.RoundTrip.{round-trip}
 use Rattle.frame.specs.Frame.{bypassOf, controlOf, numberOf, dataOf, frameOf}
 use Rattle.frame.specs.Answers.{readingOf, partOf}
 use Rattle.frame.specs.declared.Kind.{Kind}
 use Rattle.frame.specs.declared.Reading.the-variants.{Frame}
-use Rattle.frame.proofs.Back.{Legal, legal-fits, frame-back, data-back}
+use Rattle.frame.proofs.Back.{Legal, frame-back, data-back}
 use Rattle.frame.proofs.Emitted.{length-frame}
 
 octets-fill : (n : ℕ) → Octets (replicate n fillOctet)

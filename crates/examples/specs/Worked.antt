@@ -9,6 +9,7 @@ use Rattle.frame.specs.declared.Kind.{Kind}
 use Rattle.frame.specs.declared.Kind.the-variants.{Ad, Unlock, SetVr}
 use Rattle.randomizer.specs.Randomizer.{octet}
 
+-- what a definition gives, and what document 01 says
 pub record Example : Type 0 where
   pub given : List ℕ
   pub said : List ℕ
@@ -24,6 +25,7 @@ frame spacecraft channel kind unit said = record {
   said = said;
 }
 
+-- the five codeblocks, the randomizer, the three frames, the CLCW
 abbrev pub worked : List Example
 worked =
     codeblock 0x00 0x00 0xFE

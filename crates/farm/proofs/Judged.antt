@@ -15,13 +15,14 @@ use Rattle.base.specs.Octets.{same}
 use Rattle.base.proofs.Computed.{tabulate, below}
 use Rattle.base.proofs.Lists.{same-equal, same-self}
 use Rattle.base.proofs.Tests.{not-so}
+use Rattle.base.specs.Flags.{bitOf, isSet}
 use Rattle.farm.specs.declared.State.{State}
 use Rattle.farm.specs.declared.State.the-variants.{Open, Wait, Lockout}
 use Rattle.farm.specs.declared.Receiver.{Receiver}
 use Rattle.farm.specs.declared.Start.{Start}
 use Rattle.farm.specs.declared.Start.the-variants.{Ready, Setting}
 use Rattle.farm.specs.Receiver.{atStart, startOf}
-use Rattle.farm.specs.Kept.{stateNumber, stateNumbered, truth, isSet, octetsOf, receiverIn, flagsHold, wellFormed}
+use Rattle.farm.specs.Kept.{stateNumber, stateNumbered, octetsOf, receiverIn, flagsHold, wellFormed}
 
 -- a list from place i on, number by number
 listed : (s : List ℕ) (n i : ℕ) → length s ≡ i + n → drop i s ≡ tabulate (λ k. getD s k 0) n i
@@ -32,7 +33,7 @@ listed s (suc n) i e = drop-cons s i 0 (omega arith) ∙ ap (λ (l : List ℕ). 
 
 -- the flags octet that is written for flags
 abbrev pub flagsOctet : Bool → Bool → Bool → ℕ
-flagsOctet lockout wait retransmit = truth lockout * 4 + truth wait * 2 + truth retransmit
+flagsOctet lockout wait retransmit = bitOf lockout * 4 + bitOf wait * 2 + bitOf retransmit
 
 -- what is written for what is read, of a state's number and of flags
 state-again : (n : ℕ) → 1 ≤ n → n ≤ 3 → n ≡ stateNumber (stateNumbered n)
@@ -55,7 +56,7 @@ state-high Open = omega arith
 state-high Wait = omega arith
 state-high Lockout = omega arith
 
-truth-le : (b : Bool) → truth b ≤ 1
+truth-le : (b : Bool) → bitOf b ≤ 1
 truth-le true = omega arith
 truth-le false = omega arith
 

@@ -1,13 +1,13 @@
 -- What the receiver keeps: it is well-formed at its start, after every frame and after every release.
 use mathlib.Core.Path.{_≡_, refl, sym, ap, subst, _∙_}
 use mathlib.Core.Bool.{Bool, true, false, not}
-use mathlib.Core.List.{List, [], _∷_}
+use mathlib.Core.List.{List}
 use mathlib.Core.Logic.{_⊎_, inl, inr, ⊎-elim}
-use Prim.Native.Nat.{ℕ, zero, suc, _+_, _-_, _%_, _<_, _≤_}
+use Prim.Native.Nat.{ℕ, _+_, _-_, _%_, _<_, _≤_}
 use native.Mathlib.Omega.{arith}
 use borrow.Author.Tests.{leb-true, ltb-true, ltb-false, eqb-true, le-leb, le-ltb}
 use lib.Dec.{leb, ltb, eqb}
-use lib.ListN.{take, drop, getD}
+use lib.ListN.{drop, getD}
 use Rattle.base.specs.Choice.{pick, must, both}
 use Rattle.base.specs.Modulo.{offset}
 use Rattle.base.specs.Octets.{Octets, same}

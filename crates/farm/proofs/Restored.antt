@@ -11,10 +11,11 @@ use Rattle.base.specs.Choice.{pick, both}
 use Rattle.base.specs.Octets.{Octets, same}
 use Rattle.base.proofs.Lists.{octets-at, same-equal, same-self}
 use Rattle.base.proofs.Tests.{apart, both-left, both-right}
+use Rattle.base.specs.Flags.{isSet}
 use Rattle.farm.specs.declared.State.{State}
 use Rattle.farm.specs.declared.State.the-variants.{Open, Wait, Lockout}
 use Rattle.farm.specs.declared.Receiver.{Receiver}
-use Rattle.farm.specs.Kept.{stateNumber, stateNumbered, isSet, octetsOf, receiverIn, flagsHold, wellFormed, isState}
+use Rattle.farm.specs.Kept.{stateNumber, stateNumbered, octetsOf, receiverIn, flagsHold, wellFormed, isState}
 use Rattle.farm.proofs.Cells.{by-state}
 use Rattle.farm.proofs.Kept.{isLockout, isWait, WellFormed}
 use Rattle.farm.proofs.Judged.{flagsOctet}

@@ -12,6 +12,7 @@ use lib.ListN.{getD}
 use Rattle.base.specs.Choice.{pick, both}
 use Rattle.base.specs.Limits.{largestSpacecraft, largestChannel}
 use Rattle.base.specs.Octets.{same}
+use Rattle.base.specs.Flags.{bitOf, isSet}
 use Rattle.farm.specs.Receiver.{largestBuffers}
 use Rattle.farm.specs.declared.State.{State}
 use Rattle.farm.specs.declared.State.the-variants.{Open, Wait, Lockout}
@@ -23,6 +24,7 @@ use Rattle.farm.specs.declared.Start.the-variants.{Ready, Setting}
 abbrev pub stateOctets : ℕ
 stateOctets = 12
 
+-- S1 to S3 of table 7-9 by number
 abbrev pub stateNumber : State → ℕ
 stateNumber Open = 1
 stateNumber Wait = 2
@@ -32,19 +34,11 @@ stateNumber Lockout = 3
 abbrev pub stateNumbered : ℕ → State
 stateNumbered n = pick (eqb n 1) Open (pick (eqb n 2) Wait Lockout)
 
-abbrev pub truth : Bool → ℕ
-truth true = 1
-truth false = 0
-
--- the bit of that weight is set
-abbrev pub isSet : ℕ → ℕ → Bool
-isSet flags weight = eqb (flags / weight % 2) 1
-
 -- a receiver as octets
 unfoldable pub octetsOf : Receiver → List ℕ
 octetsOf r =
     0x52 ∷ 1 ∷ stateNumber (r .variables .state) ∷ r .spacecraft / 256 ∷ r .spacecraft % 256 ∷ r .channel ∷ r .window ∷ r .buffers ∷ r .taken ∷ r .variables .vr
-    ∷ (truth (r .variables .lockout) * 4 + truth (r .variables .wait) * 2 + truth (r .variables .retransmit)) ∷ r .variables .counter ∷ []
+    ∷ (bitOf (r .variables .lockout) * 4 + bitOf (r .variables .wait) * 2 + bitOf (r .variables .retransmit)) ∷ r .variables .counter ∷ []
 
 -- the receiver that octets would hold
 unfoldable pub receiverIn : List ℕ → Receiver

@@ -1,6 +1,6 @@
 -- Document 01, "FARM-1": the receiver's record, and what each of its functions answers.
 use Prim.Native.Nat.{ℕ, _+_, _-_, _%_}
-use mathlib.Core.Bool.{Bool, true, false}
+use mathlib.Core.Bool.{Bool, false}
 use mathlib.Core.List.{List, []}
 use lib.Dec.{leb, ltb, eqb}
 use Rattle.base.specs.Choice.{pick, must}
@@ -9,14 +9,13 @@ use Rattle.base.specs.Modulo.{offset}
 use Rattle.frame.specs.Answers.{readingOf, partOf}
 use Rattle.frame.specs.declared.Kind.{Kind}
 use Rattle.frame.specs.declared.Kind.the-variants.{Ad, Bd, Unlock, SetVr}
-use Rattle.frame.specs.declared.Fields.{Fields}
 use Rattle.frame.specs.declared.Reading.{Reading}
 use Rattle.frame.specs.declared.Reading.the-variants.{Frame, Refused as RefusedFrame}
 use Rattle.clcw.specs.declared.Clcw.{Clcw}
 use Rattle.farm.specs.Table.{stepOf, accepts}
 use Rattle.farm.specs.Window.{adEvent}
 use Rattle.farm.specs.declared.State.{State}
-use Rattle.farm.specs.declared.State.the-variants.{Open, Wait, Lockout}
+use Rattle.farm.specs.declared.State.the-variants.{Open}
 use Rattle.farm.specs.declared.Event.{Event}
 use Rattle.farm.specs.declared.Event.the-variants.{E1, E2, E3, E4, E5, E6, E7, E8, E9, E10, E11}
 use Rattle.farm.specs.declared.Variables.{Variables}
@@ -29,7 +28,7 @@ use Rattle.farm.specs.declared.Start.the-variants.{Ready, Setting}
 use Rattle.farm.specs.declared.Released.{Released}
 use Rattle.farm.specs.declared.Released.the-variants.{Done, NoneTaken}
 
--- document 01, "Limits": AD buffers 1 to 8, the window even, 2 to 254
+-- document 01, "Limits": "Receiver buffers for AD units 1 to 8"
 abbrev pub largestBuffers : ℕ
 largestBuffers = 8
 
@@ -71,13 +70,14 @@ become taken variables r = record {
 abbrev pub hasRoom : Receiver → Bool
 hasRoom r = ltb (r .taken) (r .buffers)
 
--- the event of a frame by its kind, and the value V*(R) that it carries
+-- the event of a valid frame by its kind
 unfoldable pub eventOf : Receiver → Kind → Event
 eventOf r (Ad number) = adEvent (r .window) (r .variables .state) (hasRoom r) (offset number (r .variables .vr))
 eventOf r Bd = E6
 eventOf r Unlock = E7
 eventOf r (SetVr value) = E8
 
+-- V*(R), the value that a Set V(R) carries; 0 for any other frame
 abbrev pub starOf : Kind → ℕ
 starOf (Ad number) = 0
 starOf Bd = 0
@@ -122,6 +122,7 @@ unfoldable pub byReading : Receiver → Reading → Received
 byReading r (Frame fields) = arrived r (fields .kind)
 byReading r (RefusedFrame number) = answered number E9 0 r
 
+-- lent octets, read as a frame of our address
 unfoldable pub receiveOf : Receiver → List ℕ → Received
 receiveOf r octets = byReading r (readingOf octets (r .spacecraft) (r .channel))
 
@@ -131,6 +132,7 @@ partFor None part = []
 partFor AdUnit part = part
 partFor BdUnit part = part
 
+-- the unit's octets, as a part of the lent frame
 unfoldable pub unitPart : Receiver → List ℕ → List ℕ
 unitPart r octets = partFor (receiveOf r octets .unit) (partOf octets (r .spacecraft) (r .channel))
 
@@ -149,11 +151,12 @@ wordOf r = record {
   report = r .variables .vr;
 }
 
--- document 01's number of an answer
+-- document 01's number of a start: 12 where a setting is outside its limit
 abbrev pub startNumber : Start → ℕ
 startNumber (Ready r) = 0
 startNumber Setting = 12
 
+-- document 01's number of a release: 13 where none is taken
 abbrev pub releasedNumber : Released → ℕ
 releasedNumber (Done received) = 0
 releasedNumber NoneTaken = 13

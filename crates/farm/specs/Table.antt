@@ -21,10 +21,12 @@ pub data Action : Type 0 where
   -- report value of V(R), the flags and the FARM-B counter
   Report : Action
 
+-- a cell of the table: its actions and the next state
 pub record Cell : Type 0 where
   pub actions : List Action
   pub next : State
 
+-- a cell by its two parts
 abbrev cell : List Action → State → Cell
 cell actions next = record { actions = actions; next = next }
 
@@ -75,22 +77,29 @@ table E11 Open = cell (Report ∷ []) Open
 table E11 Wait = cell (Report ∷ []) Wait
 table E11 Lockout = cell (Report ∷ []) Lockout
 
--- the variables of clause 7.2.3, one changed
+-- The variables of clause 7.2.3, one changed.
+
+-- the state
 abbrev withState : State → Variables → Variables
 withState s v = record { state = s; vr = v .vr; lockout = v .lockout; wait = v .wait; retransmit = v .retransmit; counter = v .counter }
 
+-- V(R)
 abbrev withVr : ℕ → Variables → Variables
 withVr n v = record { state = v .state; vr = n; lockout = v .lockout; wait = v .wait; retransmit = v .retransmit; counter = v .counter }
 
+-- Lockout_Flag
 abbrev withLockout : Bool → Variables → Variables
 withLockout b v = record { state = v .state; vr = v .vr; lockout = b; wait = v .wait; retransmit = v .retransmit; counter = v .counter }
 
+-- Wait_Flag
 abbrev withWait : Bool → Variables → Variables
 withWait b v = record { state = v .state; vr = v .vr; lockout = v .lockout; wait = b; retransmit = v .retransmit; counter = v .counter }
 
+-- Retransmit_Flag
 abbrev withRetransmit : Bool → Variables → Variables
 withRetransmit b v = record { state = v .state; vr = v .vr; lockout = v .lockout; wait = v .wait; retransmit = b; counter = v .counter }
 
+-- FARM-B_Counter
 abbrev withCounter : ℕ → Variables → Variables
 withCounter n v = record { state = v .state; vr = v .vr; lockout = v .lockout; wait = v .wait; retransmit = v .retransmit; counter = n }
 
@@ -109,6 +118,7 @@ perform star (WaitFlag b) v = withWait b v
 perform star (RetransmitFlag b) v = withRetransmit b v
 perform star Report v = v
 
+-- actions in their order
 unfoldable pub performAll : ℕ → List Action → Variables → Variables
 performAll star [] v = v
 performAll star (a ∷ rest) v = performAll star rest (perform star a v)
@@ -117,7 +127,7 @@ performAll star (a ∷ rest) v = performAll star rest (perform star a v)
 unfoldable pub stepOf : Event → ℕ → Variables → Variables
 stepOf e star v = withState (table e (v .state) .next) (performAll star (table e (v .state) .actions) v)
 
--- whether the cell accepts the frame
+-- the action Accept
 abbrev pub isAccept : Action → Bool
 isAccept Accept = true
 isAccept Discard = false
@@ -131,9 +141,11 @@ isAccept (WaitFlag b) = false
 isAccept (RetransmitFlag b) = false
 isAccept Report = false
 
+-- one of the actions is Accept
 abbrev pub anyAccept : List Action → Bool
 anyAccept [] = false
 anyAccept (a ∷ rest) = pick (isAccept a) true (anyAccept rest)
 
+-- the cell of an event in a state accepts the frame
 unfoldable pub accepts : Event → State → Bool
 accepts e s = anyAccept (table e s .actions)

@@ -9,6 +9,7 @@ use Rattle.farm.specs.declared.State.the-variants.{Open, Wait, Lockout}
 use Rattle.farm.specs.declared.Event.{Event}
 use Rattle.farm.specs.declared.Event.the-variants.{E1, E2, E3, E4, E5}
 
+-- the state is not Wait
 abbrev pub notWait : State → Bool
 notWait Open = true
 notWait Wait = false

@@ -5,7 +5,6 @@ use base::LARGEST_CHANNEL;
 use base::LARGEST_SPACECRAFT;
 use clcw::Clcw;
 use clcw::Written;
-use frame::Fields;
 use frame::Kind;
 use frame::Reading;
 use std::num::wrapping_add_u8;

@@ -7,7 +7,8 @@ ghost use mathlib.Core.Path.{_≡_};
 ghost use Prim.Native.Nat.{_<_, _≤_};
 ghost use lib.ListN.{length};
 ghost use Rattle.base.specs.Octets.{same};
-ghost use Rattle.farm.specs.Kept.{stateOctets, stateNumber, stateNumbered, truth, isSet, octetsOf, receiverIn, flagsHold, wellFormed, restoredOf};
+ghost use Rattle.base.specs.Flags.{bitOf, isSet};
+ghost use Rattle.farm.specs.Kept.{stateOctets, stateNumber, stateNumbered, octetsOf, receiverIn, flagsHold, wellFormed, restoredOf};
 
 pub const STATE_OCTETS: usize = 12;
 
@@ -55,7 +56,7 @@ fn state_numbered(number: u8) -> State
 }
 
 fn flag(set: bool) -> u8
-    ensures number { λ r. ⌜ r ≡ truth set ⌝ }
+    ensures number { λ r. ⌜ r ≡ bitOf set ⌝ }
     ensures small { λ r. ⌜ r ≤ 1 ⌝ }
 {
     if set { 1 } else { 0 }

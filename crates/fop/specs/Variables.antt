@@ -183,16 +183,21 @@ setBc b f = record {
   bcFrame = b;
 }
 
--- a preset with one value changed
+-- What directives set, one value changed.
+
+-- K (FOP_Sliding_Window_Width)
 abbrev pub withK : ℕ → Preset → Preset
 withK v p = record { k = v; transmissionLimit = p .transmissionLimit; t1Initial = p .t1Initial; timeoutType = p .timeoutType }
 
+-- Transmission_Limit
 abbrev pub withLimit : ℕ → Preset → Preset
 withLimit v p = record { k = p .k; transmissionLimit = v; t1Initial = p .t1Initial; timeoutType = p .timeoutType }
 
+-- T1_Initial
 abbrev pub withT1 : ℕ → Preset → Preset
 withT1 v p = record { k = p .k; transmissionLimit = p .transmissionLimit; t1Initial = v; timeoutType = p .timeoutType }
 
+-- Timeout_Type
 abbrev pub withTimeoutType : ℕ → Preset → Preset
 withTimeoutType v p = record { k = p .k; transmissionLimit = p .transmissionLimit; t1Initial = p .t1Initial; timeoutType = v }
 

@@ -4,7 +4,7 @@ use mathlib.Core.Path.{_≡_, refl, sym, ap, _∙_}
 use mathlib.Core.Bool.{Bool, true, false}
 use mathlib.Core.List.{List, [], _++_}
 use mathlib.Core.Option.{Option, none, some}
-use Prim.Native.Nat.{ℕ, _+_, _-_}
+use Prim.Native.Nat.{ℕ}
 use native.Mathlib.Omega.{arith}
 use Rattle.base.specs.Choice.{pick}
 use Rattle.fop.specs.Units.{Fdu}
@@ -12,7 +12,7 @@ use Rattle.fop.specs.Table as table
 use Rattle.fop.specs.Table.{FopEvent}
 use Rattle.fop.specs.Variables as machine
 use Rattle.fop.specs.Variables.{Entry, BcEntry}
-use Rattle.fop.specs.Machine.{perform, fdus, acknowledged, denyBc, rejectWaiting, purge}
+use Rattle.fop.specs.Machine.{perform, fdus, denyBc, rejectWaiting, purge}
 use Rattle.fop_actions.specs.declared.Alert.{Alert}
 use Rattle.fop_actions.specs.declared.Control.{Control}
 use Rattle.fop_actions.specs.declared.Control.the-variants as control
@@ -20,7 +20,6 @@ use Rattle.fop_actions.specs.declared.Response.the-variants.{RejectAdUni
 use Rattle.fop_actions.specs.declared.Work.{Work}
 use Rattle.fop_actions.specs.Parts.{withVariables, withQueues, withTold}
 use Rattle.fop_actions.specs.Actions as act
-use Rattle.fop_actions.specs.Actions.{removed}
 use Rattle.fop_actions.specs.View.{unitAt, entriesOf, waitOf, bcOf, fopOf, reasonOf, view}
 use Rattle.fop_actions.proofs.Ways.{yes, no}
 use Rattle.fop_actions.proofs.ViewAnswers.{Room, room-more, respond}

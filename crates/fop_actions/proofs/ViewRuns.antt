@@ -92,14 +92,3 @@ pub denied-run : (w : Work) (store : List ℕ) (a : Alert)
 unfolding act.alert act.notify act.cancelTimer withVariables withTold
 denied-run w store a =
     run-all (w .queues .lengths) store (w .variables .vs) (w .queues .sent) (w .queues .marked) ∙ ap runTold (sym (both-purged (act.cancelTimer w) .denied))
-
-pub confirmed-kept : (w : Work) (a : Alert) → act.alert a w .told .confirmed ≡ w .told .confirmed
-unfolding act.alert act.notify act.cancelTimer withVariables withTold
-confirmed-kept w a = both-purged (act.cancelTimer w) .confirmed
-
--- the run denied by Initialise
-pub denied-initialised : (w : Work) (store : List ℕ)
-    → runOf (fdus (entriesOf (w .queues .lengths) store (w .variables .vs) (w .queues .sent) (w .queues .marked))) ≡ runTold (act.initialise w .told .denied)
-unfolding act.initialise act.countOne act.setSuspendState withVariables
-denied-initialised w store =
-    run-all (w .queues .lengths) store (w .variables .vs) (w .queues .sent) (w .queues .marked) ∙ ap runTold (sym (both-purged w .denied))

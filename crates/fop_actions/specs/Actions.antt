@@ -1,6 +1,6 @@
 -- The actions of clause 7.9.2 and of table 7-8, on the work by value.
 -- They follow the struct's layout. The standard's own rendering is crate fop, specs/Machine; proofs/View… ties each of these to it.
-use Prim.Native.Nat.{ℕ, _+_, _-_}
+use Prim.Native.Nat.{ℕ, _+_}
 use mathlib.Core.Bool.{Bool, true, false}
 use lib.Dec.{eqb, ltb}
 use lib.ListN.{set}
@@ -39,20 +39,23 @@ cancelTimer w = withVariables (clocked 0 (w .variables .«transmission_count») 
 unfoldable pub countOne : Work → Work
 countOne w = withVariables (clocked (w .variables .timer) 1 (w .variables)) w
 
--- AD_Out_Flag = Ready, BC_Out_Flag = Ready, BD_Out_Flag = Ready
+-- AD_Out_Flag = Ready
 unfoldable pub adOutReady : Work → Work
 adOutReady w = withVariables (flagged true (w .variables .«bc_out») (w .variables .«bd_out») (w .variables)) w
 
+-- BC_Out_Flag = Ready
 unfoldable pub bcOutReady : Work → Work
 bcOutReady w = withVariables (flagged (w .variables .«ad_out») true (w .variables .«bd_out») (w .variables)) w
 
+-- BD_Out_Flag = Ready
 unfoldable pub bdOutReady : Work → Work
 bdOutReady w = withVariables (flagged (w .variables .«ad_out») (w .variables .«bc_out») true (w .variables)) w
 
--- V(S) and NN(R) are set
+-- V(S) is set
 unfoldable pub setVs : ℕ → Work → Work
 setVs n w = withVariables (numbered n (w .variables .nnr) (w .variables)) w
 
+-- NN(R) is set
 unfoldable pub setNnr : ℕ → Work → Work
 setNnr n w = withVariables (numbered (w .variables .vs) n (w .variables)) w
 
@@ -212,6 +215,7 @@ lookForDirectiveOf control.None w = w
 lookForDirectiveOf control.Unlock w = sendMarkedControl handed.Unlock w
 lookForDirectiveOf (control.SetVr n) w = sendMarkedControl (handed.SetVr n) w
 
+-- the same, of the frame on the Sent_Queue
 abbrev pub lookForDirective : Work → Work
 lookForDirective w = lookForDirectiveOf (w .queues .control) w
 
@@ -239,10 +243,11 @@ least a b = pick (ltb a b) a b
 abbrev pub runFrom : ℕ → ℕ → Run
 runFrom number n = record { number = pick (eqb n 0) 0 number; count = n }
 
--- the units that stay where those before number n are removed, and those that go
+-- the units that stay where those before number n are removed
 abbrev pub staying : ℕ → Work → ℕ
 staying n w = least (w .queues .sent) (offset (w .variables .vs) n)
 
+-- and those that go
 abbrev pub removed : ℕ → Work → ℕ
 removed n w = offset (w .queues .sent) (staying n w)
 

@@ -13,15 +13,19 @@ use Rattle.fop_actions.specs.declared.Run.{Run}
 use Rattle.fop_actions.specs.declared.Told.{Told}
 use Rattle.fop_actions.specs.declared.Work.{Work}
 
+-- other settings
 unfoldable pub withSettings : Settings → Work → Work
 withSettings s w = record { state = w .state; settings = s; variables = w .variables; queues = w .queues; told = w .told }
 
+-- other variables
 unfoldable pub withVariables : Variables → Work → Work
 withVariables v w = record { state = w .state; settings = w .settings; variables = v; queues = w .queues; told = w .told }
 
+-- other queues
 unfoldable pub withQueues : Queues → Work → Work
 withQueues q w = record { state = w .state; settings = w .settings; variables = w .variables; queues = q; told = w .told }
 
+-- something else told
 unfoldable pub withTold : Told → Work → Work
 withTold t w = record { state = w .state; settings = w .settings; variables = w .variables; queues = w .queues; told = t }
 
@@ -98,6 +102,7 @@ controlling control marked q =
 
 -- what is told
 
+-- the frame handed down
 abbrev pub handing : Handed → Told → Told
 handing h t =
     record { handed = h; abort = t .abort; alert = t .alert; suspended = t .suspended; responses = t .responses; confirmed = t .confirmed; denied = t .denied }
@@ -107,6 +112,7 @@ abbrev pub telling : Bool → Alert → Bool → Told → Told
 telling abort alert suspended t =
     record { handed = t .handed; abort = abort; alert = alert; suspended = suspended; responses = t .responses; confirmed = t .confirmed; denied = t .denied }
 
+-- the responses
 abbrev pub responding : Responses → Told → Told
 responding r t =
     record { handed = t .handed; abort = t .abort; alert = t .alert; suspended = t .suspended; responses = r; confirmed = t .confirmed; denied = t .denied }

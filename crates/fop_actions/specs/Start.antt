@@ -42,8 +42,10 @@ noneTold = record {
   denied = record { number = 0; count = 0 };
 }
 
+-- the work on an event at its start
 unfoldable pub begun : Sender → Work
 begun s = record { state = s .state; settings = s .settings; variables = s .variables; queues = s .queues; told = noneTold }
 
+-- the sender that the work leaves
 unfoldable pub senderOf : Work → Sender
 senderOf w = record { state = w .state; settings = w .settings; variables = w .variables; queues = w .queues }

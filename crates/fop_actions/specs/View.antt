@@ -28,6 +28,7 @@ use Rattle.fop_actions.specs.declared.Responses.{Responses}
 use Rattle.fop_actions.specs.declared.Run.{Run}
 use Rattle.fop_actions.specs.declared.Work.{Work}
 
+-- the state, as the table names it
 abbrev pub stateOf : State → table.State
 stateOf state.S1 = table.S1
 stateOf state.S2 = table.S2
@@ -63,6 +64,7 @@ bcOf control.None marked = none
 bcOf control.Unlock marked = some (record { frame = Unlock; marked = marked })
 bcOf (control.SetVr n) marked = some (record { frame = SetVR n; marked = marked })
 
+-- FOP-1's variables (clause 7.2.2)
 abbrev pub fopOf : Work → List ℕ → Fop
 fopOf w store = record {
   state = stateOf (w .state);
@@ -99,9 +101,11 @@ responseOf n =
     (pick (eqb n 4) rejectBdUnit
     (pick (eqb n 5) acceptDirective (pick (eqb n 6) rejectDirective (pick (eqb n 7) confirmDirective denyDirective))))))
 
+-- the responses in their order
 abbrev pub responsesOf : Responses → List machine.Response
 responsesOf r = map responseOf (take (r .count) (r .numbers))
 
+-- table 7-4: the reason of an Alert notification, if there is one
 abbrev pub reasonOf : Alert → Option table.Reason
 reasonOf alert.None = none
 reasonOf alert.Synch = some table.synch
@@ -146,5 +150,6 @@ pub record Formed (vs nnr sent marked : ℕ) (lengths store : List ℕ) : Type 0
   pub units : (i : ℕ) → getD lengths i 0 ≤ largestUnit
   pub room : largestUnit * places ≤ length store
 
+-- the same of a work and its store
 abbrev pub WellFormed : Work → List ℕ → Type 0
 WellFormed w store = Formed (w .variables .vs) (w .variables .nnr) (w .queues .sent) (w .queues .marked) (w .queues .lengths) store

@@ -96,7 +96,7 @@ adNumber s = eventNumber (first (when (isEmpty (variablesOf s .waitQueue)) E19 �
 unfoldable pub bdNumber : Sender → ℕ
 bdNumber s = eventNumber (first (when (s .variables .«bd_out») E21 ∷ []) E22)
 
--- E41 to E46
+-- an answer of the lower layer, as crate fop names it
 abbrev pub lowerOf : LowerAnswer → Lower
 lowerOf lower.AdAccept = adAccept
 lowerOf lower.AdReject = adReject
@@ -105,5 +105,6 @@ lowerOf lower.BcReject = bcReject
 lowerOf lower.BdAccept = bdAccept
 lowerOf lower.BdReject = bdReject
 
+-- E41 to E46 by number
 unfoldable pub lowerNumber : LowerAnswer → ℕ
 lowerNumber l = eventNumber (lowerEvent (lowerOf l))

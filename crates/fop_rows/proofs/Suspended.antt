@@ -1,6 +1,6 @@
 -- "IF SS = 0 .. ELSE .." of row E35: while suspended its row is E40's, so the row chosen is the event's own, and its cell done is the event's row.
 use mathlib.Core.Path.{_≡_, refl, sym, ap, ap₂, _∙_}
-use mathlib.Core.Bool.{Bool, true, false}
+use mathlib.Core.Bool.{false}
 use mathlib.Core.List.{List}
 use Prim.Native.Nat.{ℕ}
 use borrow.Author.Tests.{eqb-true}

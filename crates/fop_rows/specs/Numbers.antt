@@ -27,6 +27,7 @@ actions =
     ∷ AdOutReady ∷ BcOutReady ∷ BdOutReady
     ∷ SetSuspendState 1 ∷ SetSuspendState 2 ∷ SetSuspendState 3 ∷ SetSuspendState 4 ∷ []
 
+-- the action with a number
 unfoldable pub actionOf : ℕ → Action
 actionOf k = getD actions k Ignore
 

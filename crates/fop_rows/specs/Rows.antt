@@ -24,7 +24,7 @@ use Rattle.fop_actions.specs.declared.Work.{Work}
 use Rattle.fop_actions.specs.Actions as act
 use Rattle.fop_actions.specs.View.{stateOf}
 
--- a state of the table, and a reason of an Alert notification, as the sender's struct holds them
+-- a state of the table, as the sender's struct holds it
 abbrev pub declared : table.State → State
 declared table.S1 = state.S1
 declared table.S2 = state.S2
@@ -33,6 +33,7 @@ declared table.S4 = state.S4
 declared table.S5 = state.S5
 declared table.S6 = state.S6
 
+-- table 7-4: a reason of an Alert notification, as the sender's struct holds it
 abbrev pub declaredReason : table.Reason → Reason
 declaredReason table.synch = reason.Synch
 declaredReason table.clcw = reason.Clcw
@@ -118,6 +119,7 @@ rowOf e n l w = doneCell (cell78 (table78 e) (stateOf (w .state))) n l w
 abbrev pub placeOf : ℕ → ℕ
 placeOf k = pick (ltb k 47) k (pick (ltb k 101) 0 (pick (ltb k 105) (k - 54) 0))
 
+-- the events by their places
 abbrev pub events : List (Option FopEvent)
 events =
     none ∷ some E1 ∷ some E2 ∷ some E3 ∷ some E4 ∷ some E5 ∷ some E6 ∷ some E7 ∷ some E8 ∷ some E9 ∷ some E10
@@ -126,6 +128,7 @@ events =
     ∷ some E31 ∷ some E32 ∷ some E33 ∷ some E34 ∷ some E35 ∷ some E36 ∷ some E37 ∷ some E38 ∷ some E39 ∷ some E40
     ∷ some E41 ∷ some E42 ∷ some E43 ∷ some E44 ∷ some E45 ∷ some E46 ∷ some E101 ∷ some E102 ∷ some E103 ∷ some E104 ∷ []
 
+-- the event with a number, if there is one
 unfoldable pub eventOf : ℕ → Option FopEvent
 eventOf k = getD events (placeOf k) none
 

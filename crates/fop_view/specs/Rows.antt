@@ -39,6 +39,7 @@ pub data Brings : Type 0 where
   -- Timeout_Type or Suspend_State other than 0: not met for now
   suspending : Brings
 
+-- table 7-8: what the conditions of each event ask
 abbrev pub brings : FopEvent → Brings
 brings E1 = nothing
 brings E2 = acknowledging
@@ -91,6 +92,7 @@ brings E102 = nothing
 brings E103 = nothing
 brings E104 = suspending
 
+-- what holds of the unit, the value and the sender where an event brings that
 abbrev pub Needed : Brings → List ℕ → ℕ → Sender → Type 0
 Needed nothing o n s = Unit {0}
 Needed acknowledging o n s = (n < 256) × (offset n (s .variables .nnr) ≤ offset (s .variables .vs) (s .variables .nnr))
@@ -103,6 +105,7 @@ Needed limiting o n s = (1 ≤ n) × (n ≤ largestTransmissionLimit)
 Needed timing o n s = n ≡ 0
 Needed suspending o n s = ⊥
 
+-- the unit and the value are such as the event brings to the sender
 abbrev pub Meets : FopEvent → List ℕ → ℕ → Sender → Type 0
 Meets e o n s = Needed (brings e) o n s
 
@@ -125,6 +128,7 @@ abbrev pub storeBy : Brings → List ℕ → Sender → Work → List ℕ → Li
 storeBy b o s w store =
     pick (isOffering b) (pick (inMain (s .state)) (placed store (largestUnit * s .queues .sent) o) store) (slid (largestUnit * w .told .confirmed .count) store)
 
+-- the store after the event
 abbrev pub storeAfter : FopEvent → List ℕ → Sender → Work → List ℕ → List ℕ
 storeAfter e o s w store = storeBy (brings e) o s w store
 
@@ -134,6 +138,7 @@ lengthsBy b o s w =
     pick (isOffering b) (pick (inMain (s .state)) (set (s .queues .lengths) (s .queues .sent) (length o)) (s .queues .lengths))
     (slid (w .told .confirmed .count) (s .queues .lengths))
 
+-- the lengths after the event
 abbrev pub lengthsAfter : FopEvent → List ℕ → Sender → Work → List ℕ
 lengthsAfter e o s w = lengthsBy (brings e) o s w
 

@@ -1,21 +1,21 @@
 -- What a frame that is not refused is: its lengths within their limits, its fields, and its kind.
-use mathlib.Core.Path.{_≡_, refl, sym, ap, ap₂, _∙_}
+use mathlib.Core.Path.{_≡_, refl, sym, ap, _∙_}
 use mathlib.Core.Bool.{Bool, true, false, not}
-use mathlib.Core.List.{List, [], _∷_}
-use Prim.Native.Nat.{ℕ, _+_, _-_, _*_, _/_, _%_, _<_, _≤_}
+use mathlib.Core.List.{List, []}
+use Prim.Native.Nat.{ℕ, _+_, _-_, _/_, _%_, _<_, _≤_}
 use native.Mathlib.Omega.{arith}
 use borrow.Author.Tests.{leb-true, eqb-true, eqb-false, eq-eqb, ne-eqb}
 use lib.Dec.{leb, eqb}
 use lib.ListN.{length, take, drop, getD}
 use lib.Seq.{getD-take, getD-drop}
-use Rattle.base.specs.Choice.{pick, must, both}
+use Rattle.base.specs.Choice.{pick, both}
 use Rattle.base.specs.Fields.{fieldAt}
 use Rattle.base.specs.Octets.{same}
 use Rattle.base.proofs.Lists.{same-length-not, take-next}
 use Rattle.base.proofs.Tests.{apart, both-true, must-on}
 use Rattle.fecf.specs.Fecf.{syndromeOf}
-use Rattle.frame.specs.Header.{version, bypassFlag, controlCommandFlag, reservedSpare, spacecraftIdentifier, virtualChannelIdentifier, frameSequenceNumber}
-use Rattle.frame.specs.Frame.{unlockCommand, setVrCommand, totalOf, dataField, isCommand, commandHeld, headerRefusal, contentRefusal, refusalOf, kindOf}
+use Rattle.frame.specs.Header.{version, bypassFlag, controlCommandFlag, reservedSpare, spacecraftIdentifier, virtualChannelIdentifier}
+use Rattle.frame.specs.Frame.{unlockCommand, totalOf, dataField, isCommand, commandHeld, headerRefusal, contentRefusal, refusalOf, kindOf}
 use Rattle.frame.specs.declared.Kind.the-variants.{Ad, Bd, Unlock, SetVr}
 use Rattle.frame.specs.declared.Reading.the-variants.{Frame, Refused}
 use Rattle.frame.specs.Answers.{fieldsOf, readingOf, partOf}

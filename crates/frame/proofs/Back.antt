@@ -3,13 +3,13 @@
 -- (`own-beyond`). And the header's eight fields stand one behind the other, from bit 0 to bit 39 (`layout`).
 use mathlib.Core.Path.{_≡_, refl, sym, ap, _∙_}
 use mathlib.Core.Bool.{Bool, true, false}
-use mathlib.Core.List.{List, [], _∷_, _++_}
+use mathlib.Core.List.{List, _++_}
 use Prim.Native.Nat.{ℕ, _+_, _-_, _<_, _≤_}
 use native.Mathlib.Omega.{arith}
 use borrow.Author.Tests.{eq-eqb, ne-eqb, eqb-true}
 use lib.Dec.{eqb}
 use lib.ListN.{length, getD}
-use Rattle.base.specs.Choice.{pick, must, both}
+use Rattle.base.specs.Choice.{pick, must}
 use Rattle.base.specs.Fields.{contiguous}
 use Rattle.base.specs.Octets.{Octets, same}
 use Rattle.base.proofs.Lists.{octets-at}

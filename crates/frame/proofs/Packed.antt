@@ -1,13 +1,12 @@
 -- The packed header by its octets, and its fields read back from them.
-use mathlib.Core.Path.{_≡_, refl, sym, ap, ap₂, _∙_}
-use mathlib.Core.List.{List, [], _∷_, _++_}
+use mathlib.Core.Path.{_≡_, ap, _∙_}
+use mathlib.Core.List.{List, [], _∷_}
 use Prim.Native.Nat.{ℕ, _+_, _-_, _*_, _/_, _%_, _<_, _≤_}
 use native.Mathlib.Omega.{arith}
-use lib.ListN.{length, take, drop}
-use Rattle.base.specs.Fields.{digitsOf, valueOf, packed, octetsOf, fieldAt}
-use Rattle.base.specs.Octets.{Bits, Octets, octetBits}
-use Rattle.base.proofs.Fields.{value-digits, value-append, bits-digits, bits-octets, octets-of, field-before, value-field}
-use Rattle.frame.specs.Header.{headerFields, headerOf, version, bypassFlag, controlCommandFlag, reservedSpare, spacecraftIdentifier, virtualChannelIdentifier, frameLength, frameSequenceNumber}
+use lib.ListN.{take, drop}
+use Rattle.base.specs.Fields.{digitsOf, valueOf, packed, octetsOf}
+use Rattle.base.proofs.Fields.{value-digits, value-append}
+use Rattle.frame.specs.Header.{headerFields, headerOf}
 
 -- eight digits are the value modulo 256
 eight : (value : ℕ) → valueOf 0 (digitsOf 8 value) ≡ value % 256

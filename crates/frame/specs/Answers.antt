@@ -13,6 +13,7 @@ use Rattle.frame.specs.declared.Reading.the-variants.{Frame, Refused}
 use Rattle.frame.specs.declared.writer.Written.{Written}
 use Rattle.frame.specs.declared.writer.Written.the-variants.{Done, Length, Setting, Room}
 
+-- what writing answers: the count of octets, 10, 12 or 11
 abbrev pub writtenAnswer : Written → Answer (Unit {0})
 writtenAnswer (Done count) = done count tt
 writtenAnswer Length = refused 10 0

@@ -1,6 +1,6 @@
 -- Clauses 6.2 and 6.4 to 6.8, clause 7.8, and document 01, "Frame": the TC Transfer Frame, written and read.
-use Prim.Native.Nat.{ℕ, _+_, _-_, _*_}
-use mathlib.Core.Bool.{Bool, true, false, not}
+use Prim.Native.Nat.{ℕ, _+_, _-_}
+use mathlib.Core.Bool.{Bool, true, not}
 use mathlib.Core.List.{List, [], _∷_, _++_}
 use lib.Dec.{leb, eqb}
 use lib.ListN.{length, take, drop, getD}
@@ -14,13 +14,14 @@ use Rattle.frame.specs.Header.{version, bypassFlag, controlCommandFlag, 
 use Rattle.frame.specs.declared.Kind.{Kind}
 use Rattle.frame.specs.declared.Kind.the-variants.{Ad, Bd, Unlock, SetVr}
 
--- table 6-3: the Bypass Flag and the Control Command Flag of each kind of frame
+-- table 6-3: the Bypass Flag of each kind of frame
 abbrev pub bypassOf : Kind → ℕ
 bypassOf (Ad number) = 0
 bypassOf Bd = 1
 bypassOf Unlock = 1
 bypassOf (SetVr value) = 1
 
+-- and the Control Command Flag
 abbrev pub controlOf : Kind → ℕ
 controlOf (Ad number) = 0
 controlOf Bd = 0
@@ -34,10 +35,11 @@ numberOf Bd = 0
 numberOf Unlock = 0
 numberOf (SetVr value) = 0
 
--- clause 7.8: the control commands
+-- clause 7.8: the control command Unlock
 abbrev pub unlockCommand : List ℕ
 unlockCommand = 0x00 ∷ []
 
+-- Set V(R), with its value
 abbrev pub setVrCommand : ℕ → List ℕ
 setVrCommand value = 0x82 ∷ 0x00 ∷ value ∷ []
 
@@ -48,17 +50,20 @@ dataOf Bd unit = unit
 dataOf Unlock unit = unlockCommand
 dataOf (SetVr value) unit = setVrCommand value
 
--- header and data, and the whole frame (clause 6.2.1), of any flags and number; header and FECF are 7 octets
+-- header, 5 octets, and FECF, 2
 abbrev pub overhead : ℕ
 overhead = 7
 
+-- header and data, over which the FECF is taken
 unfoldable pub bodyOf : ℕ → ℕ → ℕ → ℕ → ℕ → List ℕ → List ℕ
 bodyOf bypass control number spacecraft channel field = headerOf bypass control spacecraft channel (length field + overhead) number ++ field
 
+-- clause 6.2.1: header, data field, FECF
 unfoldable pub rawFrame : ℕ → ℕ → ℕ → ℕ → ℕ → List ℕ → List ℕ
 rawFrame bypass control number spacecraft channel field =
     bodyOf bypass control number spacecraft channel field ++ fieldOctets (fecfOf (bodyOf bypass control number spacecraft channel field))
 
+-- the frame of a kind
 abbrev pub frameOf : ℕ → ℕ → Kind → List ℕ → List ℕ
 frameOf spacecraft channel kind unit = rawFrame (bypassOf kind) (controlOf kind) (numberOf kind) spacecraft channel (dataOf kind unit)
 
@@ -72,6 +77,7 @@ rawWriting bypass control number spacecraft channel field room =
     (must (leb (length field + overhead) room) (refused 11 0)
     (done (rawFrame bypass control number spacecraft channel field) tt)))))
 
+-- the same for a frame of a kind
 abbrev pub writing : ℕ → ℕ → Kind → List ℕ → ℕ → Outcome (Unit {0})
 writing spacecraft channel kind unit room =
     rawWriting (bypassOf kind) (controlOf kind) (numberOf kind) spacecraft channel (dataOf kind unit) room

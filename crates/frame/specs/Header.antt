@@ -3,6 +3,7 @@ use Prim.Native.Nat.{ℕ, _-_}
 use mathlib.Core.List.{List, [], _∷_}
 use Rattle.base.specs.Fields.{Location, Field, packed, octetsOf}
 
+-- a field's location by its first bit and its length in bits
 abbrev pub at : ℕ → ℕ → Location
 at first width = record { first = first; width = width }
 
@@ -38,6 +39,7 @@ frameLength = at 22 10
 abbrev pub frameSequenceNumber : Location
 frameSequenceNumber = at 32 8
 
+-- a field that holds a value
 abbrev pub holds : Location → ℕ → Field
 holds location value = record { location = location; value = value }
 

@@ -8,7 +8,7 @@ ghost use Prim.Native.Nat.{_+_, _*_, _≤_};
 ghost use mathlib.Core.Bool.{true};
 ghost use lib.ListN.{length};
 ghost use Rattle.frame.specs.Frame.{totalOf, dataField, isCommand, commandHeld, headerRefusal, contentRefusal, refusalOf, kindOf};
-ghost use Rattle.frame.specs.Answers.{fieldsOf, readingOf, partOf};
+ghost use Rattle.frame.specs.Answers.{readingOf, partOf};
 
 // The type of a frame with what it carries: N(S), or the value of Set V(R).
 pub enum Kind {

@@ -11,7 +11,7 @@ ghost use Rattle.base.specs.Outcome.{answer, after};
 ghost use Rattle.fecf.specs.Fecf.{fieldOctets};
 ghost use Rattle.frame.specs.declared.Kind.the-variants.{Ad, Bd, Unlock, SetVr};
 ghost use Rattle.frame.specs.Header.{headerOf};
-ghost use Rattle.frame.specs.Frame.{bypassOf, controlOf, numberOf, frameOf, writing, rawFrame, rawWriting};
+ghost use Rattle.frame.specs.Frame.{writing, rawFrame, rawWriting};
 ghost use Rattle.frame.specs.Answers.{writtenAnswer};
 
 // The count of octets written, or document 01's refusal 10, 12 or 11.

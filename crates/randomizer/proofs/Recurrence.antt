@@ -3,9 +3,9 @@
 use mathlib.Core.Path.{_≡_, refl, sym, ap, _∙_}
 use mathlib.Core.Bool.{not}
 use Prim.Native.Nat.{ℕ, zero, suc, _+_, _-_, _*_, _/_, _%_, _^_, _<_, _≤_}
-use native.Mathlib.Nat.{add-comm, zero-add, add-zero, suc-add, not-suc-le-zero}
+use native.Mathlib.Nat.{add-comm, zero-add, suc-add, not-suc-le-zero}
 use native.Mathlib.Omega.{arith}
-use lib.Dec.{T, T-not, eqb, eqb→eq, eqb-refl}
+use lib.Dec.{T, T-not, eqb, eqb→eq}
 use Rattle.base.proofs.Computed.{below}
 use Rattle.randomizer.specs.Randomizer.{nextBit, later, allOnes, bit, octet}
 

@@ -21,7 +21,8 @@ use Rattle.fop_actions.proofs.Ways.{yes, no}
 use Rattle.fop_rows.specs.Rows.{isFrame}
 use Rattle.sender.specs.declared.Start.{Start}
 use Rattle.sender.specs.Start.{refusedStart}
-use Rattle.sender.specs.State.{settingsHold, numbersHold, isEmpty, stateHolds, unitsHeld, lengthsHold, wellFormed, restoredOf}
+use Rattle.sender.specs.Start.{settingsHold}
+use Rattle.sender.specs.State.{numbersHold, isEmpty, stateHolds, unitsHeld, lengthsHold, wellFormed, restoredOf}
 
 -- numbersHold with the difference given
 abbrev pub numbersWith : ℕ → Variables → Queues → Bool

@@ -4,7 +4,6 @@ use mathlib.Core.Bool.{Bool, true, false}
 use Prim.Native.Nat.{ℕ, _≤_, _<_}
 use borrow.Author.Tests.{le-leb, lt-leb}
 use lib.Dec.{leb}
-use Rattle.base.specs.Limits.{largestSpacecraft, largestChannel}
 use Rattle.base.specs.Modulo.{offset}
 use Rattle.fop.specs.Limits.{largestK}
 use Rattle.fop_actions.specs.declared.Settings.{Settings}
@@ -12,15 +11,18 @@ use Rattle.fop_actions.specs.declared.Sender.{Sender as State}
 use Rattle.fop_actions.specs.Start.{startOf}
 use Rattle.sender.specs.declared.Start.{Start}
 use Rattle.sender.specs.Limits.{smallestStore}
-use Rattle.sender.specs.Start.{withinLimits, refusedStart, startingOf}
-use Rattle.base.proofs.Tests.{tests}
+use Rattle.sender.specs.Start.{settingsHold, withinLimits, refusedStart, startingOf}
 use Rattle.sender.proofs.Steps.{holds, fails}
 
 module _ (g : Settings) (vs nnr : ℕ) where
-  -- the settings are within their limits: what is left is V(S) - NN(R)
-  pub numbers-judged : (d : ℕ) → 1 ≤ g .k → g .k ≤ largestK → 1 ≤ g .«t1_initial» → 1 ≤ g .«transmission_limit» → g .«timeout_type» ≡ 0
-      → g .spacecraft ≤ largestSpacecraft → g .channel ≤ largestChannel → d ≡ offset vs nnr → leb d largestK ≡ withinLimits g vs nnr
-  numbers-judged d h1 h2 h3 h4 h5 h6 h7 e = rw e (search tests)
+  module _ (b : Bool) (of-settings : b ≡ settingsHold g) where
+    -- a setting is outside its limit
+    pub settings-judged : b ≡ false → false ≡ withinLimits g vs nnr
+    settings-judged f = sym (rw (sym of-settings ∙ f))
+
+    -- the settings are within their limits: what is left is V(S) - NN(R)
+    pub numbers-judged : (d : ℕ) → b ≡ true → d ≡ offset vs nnr → leb d largestK ≡ withinLimits g vs nnr
+    numbers-judged d f e = ap (λ (x : ℕ). leb x largestK) e ∙ sym (rw (sym of-settings ∙ f))
 
   module _ (lent : ℕ) (within : Bool) (of-limits : within ≡ withinLimits g vs nnr) where
     pub start-setting : (r : Start) → within ≡ false → r ≡ refusedStart 12 → r ≡ startingOf g vs nnr lent

@@ -1,7 +1,7 @@
 -- What the sender answers: document 01's answer to an event, and its refusals.
 use Prim.Native.Nat.{ℕ}
 use mathlib.Core.Bool.{false}
-use mathlib.Core.List.{List, [], _∷_}
+use mathlib.Core.List.{List}
 use lib.Dec.{eqb}
 use lib.ListN.{replicate}
 use Rattle.base.specs.Choice.{pick}
@@ -16,7 +16,6 @@ use Rattle.fop_actions.specs.declared.Work.{Work}
 use Rattle.fop_actions.specs.Actions.{responseNumber, responsesWith}
 use Rattle.fop_actions.specs.Limits.{largestResponses}
 use Rattle.fop_actions.specs.Start.{senderOf}
-use Rattle.sender.specs.declared.Sender.{Sender}
 use Rattle.sender.specs.declared.Answer.{Answer}
 
 -- no response
@@ -27,6 +26,7 @@ noResponses = record { count = 0; numbers = replicate largestResponses 0 }
 abbrev pub refusedResponses : ℕ → Responses
 refusedResponses number = pick (eqb number 12) (responsesWith (responseNumber RejectDirective) noResponses) noResponses
 
+-- and E40 is its event; any other refusal is no event
 abbrev pub refusedEvent : ℕ → ℕ
 refusedEvent number = pick (eqb number 12) 40 0
 

@@ -15,19 +15,22 @@ use Rattle.sender.specs.Limits.{smallestStore}
 abbrev pub leastSettings : Settings
 leastSettings = record { k = 1; «t1_initial» = 1; «transmission_limit» = 1; «timeout_type» = 0; spacecraft = 0; channel = 0 }
 
+-- a start that is refused, by its number
 abbrev pub refusedStart : ℕ → Start
 refusedStart number = record { refusal = number; sender = record { fop = startOf leastSettings 0 0 } }
 
--- the settings and numbers given: K, T1_Initial, Transmission_Limit, Timeout_Type (0 for now), the address; V(S) - NN(R) within the largest K,
--- as every event keeps it
-abbrev pub withinLimits : Settings → ℕ → ℕ → Bool
-withinLimits g vs nnr =
+-- document 01's limits of K, T1_Initial, Transmission_Limit, Timeout_Type (0 for now) and the address
+abbrev pub settingsHold : Settings → Bool
+settingsHold g =
     both (leb 1 (g .k))
     (both (leb (g .k) largestK)
     (both (leb 1 (g .«t1_initial»))
     (both (leb 1 (g .«transmission_limit»))
-    (both (eqb (g .«timeout_type») 0)
-    (both (leb (g .spacecraft) largestSpacecraft) (both (leb (g .channel) largestChannel) (leb (offset vs nnr) largestK)))))))
+    (both (eqb (g .«timeout_type») 0) (both (leb (g .spacecraft) largestSpacecraft) (leb (g .channel) largestChannel))))))
+
+-- the settings and numbers given; V(S) - NN(R) within the largest K, as every event keeps it
+abbrev pub withinLimits : Settings → ℕ → ℕ → Bool
+withinLimits g vs nnr = both (settingsHold g) (leb (offset vs nnr) largestK)
 
 -- "A sender starts Initial, .. with the numbers and settings given"; lent is the length of the store
 unfoldable pub startingOf : Settings → ℕ → ℕ → ℕ → Start

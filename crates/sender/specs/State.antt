@@ -1,31 +1,21 @@
 -- The well-formed states of the sender, as a test: what every event keeps (crate fop_view, specs/State), so that a state that was kept over a
 -- reset can be told from one that no sender has.
 use Prim.Native.Nat.{ℕ, zero, suc}
-use mathlib.Core.Bool.{Bool, true, false, not}
+use mathlib.Core.Bool.{Bool, true, not}
 use mathlib.Core.List.{List, [], _∷_}
 use lib.Dec.{leb, eqb}
 use Rattle.base.specs.Choice.{pick, both}
-use Rattle.base.specs.Limits.{largestUnit, largestSpacecraft, largestChannel}
+use Rattle.base.specs.Limits.{largestUnit}
 use Rattle.base.specs.Modulo.{offset}
 use Rattle.fop.specs.Limits.{largestK}
 use Rattle.fop_actions.specs.declared.Sender.{Sender as State}
-use Rattle.fop_actions.specs.declared.Settings.{Settings}
 use Rattle.fop_actions.specs.declared.State.{State as FopState}
 use Rattle.fop_actions.specs.declared.State.the-variants as state
 use Rattle.fop_actions.specs.declared.Variables.{Variables}
 use Rattle.fop_actions.specs.declared.Queues.{Queues}
 use Rattle.fop_rows.specs.Rows.{isFrame}
 use Rattle.sender.specs.declared.Start.{Start}
-use Rattle.sender.specs.Start.{refusedStart}
-
--- document 01's limits of K, T1_Initial, Transmission_Limit, Timeout_Type and the address
-abbrev pub settingsHold : Settings → Bool
-settingsHold g =
-    both (leb 1 (g .k))
-    (both (leb (g .k) largestK)
-    (both (leb 1 (g .«t1_initial»))
-    (both (leb 1 (g .«transmission_limit»))
-    (both (eqb (g .«timeout_type») 0) (both (leb (g .spacecraft) largestSpacecraft) (leb (g .channel) largestChannel))))))
+use Rattle.sender.specs.Start.{settingsHold, refusedStart}
 
 -- the units held: those sent, and the one waiting
 abbrev pub unitsHeld : ℕ → Bool → ℕ
@@ -58,6 +48,7 @@ lengthsHold held [] = true
 lengthsHold zero (x ∷ xs) = both (leb x largestUnit) (lengthsHold zero xs)
 lengthsHold (suc held) (x ∷ xs) = both (leb 1 x) (both (leb x largestUnit) (lengthsHold held xs))
 
+-- all of these
 unfoldable pub wellFormed : State → Bool
 wellFormed s =
     both (settingsHold (s .settings))

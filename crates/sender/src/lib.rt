@@ -14,9 +14,8 @@ use crate::frames::place_handed;
 use crate::frames::remove;
 use crate::frames::unit_at;
 use crate::frames::write_handed;
+use crate::state::settings_hold;
 use crate::state::well_formed;
-use base::LARGEST_CHANNEL;
-use base::LARGEST_SPACECRAFT;
 use base::LARGEST_UNIT;
 use clcw::Clcw;
 use clcw::Reading;
@@ -241,25 +240,7 @@ fn tick_event(sender: fop_actions::Sender) -> u8
 fn within_limits(settings: Settings, vs: u8, nnr: u8) -> bool
     ensures { λ r. ⌜ r ≡ withinLimits settings vs nnr ⌝ }
 {
-    if settings.k < 1 {
-        return false;
-    }
-    if LARGEST_K < settings.k {
-        return false;
-    }
-    if settings.t1_initial < 1 {
-        return false;
-    }
-    if settings.transmission_limit < 1 {
-        return false;
-    }
-    if settings.timeout_type != 0 {
-        return false;
-    }
-    if LARGEST_SPACECRAFT < settings.spacecraft {
-        return false;
-    }
-    if LARGEST_CHANNEL < settings.channel {
+    if !settings_hold(settings) {
         return false;
     }
     difference(vs, nnr) <= LARGEST_K

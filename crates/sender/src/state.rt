@@ -14,10 +14,11 @@ use fop_actions::values::difference;
 ghost use mathlib.Core.Path.{_≡_};
 ghost use Rattle.base.specs.Choice.{both};
 ghost use Rattle.fop_rows.specs.Rows.{isFrame};
-ghost use Rattle.sender.specs.State.{settingsHold, unitsHeld, numbersHold, isEmpty, stateHolds, lengthsHold, wellFormed};
+ghost use Rattle.sender.specs.Start.{settingsHold};
+ghost use Rattle.sender.specs.State.{unitsHeld, numbersHold, isEmpty, stateHolds, lengthsHold, wellFormed};
 
 // Document 01's limits of the settings.
-fn settings_hold(settings: Settings) -> bool
+pub(crate) fn settings_hold(settings: Settings) -> bool
     ensures { λ r. ⌜ r ≡ settingsHold settings ⌝ }
 {
     if settings.k < 1 {

@@ -10,6 +10,7 @@ use Rattle.base.specs.Choice.{both}
 use Rattle.base.specs.Octets.{same}
 use Rattle.base.proofs.Tests.{both-left}
 use Rattle.base.proofs.Lists.{same-equal, same-self}
+use Rattle.base.specs.Flags.{bitOf, isSet}
 use Rattle.fop_actions.proofs.Ways.{no}
 use Rattle.fop_actions.specs.Limits.{places}
 use Rattle.fop_actions.specs.declared.State.{State as FopState}
@@ -19,7 +20,7 @@ use Rattle.fop_actions.specs.declared.Control.the-variants as control
 use Rattle.fop_actions.specs.declared.Sender.{Sender as State}
 use Rattle.sender.specs.State.{wellFormed}
 use Rattle.sender.specs.Start.{refusedStart}
-use Rattle.sender_octets.specs.Kept.{octetsOf, stateIn, isState, senderIn, stateNumber, stateNumbered, truth, isSet, controlNumber, controlValue, controlNumbered, pairsFrom}
+use Rattle.sender_octets.specs.Kept.{octetsOf, stateIn, isState, senderIn, stateNumber, stateNumbered, controlNumber, controlValue, controlNumbered, pairsFrom}
 use Rattle.sender_octets.proofs.Pairs.{pair-back, pairs-back}
 use Rattle.sender_octets.proofs.Parts.{settings-by, variables-by, queues-by, state-by}
 
@@ -41,18 +42,18 @@ control-back control.None = refl
 control-back control.Unlock = refl
 control-back (control.SetVr value) = refl
 
--- a flag is read back: the bit of its weight is its truth value
-truth-le : (b : Bool) → truth b ≤ 1
+-- a flag is read back: the bit of its weight is its bit
+truth-le : (b : Bool) → bitOf b ≤ 1
 truth-le true = omega arith
 truth-le false = omega arith
 
-flag-back : (n : ℕ) (b : Bool) → n ≡ truth b → eqb n 1 ≡ b
+flag-back : (n : ℕ) (b : Bool) → n ≡ bitOf b → eqb n 1 ≡ b
 flag-back n true e = ap (λ (x : ℕ). eqb x 1) e
 flag-back n false e = ap (λ (x : ℕ). eqb x 1) e
 
 -- five flags, each at its weight
 abbrev weighed : Bool → Bool → Bool → Bool → Bool → ℕ
-weighed a b c d e = truth a + truth b * 2 + truth c * 4 + truth d * 8 + truth e * 16
+weighed a b c d e = bitOf a + bitOf b * 2 + bitOf c * 4 + bitOf d * 8 + bitOf e * 16
 
 flags-back : (a b c d e : Bool)
     → (a ≡ isSet (weighed a b c d e) 1) × (b ≡ isSet (weighed a b c d e) 2) × (c ≡ isSet (weighed a b c d e) 4) × (d ≡ isSet (weighed a b c d e) 8) × (e ≡ isSet (weighed a b c d e) 16)

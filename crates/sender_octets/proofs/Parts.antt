@@ -4,6 +4,7 @@ use mathlib.Core.Bool.{Bool}
 use mathlib.Core.List.{List, [], _∷_, _++_}
 use Prim.Native.Nat.{ℕ, _/_, _%_}
 use lib.ListN.{getD}
+use Rattle.base.specs.Flags.{bitOf, isSet}
 use Rattle.fop_actions.specs.Limits.{places}
 use Rattle.fop_actions.specs.declared.State.{State as FopState}
 use Rattle.fop_actions.specs.declared.Settings.{Settings}
@@ -12,7 +13,7 @@ use Rattle.fop_actions.specs.declared.Queues.{Queues}
 use Rattle.fop_actions.specs.declared.Control.{Control}
 use Rattle.fop_actions.specs.declared.Sender.{Sender as State}
 use Rattle.sender.specs.declared.Answer.{Answer}
-use Rattle.sender_octets.specs.Kept.{octetsOf, stateIn, stateNumber, stateNumbered, truth, isSet, controlNumber, controlValue, controlNumbered, flagsOf, pairs, pairAt, pairsFrom}
+use Rattle.sender_octets.specs.Kept.{octetsOf, stateIn, stateNumber, stateNumbered, controlNumber, controlValue, controlNumbered, flagsOf, pairs, pairAt, pairsFrom}
 use Rattle.sender_octets.specs.Answer.{octetsOfAnswer, alertNumber}
 
 -- the octets before the lengths, with the state's number, the flags and the type-BC frame given
@@ -32,18 +33,18 @@ numbers-by s number flags control value en ef ec ev =
     ∙ ap (λ (n : ℕ). numbersWith s (stateNumber (s .state)) n control value ++ pairs (s .queues .lengths)) ef
     ∙ ap₂ (λ (n m : ℕ). numbersWith s (stateNumber (s .state)) (flagsOf s) n m ++ pairs (s .queues .lengths)) ec ev
 
--- the octets of an answer, with the state's number, the alert's and the truth values given
+-- the octets of an answer, with the state's number, the alert's and the bits given
 abbrev pub answerWith : Answer → ℕ → ℕ → ℕ → ℕ → List ℕ
 answerWith a state abort alert suspended =
     a .refusal ∷ a .event ∷ state ∷ a .down / 256 % 256 ∷ a .down % 256 ∷ abort ∷ alert ∷ suspended
     ∷ a .responses .count ∷ getD (a .responses .numbers) 0 0 ∷ getD (a .responses .numbers) 1 0 ∷ getD (a .responses .numbers) 2 0 ∷ getD (a .responses .numbers) 3 0
     ∷ a .confirmed .number ∷ a .confirmed .count ∷ a .denied .number ∷ a .denied .count ∷ []
 
-pub answer-by : (a : Answer) (state abort alert suspended : ℕ) → state ≡ stateNumber (a .state) → abort ≡ truth (a .abort)
-    → alert ≡ alertNumber (a .alert) → suspended ≡ truth (a .suspended) → answerWith a state abort alert suspended ≡ octetsOfAnswer a
+pub answer-by : (a : Answer) (state abort alert suspended : ℕ) → state ≡ stateNumber (a .state) → abort ≡ bitOf (a .abort)
+    → alert ≡ alertNumber (a .alert) → suspended ≡ bitOf (a .suspended) → answerWith a state abort alert suspended ≡ octetsOfAnswer a
 unfolding octetsOfAnswer
 answer-by a state abort alert suspended es eb el eu =
-    ap₂ (λ (n m : ℕ). answerWith a n m alert suspended) es eb ∙ ap₂ (λ (n m : ℕ). answerWith a (stateNumber (a .state)) (truth (a .abort)) n m) el eu
+    ap₂ (λ (n m : ℕ). answerWith a n m alert suspended) es eb ∙ ap₂ (λ (n m : ℕ). answerWith a (stateNumber (a .state)) (bitOf (a .abort)) n m) el eu
 
 module _ (o : List ℕ) where
   abbrev pub settingsWith : ℕ → ℕ → Settings

@@ -9,15 +9,17 @@
 use Prim.Native.Nat.{ℕ, _/_, _%_}
 use mathlib.Core.List.{List, [], _∷_}
 use lib.ListN.{getD}
+use Rattle.base.specs.Flags.{bitOf}
 use Rattle.fop_actions.specs.declared.Alert.{Alert}
 use Rattle.fop_actions.specs.declared.Alert.the-variants as alert
 use Rattle.sender.specs.declared.Answer.{Answer}
-use Rattle.sender_octets.specs.Kept.{stateNumber, truth}
+use Rattle.sender_octets.specs.Kept.{stateNumber}
 
 -- the octets of an answer
 abbrev pub answerOctets : ℕ
 answerOctets = 17
 
+-- table 7-4: the reason of an Alert notification by number
 abbrev pub alertNumber : Alert → ℕ
 alertNumber alert.None = 0
 alertNumber alert.Synch = 1
@@ -32,6 +34,6 @@ alertNumber alert.Llif = 8
 -- an answer as octets
 unfoldable pub octetsOfAnswer : Answer → List ℕ
 octetsOfAnswer a =
-    a .refusal ∷ a .event ∷ stateNumber (a .state) ∷ a .down / 256 % 256 ∷ a .down % 256 ∷ truth (a .abort) ∷ alertNumber (a .alert) ∷ truth (a .suspended)
+    a .refusal ∷ a .event ∷ stateNumber (a .state) ∷ a .down / 256 % 256 ∷ a .down % 256 ∷ bitOf (a .abort) ∷ alertNumber (a .alert) ∷ bitOf (a .suspended)
     ∷ a .responses .count ∷ getD (a .responses .numbers) 0 0 ∷ getD (a .responses .numbers) 1 0 ∷ getD (a .responses .numbers) 2 0 ∷ getD (a .responses .numbers) 3 0
     ∷ a .confirmed .number ∷ a .confirmed .count ∷ a .denied .number ∷ a .denied .count ∷ []

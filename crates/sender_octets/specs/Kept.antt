@@ -13,6 +13,7 @@ use lib.Dec.{eqb}
 use lib.ListN.{getD}
 use Rattle.base.specs.Choice.{pick, both}
 use Rattle.base.specs.Octets.{same}
+use Rattle.base.specs.Flags.{bitOf, isSet}
 use Rattle.fop_actions.specs.Limits.{places}
 use Rattle.fop_actions.specs.declared.State.{State as FopState}
 use Rattle.fop_actions.specs.declared.State.the-variants as state
@@ -41,20 +42,13 @@ abbrev pub stateNumbered : ℕ → FopState
 stateNumbered n =
     pick (eqb n 1) state.S1 (pick (eqb n 2) state.S2 (pick (eqb n 3) state.S3 (pick (eqb n 4) state.S4 (pick (eqb n 5) state.S5 state.S6))))
 
--- a truth value, 1 or 0
-abbrev pub truth : Bool → ℕ
-truth true = 1
-truth false = 0
-
--- the bit of that weight is set
-abbrev pub isSet : ℕ → ℕ → Bool
-isSet flags weight = eqb (flags / weight % 2) 1
-
+-- the type-BC frame on the Sent_Queue by number
 abbrev pub controlNumber : Control → ℕ
 controlNumber control.None = 0
 controlNumber control.Unlock = 1
 controlNumber (control.SetVr value) = 2
 
+-- and the value that it carries
 abbrev pub controlValue : Control → ℕ
 controlValue control.None = 0
 controlValue control.Unlock = 0
@@ -64,22 +58,25 @@ controlValue (control.SetVr value) = value
 abbrev pub controlNumbered : ℕ → ℕ → Control
 controlNumbered n value = pick (eqb n 1) control.Unlock (pick (eqb n 2) (control.SetVr value) control.None)
 
--- numbers as two octets each, and back: n of them from place i on
+-- numbers as two octets each, the most significant first
 abbrev pub pairs : List ℕ → List ℕ
 pairs [] = []
 pairs (x ∷ xs) = x / 256 ∷ x % 256 ∷ pairs xs
 
+-- the number of two octets at a place
 abbrev pub pairAt : List ℕ → ℕ → ℕ
 pairAt octets i = getD octets i 0 * 256 + getD octets (i + 1) 0
 
+-- n such numbers from place i on
 abbrev pub pairsFrom : List ℕ → ℕ → ℕ → List ℕ
 pairsFrom octets i zero = []
 pairsFrom octets i (suc n) = pairAt octets i ∷ pairsFrom octets (i + 2) n
 
+-- the flags in one octet
 abbrev pub flagsOf : State → ℕ
 flagsOf s =
-    truth (s .variables .«ad_out») + truth (s .variables .«bc_out») * 2 + truth (s .variables .«bd_out») * 4 + truth (s .queues .waiting) * 8
-    + truth (s .queues .«control_marked») * 16
+    bitOf (s .variables .«ad_out») + bitOf (s .variables .«bc_out») * 2 + bitOf (s .variables .«bd_out») * 4 + bitOf (s .queues .waiting) * 8
+    + bitOf (s .queues .«control_marked») * 16
 
 -- a state as octets
 unfoldable pub octetsOf : State → List ℕ

@@ -10,8 +10,9 @@ use fop_actions::Variables;
 ghost use mathlib.Core.Path.{_≡_};
 ghost use Prim.Native.Nat.{_+_, _*_, _<_};
 ghost use lib.ListN.{length};
+ghost use Rattle.base.specs.Flags.{isSet};
 ghost use Rattle.fop_actions.specs.Limits.{places};
-ghost use Rattle.sender_octets.specs.Kept.{stateIn, stateNumbered, controlNumbered, isSet, pairAt, pairsFrom};
+ghost use Rattle.sender_octets.specs.Kept.{stateIn, stateNumbered, controlNumbered, pairAt, pairsFrom};
 
 // A number of two octets.
 fn pair(high: u8, low: u8) -> u16

@@ -9,7 +9,8 @@ ghost use mathlib.Core.Path.{_≡_};
 ghost use mathlib.Core.List.{_++_};
 ghost use Prim.Native.Nat.{_<_, _≤_, _/_, _%_};
 ghost use lib.ListN.{getD};
-ghost use Rattle.sender_octets.specs.Kept.{octetsOf, stateNumber, truth as truthOf, controlNumber, controlValue, flagsOf, pairs};
+ghost use Rattle.base.specs.Flags.{bitOf};
+ghost use Rattle.sender_octets.specs.Kept.{octetsOf, stateNumber, controlNumber, controlValue, flagsOf, pairs};
 
 // The first octet of a state, and the number of its layout.
 const MARK: u8 = 0x53;
@@ -32,7 +33,7 @@ pub fn state_number(state: State) -> u8
 
 // A truth value, 1 or 0.
 pub fn truth(value: bool) -> u8
-    ensures number { λ r. ⌜ r ≡ truthOf value ⌝ }
+    ensures number { λ r. ⌜ r ≡ bitOf value ⌝ }
     ensures bit { λ r. ⌜ r ≤ 1 ⌝ }
 {
     if value {

@@ -1,8 +1,6 @@
 -- A test of every kind of control word, computed.
-use mathlib.Core.Logic.{_≢_}
 use mathlib.Core.Path.{_≡_}
 use mathlib.Core.Bool.{Bool, true, false, _&&_, false≢true}
-use Prim.Native.Nat.{_-_}
 use lib.Dec.{T}
 use Rattle.fop.specs.Events.{Seen}
 use Rattle.session.proofs.Rows.{and-l, and-r}

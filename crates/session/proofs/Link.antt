@@ -278,11 +278,6 @@ module _ (set : Settings) (vw : Within set) where
           history = rw (a, R .history);
         }
 
-    -- the session goes on alike
-    keep-channels : (κ : Session) → core.channels (κ .frames) (κ .words) κ ≡ κ
-    unfolding core.channels
-    keep-channels κ = refl
-
     -- an event of the sender that is no word
     plain : (σ : Linked m) (κ : Session) (e : SenderEvent) (lent : ℕ) → Rel σ κ → Inv set (core.sender set e lent κ)
         → Rel (toSender set m e lent (σ .words) σ) (core.sender set e lent κ)

@@ -10,6 +10,7 @@ use lib.ListN.{length}
 use borrow.Author.Tests.{leb-true, ltb-true, lt-ltb}
 use Rattle.base.specs.Choice.{pick}
 use Rattle.base.specs.Octets.{Octets}
+use Rattle.base.specs.Flags.{bitOf}
 use Rattle.fop.specs.Units.{Fdu, Frame, AD, BD, Word, valid, Own, areOctets, legal, written, wordOctets, readWord, heard}
 use Rattle.frame.specs.Frame.{frameOf, dataOf}
 use Rattle.frame.specs.Answers.{readingOf, partOf}
@@ -17,7 +18,7 @@ use Rattle.frame.specs.declared.Kind.{Kind}
 use Rattle.frame.specs.declared.Kind.the-variants as kind
 use Rattle.frame.specs.declared.Reading.the-variants as reading
 use Rattle.frame.proofs.Back as fback
-use Rattle.clcw.specs.Clcw.{bitOf, clcwOf}
+use Rattle.clcw.specs.Clcw.{clcwOf}
 use Rattle.clcw.specs.Answers as wordReading
 use Rattle.clcw.specs.declared.Clcw.{Clcw}
 use Rattle.clcw.specs.declared.Reading.the-variants as clcwReading

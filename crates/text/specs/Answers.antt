@@ -11,6 +11,7 @@ use Rattle.text.specs.declared.Decimal.the-variants.{Is, None}
 use Rattle.text.specs.declared.Written.{Written}
 use Rattle.text.specs.declared.Written.the-variants.{Done, Room}
 
+-- a number that was read, or none
 abbrev pub numberTold : Decimal → Number
 numberTold (Is n) = is n
 numberTold None = none
@@ -19,6 +20,7 @@ numberTold None = none
 unfoldable pub written : List ℕ → ℕ → Outcome (Unit {0})
 written text room = must (leb (length text) room) (refused 11 0) (done text tt)
 
+-- what writing answers: the count of octets, or 11
 abbrev pub writtenAnswer : Written → Answer (Unit {0})
 writtenAnswer (Done count) = done count tt
 writtenAnswer Room = refused 11 0

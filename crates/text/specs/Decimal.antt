@@ -24,6 +24,7 @@ pub data Number : Type 0 where
   is : ℕ → Number
   none : Number
 
+-- 0 to 9
 abbrev pub isDigit : ℕ → Bool
 isDigit c = both (leb digitZero c) (leb c 0x39)
 

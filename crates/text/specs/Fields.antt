@@ -4,9 +4,11 @@ use mathlib.Core.List.{List, [], _∷_}
 use lib.Dec.{eqb}
 use Rattle.base.specs.Choice.{pick}
 
+-- a tab
 abbrev pub tab : ℕ
 tab = 0x09
 
+-- a newline
 abbrev pub newline : ℕ
 newline = 0x0A
 

@@ -1,6 +1,6 @@
 -- Each arm of the match: what `read` answered, put into numbers.
 use borrow.Author.Needs.{needs}
-use mathlib.Core.Path.{_≡_, sym, ap, _∙_}
+use mathlib.Core.Path.{sym, ap, _∙_}
 use Rattle.base.specs.Outcome.{numberOf, countOf}
 use Rattle.boundary.specs.Numbers.{placeOf, correctedOf}
 use Rattle.cltu.specs.Answers.{readAnswer}

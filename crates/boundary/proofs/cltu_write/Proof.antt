@@ -1,6 +1,6 @@
 -- Each arm of the match: what `write` answered, put into numbers.
 use borrow.Author.Needs.{needs}
-use mathlib.Core.Path.{_≡_, sym, ap, _∙_}
+use mathlib.Core.Path.{sym, ap, _∙_}
 use Rattle.base.specs.Outcome.{numberOf, countOf}
 use Rattle.cltu.specs.Answers.{writtenAnswer}
 use Rattle.boundary.proofs.cltu_write.Statement.{statement}

@@ -1,6 +1,5 @@
 -- Each test is a case of the definition.
 use Rattle.base.proofs.Tests.{tests}
-use borrow.Author.Needs.{needs}
 use Rattle.fop_rows.proofs.unless_suspended.Statement.{statement}
 use Rattle.fop_rows.proofs.unless_suspended.Tie as tie
 

@@ -1,7 +1,6 @@
 -- Each return is one kind, by the flags and, for a command, its length.
 use borrow.Author.Needs.{needs}
 use mathlib.Core.Path.{sym}
-use native.Mathlib.Omega.{arith}
 use denote.Ref.{now}
 use Rattle.frame.proofs.Accepted.{kind-unlock, kind-set, kind-bd, kind-ad}
 use Rattle.frame.proofs.kind_at.Statement.{statement}

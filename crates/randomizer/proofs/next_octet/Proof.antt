@@ -3,7 +3,7 @@ use borrow.Author.Needs.{needs}
 use mathlib.Core.Path.{_≡_, refl, sym, ap, _∙_}
 use Prim.Native.Nat.{ℕ, _+_, _-_, _*_, _%_, _≤_}
 use native.Mathlib.Omega.{arith}
-use Rattle.randomizer.specs.Randomizer.{nextBit, later}
+use Rattle.randomizer.specs.Randomizer.{later}
 use Rattle.randomizer.proofs.Recurrence.{nextBit-lt, later-next}
 use Rattle.randomizer.proofs.next_octet.Statement.{statement}
 use Rattle.randomizer.proofs.next_octet.Tie as tie

@@ -10,7 +10,7 @@ use lib.ListN.{length, take, drop, length-set, drop-of-length-le}
 use lib.Seq.{take-all}
 use mathlib.Core.List.{append-nil}
 use Rattle.base.proofs.Lists.{store-by}
-use Rattle.randomizer.specs.Randomizer.{nextBit, later, octet, sequenceOf}
+use Rattle.randomizer.specs.Randomizer.{later, octet, sequenceOf}
 use Rattle.randomizer.proofs.Randomized.{octet-next, sequence-at, length-sequence}
 use Rattle.randomizer.proofs.sequence.Statement.{statement}
 use Rattle.randomizer.proofs.sequence.Tie as tie

@@ -1,4 +1,4 @@
--- The sum of the truth values, each by its weight.
+-- The sum of the bits, each by its weight.
 use borrow.Author.Needs.{needs}
 use native.Mathlib.Omega.{arith}
 use Rattle.sender_octets.proofs.writer.flags_of.Statement.{statement}
