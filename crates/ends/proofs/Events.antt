@@ -1,5 +1,5 @@
 -- Every event of the session: our sender's step does what the table machine does on what the sender's state and store read as.
-use Prim.Native.Nat.{ℕ, _*_, _<_}
+use Prim.Native.Nat.{ℕ, _<_}
 use mathlib.Core.Path.{_≡_, refl, sym, ap, subst, _∙_}
 use mathlib.Core.Bool.{Bool, true, false, _&&_, true≢false}
 use mathlib.Core.List.{List, [], _∷_}
@@ -15,8 +15,7 @@ use Rattle.base.specs.Outcome.{Outcome, Outcome.done}
 use Rattle.base.specs.Outcome as outcome
 use Rattle.base.proofs.Computed.{is-true}
 use Rattle.base.proofs.Lists.{octets-at}
-use Rattle.store.specs.Slid.{slid}
-use Rattle.store.proofs.Parts.{slid-none}
+use Rattle.fop_actions.proofs.SentQueue.{without-none}
 use Rattle.clcw.specs.Clcw.{virtualChannel, isValid, wordOf}
 use Rattle.clcw.specs.Answers.{readingOf, receivedOf}
 use Rattle.clcw.specs.declared.Clcw.{Clcw}
@@ -34,7 +33,7 @@ use Rattle.fop.specs.Answers.{judged, otherRefusal, refused}
 use Rattle.fop_actions.specs.declared.Sender.{Sender}
 use Rattle.fop_actions.specs.declared.Work.{Work}
 use Rattle.fop_actions.specs.Start.{begun, noneTold, senderOf}
-use Rattle.fop_actions.specs.View.{unitAt, fopOf}
+use Rattle.fop_actions.specs.View.{unitAt, fopOf, without}
 use Rattle.fop_actions.proofs.Ways.{yes, no}
 use Rattle.fop_rows.specs.Rows.{eventOf, rowIf, rowOf, rowNumbered}
 use Rattle.fop_events.specs.Events.{eventNumber, variablesOf, expiryNumber, adNumber, bdNumber, lowerNumber, directiveNumber, wordNumber, told}
@@ -207,8 +206,8 @@ module _ (own : Own) (s : Sender) (store : List ℕ) (lent : ℕ) (good : Good o
       let w : Work = begun (ticked s) in
       let nothing-down : done [] tt ≡ fitting none lent = ap (λ (b : Bool). pick {A = Outcome (Unit {0})} b (done [] tt) (outcome.Outcome.refused 11 0)) (sym (le-leb 0 lent (omega arith))) in
       subst (λ (x : Step). Agrees own lent f (machine.begin none [] 0 lowered) x)
-      (sym (ap (λ (t : Bool). must t (refusedStep 11 s store output) (stepBy 0 s w (done [] tt) (slid (largestUnit * 0) store) store output)) (stored own s store good)
-      ∙ ap (λ (x : List ℕ). stepBy 0 s w (done [] tt) x store output) (slid-none store) ∙ ap (λ (x : Outcome (Unit {0})). stepBy 0 s w x store store output) nothing-down))
+      (sym (ap (λ (t : Bool). must t (refusedStep 11 s store output) (stepBy 0 s w (done [] tt) (without 0 store) store output)) (stored own s store good)
+      ∙ ap (λ (x : List ℕ). stepBy 0 s w (done [] tt) x store output) (without-none store) ∙ ap (λ (x : Outcome (Unit {0})). stepBy 0 s w x store store output) nothing-down))
       (concludes own none 0 refl [] 0 s store store w (machine.begin none [] 0 lowered) lent refl refl refl ticked-good good tt)
 
   pub tick-does : Does own lent tick f (tickOf s store output)

@@ -10,7 +10,6 @@ use lib.ListN.{length}
 use Rattle.base.specs.Choice.{pick, must}
 use Rattle.base.specs.Limits.{largestUnit}
 use Rattle.memory.specs.Placed.{placed}
-use Rattle.store.specs.Slid.{slid}
 use Rattle.base.specs.Outcome.{Outcome}
 use Rattle.base.specs.Outcome as outcome
 use Rattle.clcw.specs.Answers.{readingOf}
@@ -28,6 +27,7 @@ use Rattle.sender.specs.Limits.{smallestStore}
 use Rattle.sender.specs.Events.{handedWriting, unitBefore, unitOffered, added, servedBy, served, offeredBy, bypassedBy, mustBeUnit, requestAdOf, requestBdOf, directiveOf, ticked, tickNumber, tickOf, lowerLayerOf, wordBy, controlWordOf}
 use Rattle.ends.specs.Ours.{Held, stepOf, heldAfter, lowerAnswer}
 use Rattle.ends.specs.Demand.{refusalOf, RefusedKeepsAll}
+use Rattle.fop_actions.specs.View.{without}
 
 module _ (x : Held) (output : List ℕ) where
   abbrev s : Sender
@@ -61,7 +61,7 @@ module _ (x : Held) (output : List ℕ) where
   served-by : (k : ℕ) (w : Work) → Keeps (servedBy k s w store output)
   unfolding servedBy
   served-by k w =
-      concluded-keeps k w (handedWriting (s .settings) (w .told .handed) (unitBefore s w store) (length output)) (slid (largestUnit * w .told .confirmed .count) store)
+      concluded-keeps k w (handedWriting (s .settings) (w .told .handed) (unitBefore s w store) (length output)) (without (w .told .confirmed .count) store)
 
   offered-by : (k : ℕ) (w : Work) (o : List ℕ) → Keeps (offeredBy k s w o store output)
   unfolding offeredBy

@@ -10,8 +10,7 @@ use lib.ListN.{length, set}
 use Rattle.base.specs.Choice.{pick}
 use Rattle.base.specs.Limits.{largestUnit}
 use Rattle.memory.specs.Placed.{placed}
-use Rattle.store.specs.Slid.{slid}
-use Rattle.store.proofs.Parts.{slid-none}
+use Rattle.fop_actions.proofs.SentQueue.{without-none}
 use Rattle.fop.specs.Units.{Own}
 use Rattle.fop.specs.Table.{FopEvent, table78, cell78, E19, E20, E21, E22}
 use Rattle.fop.specs.Variables as machine
@@ -26,7 +25,7 @@ use Rattle.fop_actions.specs.Actions as act
 use Rattle.fop_actions.specs.Parts.{withVariables, withTold}
 use Rattle.fop_actions.specs.Limits.{places}
 use Rattle.fop_actions.specs.Start.{begun, noneTold, senderOf}
-use Rattle.fop_actions.specs.View.{stateOf, unitAt, fopOf}
+use Rattle.fop_actions.specs.View.{stateOf, unitAt, fopOf, without}
 use Rattle.fop_actions.proofs.Ways.{yes}
 use Rattle.fop_actions.proofs.ViewWaiting.{unit-same, unit-there}
 use Rattle.fop_rows.specs.Rows.{inMain, done, doneAll, doneCell, rowOf}
@@ -125,8 +124,8 @@ isNone handed.Unlock = false
 isNone (handed.SetVr n) = false
 
 -- nothing confirmed: the store is as it was
-same-store : (count : ℕ) (store : List ℕ) → count ≡ 0 → slid (largestUnit * count) store ≡ store
-same-store count store z = ap (λ (k : ℕ). slid (largestUnit * k) store) z ∙ slid-none store
+same-store : (count : ℕ) (store : List ℕ) → count ≡ 0 → without count store ≡ store
+same-store count store z = ap (λ (k : ℕ). without k store) z ∙ without-none store
 
 module _ (own : Own) (o : List ℕ) (s : Sender) (store : List ℕ) (lent : ℕ) (good : Good own s store) (legal : Fits o) where
   -- E19: the unit is added in S1 to S3

@@ -1,12 +1,11 @@
 -- An event that offers no unit: our sender's step agrees with the table machine's work on its row. The unit handed down stood in the store
 -- before the units confirmed left it, where the sender reads it.
-use Prim.Native.Nat.{ℕ, _+_, _*_, _≤_, _<_}
+use Prim.Native.Nat.{ℕ, _+_, _≤_, _<_}
 use mathlib.Core.Path.{_≡_, refl, sym, ap, subst, _∙_}
 use mathlib.Core.Bool.{Bool, true, false, true≢false}
 use mathlib.Core.List.{List, []}
 use native.Mathlib.Omega.{arith}
 use lib.Dec.{eqb}
-use Rattle.base.specs.Limits.{largestUnit}
 use Rattle.store.specs.Slid.{slid}
 use Rattle.fop.specs.Units.{Own, Unlock}
 use Rattle.fop.specs.Table.{FopEvent}
@@ -19,7 +18,7 @@ use Rattle.fop_actions.specs.declared.Sender.{Sender}
 use Rattle.fop_actions.specs.declared.Work.{Work}
 use Rattle.fop_actions.specs.Limits.{places}
 use Rattle.fop_actions.specs.Start.{begun, senderOf}
-use Rattle.fop_actions.specs.View.{unitAt, fopOf}
+use Rattle.fop_actions.specs.View.{unitAt, fopOf, without}
 use Rattle.fop_actions.proofs.SentQueue.{unit-slid}
 use Rattle.fop_actions.proofs.Ways.{no}
 use Rattle.fop_rows.specs.Rows.{rowOf}
@@ -36,7 +35,7 @@ use Rattle.ends.proofs.Shown.{held-fits, shown}
 
 -- what an event that offers no unit does to the store and the lengths
 others : (b : Brings) (o : List ℕ) (s : Sender) (w : Work) (store : List ℕ) → isOffering b ≡ false
-    → (storeBy b o s w store ≡ slid (largestUnit * w .told .confirmed .count) store) × (lengthsBy b o s w ≡ slid (w .told .confirmed .count) (s .queues .lengths))
+    → (storeBy b o s w store ≡ without (w .told .confirmed .count) store) × (lengthsBy b o s w ≡ slid (w .told .confirmed .count) (s .queues .lengths))
 others b o s w store t = (no _ _ _ t, no _ _ _ t)
 
 -- g is the state whose row it is: s, or s with its timer lowered
@@ -50,7 +49,7 @@ module _ (own : Own) (e : FopEvent) (n : ℕ) (s g : Sender) (store : List ℕ) 
   count = w .told .confirmed .count
 
   abbrev new : List ℕ
-  new = slid (largestUnit * count) store
+  new = without count store
 
   abbrev m : machine.Work
   m = fopDo e [] n (fopOf (begun g) store)

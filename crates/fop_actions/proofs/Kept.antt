@@ -14,6 +14,7 @@ use Rattle.base.specs.Limits.{largestUnit}
 use Rattle.base.specs.Modulo.{advanced, offset}
 use Rattle.store.specs.Slid.{slid}
 use Rattle.store.proofs.Parts.{slid-length}
+use Rattle.store.proofs.Within.{within-length}
 use Rattle.fop.specs.Limits.{largestK}
 use Rattle.fop_actions.specs.declared.Alert.{Alert}
 use Rattle.fop_actions.specs.declared.Control.{Control}
@@ -27,7 +28,7 @@ use Rattle.fop_actions.specs.Parts.{withSettings, withVariables, withQue
 use Rattle.fop_actions.specs.Actions as act
 use Rattle.fop_actions.specs.Actions.{least, staying, removed}
 use Rattle.fop_actions.specs.Limits.{places}
-use Rattle.fop_actions.specs.View.{Formed, WellFormed}
+use Rattle.fop_actions.specs.View.{Formed, WellFormed, without}
 use Rattle.fop_actions.proofs.Offsets.{offset-between}
 
 -- The actions that leave them alone.
@@ -286,7 +287,7 @@ least-second a b = by (ltb a b) refl where
 
 module _ (w : Work) (store : List ℕ) (well : WellFormed w store) where
   pub remove-acknowledged-frames : (n : ℕ) → n < 256 → offset n (w .variables .nnr) ≤ offset (w .variables .vs) (w .variables .nnr)
-      → WellFormed (act.removeAcknowledgedFrames n w) (slid (largestUnit * (w .queues .sent - staying n w)) store)
+      → WellFormed (act.removeAcknowledgedFrames n w) (without (w .queues .sent - staying n w) store)
   unfolding act.removeAcknowledgedFrames withVariables withQueues withTold
   remove-acknowledged-frames n h i =
       let b : offset (w .variables .vs) n ≡ offset (w .variables .vs) (w .variables .nnr) - offset n (w .variables .nnr) =
@@ -299,7 +300,7 @@ module _ (w : Work) (store : List ℕ) (well : WellFormed w store) where
         last = least-second (w .queues .marked) (staying n w);
         all-places = slid-length (removed n w) (w .queues .lengths) ∙ well .all-places;
         units = slid-units (removed n w) (w .queues .lengths) (well .units);
-        room = rw (slid-length (largestUnit * (w .queues .sent - staying n w)) store) (well .room);
+        room = rw (within-length (largestUnit * places) (largestUnit * (w .queues .sent - staying n w)) store) (well .room);
       }
 
   -- Add to Wait_Queue.

@@ -13,11 +13,12 @@ use lib.ListN.{length, take, drop, getD}
 use Rattle.base.specs.Limits.{largestUnit}
 use Rattle.base.specs.Modulo.{advanced}
 use Rattle.store.specs.Slid.{slid}
-use Rattle.store.proofs.Parts.{slid-at, slid-part}
+use Rattle.store.proofs.Parts.{slid-at}
+use Rattle.store.proofs.Within.{within-none, within-part}
 use Rattle.fop.specs.Variables.{Entry}
 use Rattle.fop.specs.Machine.{markAll, unmark, firstMarked}
 use Rattle.fop_actions.specs.Limits.{places}
-use Rattle.fop_actions.specs.View.{unitAt, entryAt, entriesFrom}
+use Rattle.fop_actions.specs.View.{unitAt, entryAt, entriesFrom, without}
 use Rattle.fop_actions.proofs.Ways.{yes, no}
 use Rattle.fop_actions.proofs.Offsets.{mod-add, leb-minus}
 
@@ -105,20 +106,24 @@ module _ (lengths store : List ℕ) (f : ℕ) where
       let b : suc i + g ≡ i + suc g = omega arith in
       ap (λ (k : ℕ). drop (suc g) (from p i k)) a ∙ dropped p g (suc i) n ∙ ap (λ (k : ℕ). from p k n) b
 
+-- no unit removed leaves the store as it is
+pub without-none : (store : List ℕ) → without 0 store ≡ store
+without-none store = within-none (largestUnit * places) store
+
 -- The units past the first g, in the lengths and the store moved down, are those of the whole without its first g.
 module _ (lengths store : List ℕ) (f p g : ℕ) (units : (i : ℕ) → getD lengths i 0 ≤ largestUnit) (all-places : length lengths ≡ places)
     (room : largestUnit * places ≤ length store) where
   abbrev moved : List ℕ
-  moved = slid (largestUnit * g) store
+  moved = without g store
 
   pub unit-slid : (i : ℕ) → g + i < places → unitAt (slid g lengths) i moved ≡ unitAt lengths (g + i) store
   unit-slid i h =
       let m = getD lengths (g + i) 0 in
-      let c : largestUnit * g + largestUnit * i + m ≤ length store = omega (arith, units (g + i)) in
+      let c : largestUnit * g + largestUnit * i + m ≤ largestUnit * places = omega (arith, units (g + i)) in
       let a : g + i < length lengths = omega arith in
       let u : largestUnit * g + largestUnit * i ≡ largestUnit * (g + i) = omega arith in
       ap (λ (x : ℕ). take x (drop (largestUnit * i) moved)) (slid-at g i lengths a)
-      ∙ slid-part (largestUnit * g) (largestUnit * i) m store c
+      ∙ within-part (largestUnit * places) (largestUnit * g) (largestUnit * i) m store c room
       ∙ ap (λ (x : ℕ). take m (drop x store)) u
 
   entry-slid : (i : ℕ) → g + i < places → entryAt (slid g lengths) moved (advanced f g) (p - g) i ≡ entryAt lengths store f p (g + i)

@@ -4,13 +4,12 @@ use mathlib.Core.Path.{_≡_, refl, sym, ap, _∙_}
 use mathlib.Core.Bool.{Bool, true, false}
 use mathlib.Core.List.{List, []}
 use mathlib.Core.Option.{Option, none, some}
-use Prim.Native.Nat.{ℕ, _+_, _-_, _*_, _≤_, _<_}
+use Prim.Native.Nat.{ℕ, _+_, _-_, _≤_, _<_}
 use native.Mathlib.Omega.{arith}
 use borrow.Author.Tests.{ltb-true, ltb-false}
 use lib.Dec.{ltb}
 use lib.ListN.{take, drop}
 use Rattle.base.specs.Choice.{pick}
-use Rattle.base.specs.Limits.{largestUnit}
 use Rattle.base.specs.Modulo.{advanced, offset}
 use Rattle.store.specs.Slid.{slid}
 use Rattle.fop.specs.Limits.{largestK}
@@ -26,7 +25,7 @@ use Rattle.fop_actions.specs.declared.Work.{Work}
 use Rattle.fop_actions.specs.Parts.{withVariables, withQueues, withTold}
 use Rattle.fop_actions.specs.Actions as act
 use Rattle.fop_actions.specs.Actions.{least, staying, removed}
-use Rattle.fop_actions.specs.View.{unitAt, entryAt, entriesFrom, entriesOf, waitOf, fopOf, framesOf, responsesOf, view, WellFormed}
+use Rattle.fop_actions.specs.View.{unitAt, entryAt, entriesFrom, entriesOf, waitOf, fopOf, framesOf, responsesOf, view, WellFormed, without}
 use Rattle.fop_actions.proofs.Offsets.{offset-ge, offset-add}
 use Rattle.fop_actions.proofs.SentQueue.{unit-slid, entries-slid, dropped}
 use Rattle.fop_actions.proofs.Acknowledged.{left, gone as gone-units, acknowledged-place}
@@ -76,7 +75,7 @@ module _ (e : Option FopEvent) (o : List ℕ) (n : ℕ) (d : List Fdu) (w : Work
       acknowledged-place (w .variables .vs) (w .variables .nnr) n (w .queues .sent) j (well .vs-octet) (well .nnr-octet) octet (well .window) (well .outstanding) in-window (omega arith)
 
   queue-left : unacknowledged (w .variables .nnr) n Sent
-      ≡ entriesOf (slid gone (w .queues .lengths)) (slid (largestUnit * gone) store) (w .variables .vs) rest (least (w .queues .marked) rest)
+      ≡ entriesOf (slid gone (w .queues .lengths)) (without gone store) (w .variables .vs) rest (least (w .queues .marked) rest)
   queue-left =
       let q = w .queues in
       let f = offset (w .variables .vs) (q .sent) in
@@ -91,12 +90,12 @@ module _ (e : Option FopEvent) (o : List ℕ) (n : ℕ) (d : List Fdu) (w : Work
       ∙ dropped (q .lengths) store f p gone 0 rest
       ∙ ap (λ (x : ℕ). entriesFrom (q .lengths) store f p x rest) (sym k)
       ∙ sym (entries-slid (q .lengths) store f p gone (well .units) (well .all-places) (well .room) 0 rest (omega (arith, rest-few, sent-few)))
-      ∙ ap (λ (x : ℕ). entriesFrom (slid gone (q .lengths)) (slid (largestUnit * gone) store) x (p - gone) 0 rest) g
-      ∙ ap (λ (x : ℕ). entriesFrom (slid gone (q .lengths)) (slid (largestUnit * gone) store) (offset (w .variables .vs) rest) x 0 rest)
+      ∙ ap (λ (x : ℕ). entriesFrom (slid gone (q .lengths)) (without gone store) x (p - gone) 0 rest) g
+      ∙ ap (λ (x : ℕ). entriesFrom (slid gone (q .lengths)) (without gone store) (offset (w .variables .vs) rest) x 0 rest)
       (sym (rest-unmarked (q .sent) (q .marked) rest rest-few))
 
   wait-same : waitOf (w .queues .lengths) store (w .queues .sent) (w .queues .waiting)
-      ≡ waitOf (slid gone (w .queues .lengths)) (slid (largestUnit * gone) store) rest (w .queues .waiting)
+      ≡ waitOf (slid gone (w .queues .lengths)) (without gone store) rest (w .queues .waiting)
   wait-same =
       let q = w .queues in
       let b : q .sent ≡ gone + rest = omega (arith, rest-few) in
@@ -104,13 +103,13 @@ module _ (e : Option FopEvent) (o : List ℕ) (n : ℕ) (d : List Fdu) (w : Work
       (ap (λ (x : ℕ). unitAt (q .lengths) x store) b ∙ sym (unit-slid (q .lengths) store 0 0 gone (well .units) (well .all-places) (well .room) rest (omega (arith, rest-few, sent-few))))
 
   pub remove-acknowledged-frames : perform table.RemoveAcknowledgedFrames (view e o n [] d w store)
-      ≡ view e o n (fdus (take gone Sent)) d (act.removeAcknowledgedFrames n w) (slid (largestUnit * gone) store)
+      ≡ view e o n (fdus (take gone Sent)) d (act.removeAcknowledgedFrames n w) (without gone store)
   unfolding perform removeAcknowledged act.removeAcknowledgedFrames withVariables withQueues withTold
   remove-acknowledged-frames =
       let q = w .queues in
       let v = w .variables in
       let t = w .told in
-      let moved = slid (largestUnit * gone) store in
+      let moved = without gone store in
       let F : List Frame → List Fdu → List Entry → Option (List ℕ) → machine.Work = λ fr cs xs u.
       seen e o n cs d w (machine.setWait u (machine.setClock (v .timer) 1 (machine.setSequence (v .vs) n xs (fopOf w store)))) fr (responsesOf (t .responses)) in
       let a : gone - 0 ≡ gone = omega arith in

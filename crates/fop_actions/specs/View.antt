@@ -9,6 +9,7 @@ use lib.ListN.{length, take, drop, getD}
 use Rattle.base.specs.Choice.{pick}
 use Rattle.base.specs.Limits.{largestUnit}
 use Rattle.base.specs.Modulo.{advanced, offset}
+use Rattle.store.specs.Slid.{slidWithin}
 use Rattle.fop.specs.Limits.{largestK}
 use Rattle.fop_actions.specs.Limits.{places}
 use Rattle.fop.specs.Units.{Fdu, Frame, AD, BD, Unlock, SetVR}
@@ -40,6 +41,10 @@ stateOf state.S6 = table.S6
 -- the unit at a place of the store
 abbrev pub unitAt : List ℕ → ℕ → List ℕ → List ℕ
 unitAt lengths place store = take (getD lengths place 0) (drop (largestUnit * place) store)
+
+-- the store without its `count` oldest units: the others move down, and what is lent behind the last place stays
+abbrev pub without : ℕ → List ℕ → List ℕ
+without count store = slidWithin (largestUnit * places) (largestUnit * count) store
 
 -- the unit at place i of a queue whose oldest has number f and whose first p are unmarked
 abbrev pub entryAt : List ℕ → List ℕ → ℕ → ℕ → ℕ → Entry

@@ -9,6 +9,7 @@ use lib.Dec.{eqb}
 use lib.ListN.{length}
 use Rattle.base.specs.Choice.{pick, both}
 use Rattle.store.proofs.Parts.{slid-none}
+use Rattle.fop_actions.proofs.SentQueue.{without-none}
 use Rattle.fop.specs.Table as table
 use Rattle.fop.specs.Table.{Action, Cell, cell, ifNotSuspended, NotApplicable}
 use Rattle.fop.specs.Variables as machine
@@ -56,7 +57,7 @@ module _ (x : Case) (store : List ℕ) (w : Work) where
 
   module _ (p : Stored) (s : StoreIs x p (w .told .confirmed .count) store) (l : LengthsIs x p (w .told .confirmed .count) (w .queues .lengths)) where
     slid-both : notPut p ≡ true → LeftAfter nothing
-    slid-both t = (slid-left _ _ _ _ _ p (slid-none (x .store)) t s, slid-left _ _ _ _ _ p (slid-none (x .sender .queues .lengths)) t l)
+    slid-both t = (slid-left _ _ _ _ _ p (without-none (x .store)) t s, slid-left _ _ _ _ _ p (slid-none (x .sender .queues .lengths)) t l)
 
     left-after : (b : Brings) → fits b (inMain (x .sender .state)) p ≡ true → LeftAfter b
     left-after offering t = (put-left _ _ _ _ _ (inMain (x .sender .state)) p t s, put-left _ _ _ _ _ (inMain (x .sender .state)) p t l)

@@ -27,7 +27,7 @@ use Rattle.fop_actions.specs.Parts.{withVariables, withQueues, withTold}
 use Rattle.fop_actions.specs.Actions as act
 use Rattle.fop_actions.specs.Actions.{staying, removed}
 use Rattle.fop_actions.specs.Start.{begun, noneTold}
-use Rattle.fop_actions.specs.View.{entriesOf}
+use Rattle.fop_actions.specs.View.{entriesOf, without}
 use Rattle.fop_actions.proofs.Ways.{yes}
 use Rattle.fop_actions.proofs.Kept as well
 use Rattle.fop_actions.proofs.ViewRemoval as removal
@@ -76,7 +76,7 @@ module _ (x : Case) (good : Good (x .own) (x .sender) (x .store)) where
       let q = x .sender .queues in
       let gone = q .sent - staying (x .value) w in
       record {
-        store = slid (largestUnit * gone) (x .store);
+        store = without gone (x .store);
         c = fdus (take gone (entriesOf (q .lengths) (x .store) (x .sender .variables .vs) (q .sent) (q .marked)));
         d = [];
         is = ap (perform table.RemoveAcknowledgedFrames) (h .is) ∙ removal.remove-acknowledged-frames _ _ _ _ w (x .store) refl (good .formed) o i;
@@ -87,7 +87,7 @@ module _ (x : Case) (good : Good (x .own) (x .sender) (x .store)) where
           filled = filled-moved (x .value);
           no-more = no-more-moved (x .value);
           runs = record {
-            stored = ap (λ (k : ℕ). slid (largestUnit * k) (x .store)) (sym (gone-is w (x .store) (x .value) (good .formed)));
+            stored = ap (λ (k : ℕ). without k (x .store)) (sym (gone-is w (x .store) (x .value) (good .formed)));
             measured = refl;
             of-confirmed = confirmed-run w (x .store) (x .value) (good .formed);
             of-denied = refl;

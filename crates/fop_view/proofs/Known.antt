@@ -27,7 +27,7 @@ use Rattle.fop_actions.specs.declared.Settings.{Settings}
 use Rattle.fop_actions.specs.declared.Work.{Work}
 use Rattle.fop_actions.specs.Limits.{largestResponses}
 use Rattle.fop_actions.specs.Start.{begun, noneTold}
-use Rattle.fop_actions.specs.View.{view, runTold, Formed, WellFormed}
+use Rattle.fop_actions.specs.View.{view, runTold, Formed, WellFormed, without}
 use Rattle.fop_actions.proofs.ViewAnswers.{Room}
 use Rattle.fop_actions.proofs.ViewStart.{room-begun}
 use Rattle.fop_rows.specs.Rows.{isFrame}
@@ -60,7 +60,7 @@ Left put count was down added now = now ≡ added
 -- so the store, and the lengths of its units
 abbrev pub StoreIs : Case → Stored → ℕ → List ℕ → Type 0
 StoreIs x p count store =
-    Left p count (x .store) (λ k. slid (largestUnit * k) (x .store)) (placed (x .store) (largestUnit * x .sender .queues .sent) (x .octets)) store
+    Left p count (x .store) (λ k. without k (x .store)) (placed (x .store) (largestUnit * x .sender .queues .sent) (x .octets)) store
 
 abbrev pub LengthsIs : Case → Stored → ℕ → List ℕ → Type 0
 LengthsIs x p count lengths =

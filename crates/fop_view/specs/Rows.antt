@@ -20,7 +20,7 @@ use Rattle.fop_actions.specs.declared.Handed.the-variants as handed
 use Rattle.fop_actions.specs.declared.Sender.{Sender}
 use Rattle.fop_actions.specs.declared.Work.{Work}
 use Rattle.fop_actions.specs.Start.{senderOf}
-use Rattle.fop_actions.specs.View.{view, runTold}
+use Rattle.fop_actions.specs.View.{view, runTold, without}
 use Rattle.fop_rows.specs.Rows.{inMain}
 use Rattle.fop_view.specs.State.{Good}
 
@@ -126,7 +126,7 @@ isOffering suspending = false
 -- removed from the front
 abbrev pub storeBy : Brings → List ℕ → Sender → Work → List ℕ → List ℕ
 storeBy b o s w store =
-    pick (isOffering b) (pick (inMain (s .state)) (placed store (largestUnit * s .queues .sent) o) store) (slid (largestUnit * w .told .confirmed .count) store)
+    pick (isOffering b) (pick (inMain (s .state)) (placed store (largestUnit * s .queues .sent) o) store) (without (w .told .confirmed .count) store)
 
 -- the store after the event
 abbrev pub storeAfter : FopEvent → List ℕ → Sender → Work → List ℕ → List ℕ

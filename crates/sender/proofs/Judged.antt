@@ -10,7 +10,6 @@ use Rattle.base.specs.Choice.{pick, must, both}
 use Rattle.base.specs.Outcome.{answer, after}
 use Rattle.base.specs.Limits.{largestUnit}
 use Rattle.memory.specs.Placed.{placed}
-use Rattle.store.specs.Slid.{slid}
 use Rattle.frame.specs.Answers.{writtenAnswer}
 use Rattle.frame.specs.declared.writer.Written.{Written}
 use Rattle.clcw.specs.Answers.{readingOf}
@@ -21,7 +20,7 @@ use Rattle.fop_actions.specs.declared.State.{State as FopState}
 use Rattle.fop_actions.specs.declared.Sender.{Sender as State}
 use Rattle.fop_actions.specs.declared.Work.{Work}
 use Rattle.fop_actions.specs.Start.{begun}
-use Rattle.fop_actions.specs.View.{unitAt}
+use Rattle.fop_actions.specs.View.{unitAt, without}
 use Rattle.fop_actions.proofs.Ways.{yes, no}
 use Rattle.fop_rows.specs.Rows.{rowNumbered, inMain}
 use Rattle.fop_events.specs.declared.Lower.{Lower}
@@ -39,13 +38,13 @@ module _ (event : ℕ) (s : State) (w : Work) (store output : List ℕ) (place :
   behind : unit ≡ unitBefore s w store
   behind = of-unit ∙ ap (λ (p : ℕ). unitAt (s .queues .lengths) p store) at-place
 
-  pub served-done : (new : List ℕ) → a .refusal ≡ 0 → new ≡ slid (largestUnit * w .told .confirmed .count) store → Meets a new out (servedBy event s w store output)
+  pub served-done : (new : List ℕ) → a .refusal ≡ 0 → new ≡ without (w .told .confirmed .count) store → Meets a new out (servedBy event s w store output)
   unfolding servedBy
-  served-done = step-done event s w x a (unitBefore s w store) unit out (slid (largestUnit * w .told .confirmed .count) store) store output behind written told
+  served-done = step-done event s w x a (unitBefore s w store) unit out (without (w .told .confirmed .count) store) store output behind written told
 
   pub served-refused : (a .refusal ≡ 0 → ⊥) → Meets a store out (servedBy event s w store output)
   unfolding servedBy
-  served-refused = step-refused event s w x a (unitBefore s w store) unit out (slid (largestUnit * w .told .confirmed .count) store) store output behind written told
+  served-refused = step-refused event s w x a (unitBefore s w store) unit out (without (w .told .confirmed .count) store) store output behind written told
 
 -- by the event's row
 module _ (event n : ℕ) (s g : State) (store output : List ℕ) (a : Answer) where

@@ -9,7 +9,6 @@ use Rattle.base.specs.Choice.{pick, must, both}
 use Rattle.base.specs.Limits.{largestUnit}
 use Rattle.base.specs.Outcome.{Outcome, Outcome.done}
 use Rattle.memory.specs.Placed.{placed}
-use Rattle.store.specs.Slid.{slid}
 use Rattle.frame.specs.Frame.{writing}
 use Rattle.frame.specs.declared.Kind.the-variants as kind
 use Rattle.clcw.specs.Answers.{readingOf}
@@ -22,7 +21,7 @@ use Rattle.fop_actions.specs.declared.Sender.{Sender as State}
 use Rattle.fop_actions.specs.declared.Work.{Work}
 use Rattle.fop_actions.specs.Parts.{clocked}
 use Rattle.fop_actions.specs.Start.{begun}
-use Rattle.fop_actions.specs.View.{unitAt}
+use Rattle.fop_actions.specs.View.{unitAt, without}
 use Rattle.fop_rows.specs.Rows.{rowNumbered, inMain}
 use Rattle.fop_events.specs.declared.Lower.{Lower}
 use Rattle.fop_events.specs.Events.{wordNumber, directiveNumber, expiryNumber, adNumber, bdNumber, lowerNumber}
@@ -52,7 +51,7 @@ unitBefore s w store = unitAt (s .queues .lengths) (placeHanded (w .told .handed
 -- an event that offers no unit, by its number and the work on it: the units confirmed leave the store's front
 unfoldable pub servedBy : ℕ → State → Work → List ℕ → List ℕ → Step
 servedBy event s w store output =
-    stepBy event s w (handedWriting (s .settings) (w .told .handed) (unitBefore s w store) (length output)) (slid (largestUnit * w .told .confirmed .count) store)
+    stepBy event s w (handedWriting (s .settings) (w .told .handed) (unitBefore s w store) (length output)) (without (w .told .confirmed .count) store)
     store output
 
 -- the same by the event's row, with the value n that it brings; 11 where the lent store is too short

@@ -12,11 +12,9 @@ use frame::writer::write_unlock;
 ghost use mathlib.Core.Path.{_≡_};
 ghost use Prim.Native.Nat.{_+_, _*_};
 ghost use lib.ListN.{length, take, drop, getD};
-ghost use Rattle.base.specs.Limits.{largestUnit};
-ghost use Rattle.store.specs.Slid.{slid};
 ghost use Rattle.base.specs.Outcome.{answer, after};
 ghost use Rattle.frame.specs.Answers.{writtenAnswer};
-ghost use Rattle.fop_actions.specs.View.{unitAt};
+ghost use Rattle.fop_actions.specs.View.{unitAt, without};
 ghost use Rattle.sender.specs.Events.{handedWriting, placeHanded};
 
 // A part of memory, cut where the memory ends.
@@ -55,9 +53,9 @@ pub fn unit_at(store: &[u8], lengths: [u16; PLACES], place: usize) -> &[u8]
     part(store, LARGEST_UNIT * place, count)
 }
 
-// Removes the oldest units from the store; the others move down.
+// Removes the oldest units from the store: the others move down, and what is lent behind the last place stays.
 pub fn remove(store: &mut [u8], count: u8)
-    ensures { λ _. ⌜ now (store .exit) ≡ slid (largestUnit * count) (now (store .entry)) ⌝ }
+    ensures { λ _. ⌜ now (store .exit) ≡ without count (now (store .entry)) ⌝ }
 {
     if count == 0 {
         return;

@@ -1,17 +1,16 @@
 -- No unit removed leaves the store as it is.
 use borrow.Author.Needs.{needs}
 use mathlib.Core.Path.{sym, ap, _∙_}
-use Prim.Native.Nat.{ℕ, _*_}
-use Rattle.base.specs.Limits.{largestUnit}
-use Rattle.store.specs.Slid.{slid}
-use Rattle.store.proofs.Parts.{slid-none}
+use Prim.Native.Nat.{ℕ}
+use Rattle.fop_actions.proofs.SentQueue.{without-none}
 use Rattle.sender.proofs.frames.remove.Statement.{statement}
 use Rattle.sender.proofs.frames.remove.Tie as tie
+use Rattle.fop_actions.specs.View.{without}
 
 returns : tie.Need-returns
 returns c =
     let a = c .before .before .args in
-    sym (ap (λ (n : ℕ). slid (largestUnit * n) (a .store .now)) (c .if1 .taken) ∙ slid-none (a .store .now))
+    sym (ap (λ (n : ℕ). without n (a .store .now)) (c .if1 .taken) ∙ without-none (a .store .now))
 
 remove-units-requires : tie.Need-remove-units-requires
 remove-units-requires c κs = search needs
