@@ -40,7 +40,7 @@ use Rattle.fop_rows.specs.Rows.{eventOf, rowIf, rowOf, rowNumbered}
 use Rattle.fop_events.specs.Events.{eventNumber, variablesOf, expiryNumber, adNumber, bdNumber, lowerNumber, directiveNumber, wordNumber, told}
 use Rattle.fop_view.specs.State.{Good}
 use Rattle.fop_view.specs.Rows.{brings, Meets, isOffering}
-use Rattle.session.proofs.Rows.{first-all}
+use Rattle.session.proofs.Test.{first-all}
 use Rattle.session.proofs.Octets.{octets-are}
 use Rattle.sender.specs.Answers.{Step, stepBy, refusedStep}
 use Rattle.sender.specs.Limits.{smallestStore}

@@ -1,14 +1,12 @@
 -- Demand 3 of the table machines: a clear control word that reports the next number to send.
 use mathlib.Core.Path.{_≡_, refl, sym, ap, _∙_}
-use mathlib.Core.Bool.{Bool, true, false, false≢true}
+use mathlib.Core.Bool.{true, false, false≢true}
 use mathlib.Core.List.{List, [], _∷_}
-use mathlib.Core.Option.{Option, none, some}
+use mathlib.Core.Option.{none, some}
 use Prim.Native.Nat.{ℕ, zero, suc, _+_, _-_, _≤_, _<_}
 use native.Mathlib.Omega.{arith}
-use lib.Dec.{ltb}
 use lib.ListN.{length, take, drop, length-append, length-take, length-drop}
 use borrow.Author.Tests.{le-ltb, eq-eqb, ne-eqb}
-use Rattle.base.specs.Choice.{pick}
 use Rattle.base.specs.Modulo.{advanced, offset}
 use Rattle.fop.specs.Units.{Fdu, AD, Word, wordOctets}
 use Rattle.fop.specs.Table.{State, S1, S2, S3, S4, S5, S6, FopEvent, table78, cell78}
@@ -23,6 +21,7 @@ use Rattle.fop.specs.Answers.{judged, needed}
 use Rattle.session.specs.Ends.{Settings, Within}
 use Rattle.session.specs.Session.{wordIn, places}
 use Rattle.session.specs.Claims.{IsOutstanding, outstanding, member, nextNumber, nextUnit, serves}
+use Rattle.session.proofs.Ways.{look-ways}
 use Rattle.session.proofs.Core.{stepWith, Session, answered, channels, wordCome, step}
 use Rattle.session.proofs.Lists.{member-in}
 use Rattle.session.proofs.Values.{live, word, queue-length}
@@ -32,25 +31,16 @@ use Rattle.session.proofs.Chan.{Wds, wds-le}
 use Rattle.session.proofs.Receiver.{step-keeps}
 use Rattle.session.proofs.Next.{historyOf, Sent, served, lv, out-count, off-is, out-from, next-sends, sender-is, look-new}
 
--- a clear word that reports the next number to send
+-- Look for FDU confirms nothing
 pub look-conf : (w : Work) → (lookForFdu w) .confirmed ≡ w .confirmed
-unfolding lookForFdu sendNext sendWaiting transmitAd
-look-conf w = go (w .fop .out .ad) (firstMarked (w .fop .sentQueue))
-  where
-    last : (b : Bool) (o : Option (List ℕ)) → (pick b (sendWaiting o w) w) .confirmed ≡ w .confirmed
-    last false o = refl
-    last true none = refl
-    last true (some o) = refl
-
-    go : (b : Bool) (o : Option Fdu) → (pick b (sendNext o w) w) .confirmed ≡ w .confirmed
-    go false o = refl
-    go true (some u) = refl
-    go true none = last (ltb (offset (w .fop .vs) (w .fop .nnr)) (w .fop .preset .k)) (w .fop .waitQueue)
+unfolding sendNext sendWaiting transmitAd
+look-conf w = look-ways (λ v. v .confirmed ≡ w .confirmed) w refl (λ u e. refl) (λ o r e. refl)
 
 pub length-places : (s : List Fdu) (x c : ℕ) → length (places s x c) ≡ c
 length-places s x zero = refl
 length-places s x (suc c) = ap suc (length-places s (advanced x 1) c)
 
+-- a clear word that reports the next number to send
 began : Word → Fop → Work
 began w f = begin (some FopEvent.E2) [] (w .nr) f
 

@@ -1,27 +1,27 @@
 -- An event hands down at most one frame.
-use mathlib.Core.Path.{_≡_, refl, ap, _∙_}
+use mathlib.Core.Path.{_≡_, refl, ap}
 use mathlib.Core.Bool.{Bool, true, _&&_}
 use mathlib.Core.List.{List, [], _∷_, _++_}
-use mathlib.Core.Option.{Option, none, some}
+use mathlib.Core.Option.{some}
 use Prim.Native.Nat.{ℕ, _+_, _≤_}
 use native.Mathlib.Omega.{arith}
 use lib.Dec.{leb, ltb, eqb, T, leb→le}
 use lib.ListN.{length, length-append}
-use Rattle.base.specs.Modulo.{offset}
-use Rattle.fop.specs.Units.{Fdu, Frame, AD, Heard, valid, invalid, other, Own, readWord}
-use Rattle.fop.specs.Table.{Ignore, SetSuspendState, Suspend, Resume, State, S1, S2, S3, S4, S5, S6, Action, Cell, cell, ifNotSuspended, NotApplicable, Row, row, FopEvent, table78, cell78, Accept, Reject, Confirm}
+use Rattle.fop.specs.Units.{Frame, AD, Heard, valid, invalid, other, Own, readWord}
+use Rattle.fop.specs.Table.{Ignore, SetSuspendState, Suspend, Resume, Action, Cell, cell, ifNotSuspended, NotApplicable, FopEvent, table78, cell78, Accept, Reject, Confirm}
 use Rattle.fop.specs.Table.{RejectAd, AcceptBd, RejectBd, AddToWaitQueue, LookForFdu, LookForDirective, RemoveAcknowledgedFrames, InitiateAdRetransmission}
 use Rattle.fop.specs.Table.{InitiateBcRetransmission, ReleaseBcFrame, CancelTimer, StartTimer, Alert, Initialise, TransmitUnlock, TransmitSetVr, TransmitBd}
 use Rattle.fop.specs.Table.{SetVs, SetNnr, SetK, SetT1Initial, SetTransmissionLimit, SetTimeoutType, AdOutReady, BcOutReady, BdOutReady}
-use Rattle.fop.specs.Variables.{Fop, Work, BcEntry}
-use Rattle.fop.specs.Machine.{firstMarked, perform, performAll, performCell, lookForFdu, sendNext, sendWaiting, transmitAd, lookForDirective, transmitBc}
+use Rattle.fop.specs.Variables.{Fop, Work}
+use Rattle.fop.specs.Machine.{perform, performAll, performCell, lookForFdu, sendNext, sendWaiting, transmitAd, transmitBc}
 use Rattle.fop.specs.Variables.{begin}
-use Rattle.fop.specs.Machine.{purge, denyBc, rejectWaiting, removeAcknowledged, fopDo}
+use Rattle.fop.specs.Machine.{purge, removeAcknowledged, fopDo}
 use Rattle.fop.specs.Events.{when, expiryLines, wordLines, wordEvent, seen, fopWord, fopAd, fopBd, fopExpiry, fopTick, fopLower, Lower, fopDirective, directiveLines}
 use Rattle.fop.specs.Events.{directiveEvent, isEmpty, fopHeard, SenderEvent, requestAd, requestBd, lower, directive, wordArrives, work}
 use Rattle.fop.specs.Events as fop
-use Rattle.session.proofs.Rows.{and-l, and-r, first-all}
-use Rattle.session.proofs.Queue.{pickC}
+use Rattle.session.proofs.Choices.{by-pick, and-l, and-r}
+use Rattle.session.proofs.Ways.{look-ways, directive-ways, purge-ways}
+use Rattle.session.proofs.Test.{everyCell, every-cell, first-all, lower-all}
 
 -- the frames that an action can hand down
 abbrev sends : Action → ℕ
@@ -69,39 +69,12 @@ Most k w = length (w .frames) ≤ k
 one-more : (w : Work) (x : Frame) → length (w .frames ++ (x ∷ [])) ≤ length (w .frames) + 1
 one-more w x = omega (arith, length-append (w .frames) (x ∷ []))
 
-waiting-few : (o : Option (List ℕ)) (w : Work) → Most (length (w .frames) + 1) (sendWaiting o w)
-unfolding sendWaiting transmitAd
-waiting-few none w = omega arith
-waiting-few (some o) w = one-more w _
-
-next-few : (o : Option Fdu) (w : Work) → Most (length (w .frames) + 1) (sendNext o w)
-unfolding sendNext
-next-few none w = pickC (Most (length (w .frames) + 1)) (ltb (offset (w .fop .vs) (w .fop .nnr)) (w .fop .preset .k))
-    (λ t. waiting-few (w .fop .waitQueue) w) (λ t. omega arith)
-next-few (some u) w = one-more w (AD u)
-
 look-few : (w : Work) → Most (length (w .frames) + 1) (lookForFdu w)
-unfolding lookForFdu
-look-few w = pickC (Most (length (w .frames) + 1)) (w .fop .out .ad) (λ t. next-few (firstMarked (w .fop .sentQueue)) w) (λ t. omega arith)
-
-lookBc-few : (o : Option BcEntry) (w : Work) → Most (length (w .frames) + 1) (lookForDirective o w)
-unfolding lookForDirective
-lookBc-few none w = omega arith
-lookBc-few (some b) w = pickC (Most (length (w .frames) + 1)) (b .marked && w .fop .out .bc) (λ t. one-more w (b .frame)) (λ t. omega arith)
-
-reject-few : (o : Option (List ℕ)) (w : Work) → (rejectWaiting o w) .frames ≡ w .frames
-unfolding rejectWaiting
-reject-few none w = refl
-reject-few (some o) w = refl
-
-deny-few : (o : Option BcEntry) (w : Work) → (denyBc o w) .frames ≡ w .frames
-unfolding denyBc
-deny-few none w = refl
-deny-few (some o) w = refl
+unfolding sendNext sendWaiting transmitAd
+look-few w = look-ways (Most (length (w .frames) + 1)) w (omega arith) (λ u e. one-more w (AD u)) (λ o r e. one-more w _)
 
 pub purge-few : (w : Work) → (purge w) .frames ≡ w .frames
-unfolding purge
-purge-few w = reject-few (w .fop .waitQueue) _ ∙ deny-few (w .fop .bcFrame) _
+purge-few w = purge-ways (λ v. v .frames ≡ w .frames) w refl (λ r v k. k)
 
 act-few : (x : Action) (w : Work) → Most (length (w .frames) + sends x) (perform x w)
 unfolding perform removeAcknowledged transmitBc
@@ -117,7 +90,7 @@ act-few Suspend w = omega arith
 act-few Resume w = omega arith
 act-few AddToWaitQueue w = omega arith
 act-few LookForFdu w = look-few w
-act-few LookForDirective w = lookBc-few (w .fop .bcFrame) w
+act-few LookForDirective w = directive-ways (Most (length (w .frames) + 1)) w (omega arith) (λ b. one-more w (b .frame)) (w .fop .bcFrame)
 act-few RemoveAcknowledgedFrames w = omega arith
 act-few InitiateAdRetransmission w = omega arith
 act-few InitiateBcRetransmission w = omega arith
@@ -150,49 +123,33 @@ cellFew NotApplicable = true
 cellFew (cell xs s) = leb (sendsAll xs) 1
 cellFew (ifNotSuspended xs ys s) = leb (sendsAll xs) 1 && leb (sendsAll ys) 1
 
-abbrev inRow : Row → Bool
-inRow (row a b c d e f) = cellFew a && (cellFew b && (cellFew c && (cellFew d && (cellFew e && cellFew f))))
-
 abbrev rowFew : FopEvent → Bool
-rowFew e = inRow (table78 e)
-
-cell-few : (r : Row) (s : State) → T (inRow r) → T (cellFew (cell78 r s))
-cell-few (row a b c d e f) S1 t = and-l (cellFew a) _ t
-cell-few (row a b c d e f) S2 t = and-l (cellFew b) _ (and-r (cellFew a) _ t)
-cell-few (row a b c d e f) S3 t = and-l (cellFew c) _ (and-r (cellFew b) _ (and-r (cellFew a) _ t))
-cell-few (row a b c d e f) S4 t = and-l (cellFew d) _ (and-r (cellFew c) _ (and-r (cellFew b) _ (and-r (cellFew a) _ t)))
-cell-few (row a b c d e f) S5 t = and-l (cellFew e) _ (and-r (cellFew d) _ (and-r (cellFew c) _ (and-r (cellFew b) _ (and-r (cellFew a) _ t))))
-cell-few (row a b c d e f) S6 t = and-r (cellFew e) _ (and-r (cellFew d) _ (and-r (cellFew c) _ (and-r (cellFew b) _ (and-r (cellFew a) _ t))))
+rowFew e = everyCell cellFew (table78 e)
 
 done-few : (c : Cell) (w : Work) → T (cellFew c) → length (w .frames) ≡ 0 → Most 1 (performCell c w)
 unfolding performCell
 done-few NotApplicable w t z = omega arith
 done-few (ifNotSuspended xs ys s) w t z =
-    pickC (Most 1) (eqb (w .fop .suspendState) 0)
+    by-pick (Most 1) (eqb (w .fop .suspendState) 0)
     (λ e. omega (arith, leb→le (sendsAll xs) 1 (and-l (leb (sendsAll xs) 1) _ t), all-few xs w))
     (λ e. omega (arith, leb→le (sendsAll ys) 1 (and-r (leb (sendsAll xs) 1) _ t), all-few ys w))
 done-few (cell xs s) w t z = omega (arith, leb→le (sendsAll xs) 1 t, all-few xs w)
 
 do-few : (e : FopEvent) (o : List ℕ) (v : ℕ) (f : Fop) → T (rowFew e) → Most 1 (fopDo e o v f)
 unfolding fopDo
-do-few e o v f t = done-few (cell78 (table78 e) (f .state)) (begin (some e) o v f) (cell-few (table78 e) (f .state) t) refl
+do-few e o v f t = done-few (cell78 (table78 e) (f .state)) (begin (some e) o v f) (every-cell cellFew (table78 e) (f .state) t) refl
 
 tick-few : (f : Fop) → Most 1 (fopTick f)
 unfolding fopTick fopExpiry table78
 tick-few f =
-    pickC (Most 1) (eqb (f .clock .timer) 1)
+    by-pick (Most 1) (eqb (f .clock .timer) 1)
     (λ t. do-few _ [] 0 _ (first-all rowFew (expiryLines (ltb (f .clock .transmissionCount) (f .preset .transmissionLimit))
     (eqb (f .preset .timeoutType) 0)) FopEvent.E18 tt))
     (λ t. omega arith)
 
 lower-few : (l : Lower) (f : Fop) → Most 1 (fopLower l f)
 unfolding fopLower table78
-lower-few Lower.adAccept f = do-few _ [] 0 f tt
-lower-few Lower.adReject f = do-few _ [] 0 f tt
-lower-few Lower.bcAccept f = do-few _ [] 0 f tt
-lower-few Lower.bcReject f = do-few _ [] 0 f tt
-lower-few Lower.bdAccept f = do-few _ [] 0 f tt
-lower-few Lower.bdReject f = do-few _ [] 0 f tt
+lower-few l f = do-few _ [] 0 f (lower-all rowFew tt l)
 
 heard-few : (h : Heard) (f : Fop) → Most 1 (fopHeard h f)
 unfolding fopHeard fopWord wordEvent table78

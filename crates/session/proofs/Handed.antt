@@ -3,10 +3,10 @@ use mathlib.Core.Logic.{_⊎_, inl, inr}
 use mathlib.Core.Path.{_≡_, refl, sym, ap, _∙_, subst}
 use mathlib.Core.Bool.{Bool, true, false}
 use mathlib.Core.List.{List, [], _∷_, _++_}
-use mathlib.Core.Option.{Option, none, some}
+use mathlib.Core.Option.{Option, some}
 use Prim.Native.Nat.{ℕ, _+_, _≤_, _<_}
 use native.Mathlib.Omega.{arith}
-use lib.Dec.{ltb, eqb, T}
+use lib.Dec.{eqb, T}
 use lib.ListN.{length, getD, length-append, List·getD-append}
 use lib.Seq.{getD-append-seam}
 use borrow.Author.Tests.{eqb-true}
@@ -25,12 +25,13 @@ use Rattle.session.specs.Session.{nobody}
 use Rattle.session.specs.Claims.{IsOutstanding, member}
 use Rattle.fop.specs.Machine.{purge}
 use Rattle.fop.specs.Table.{ifNotSuspended, Ignore, SetSuspendState, Suspend, Resume}
+use Rattle.session.proofs.Ways.{look-ways}
 use Rattle.session.proofs.Core.{Session, addAll}
 use Rattle.session.proofs.Lists.{addAll-append, member-out}
 use Rattle.session.proofs.Values.{Mode, live, dead, bad, Given, word, unit, nothing, Reports, same-sent, new-sent, queue-length, queue-at}
 use Rattle.session.proofs.Rows.{after, afterAll, modeOf, matched, sound, cellOk, rowOk, do-sound, at-cell}
 use Rattle.session.proofs.Sender.{WInv, keeps}
-use Rattle.session.proofs.Queue.{found, pickC}
+use Rattle.session.proofs.Queue.{found}
 use Rattle.session.proofs.Few.{purge-few}
 use Rattle.session.proofs.Inv.{Inv, Side, presetOf, is-sound, enter}
 use Rattle.session.proofs.Next.{historyOf}
@@ -74,49 +75,35 @@ module _ (n : ℕ) (P : Preset) (C : ℕ) (gone : List (Option ℕ)) (acc sent0 
   abbrev I : Mode → Work → Type 0
   I m w = WInv n P C gone acc sent0 fr0 given a m w
 
-  waiting-from : (o : Option (List ℕ)) (w : Work) → I live w → D live w → D live (sendWaiting o w)
-  unfolding sendWaiting transmitAd
-  waiting-from none w h d = d
-  waiting-from (some o) w h d =
-      let u : Fdu = record { ns = w .fop .vs; octets = o } in
-      let s : List Fdu = addAll n sent0 (w .frames) in
-      let ns : addAll n (addAll n sent0 (w .frames)) (AD u ∷ []) ≡ addAll n sent0 (w .frames) ++ (u ∷ []) = new-sent n (addAll n sent0 (w .frames)) u
-      (h .1 .isVs) in (
-        d .0,
-        rw (addAll-append n sent0 (w .frames) (AD u ∷ []), ns)
-            (from-append m0 C (s ++ (u ∷ [])) (w .frames) (AD u ∷ []) (from-more m0 C s (u ∷ []) (w .frames) (d .1)) (
-              (
-                d .0,
-                length (addAll n sent0 (w .frames)),
-                omega (arith, h .0),
-                omega (arith, length-append (addAll n sent0 (w .frames)) (u ∷ [])),
-                sym (getD-append-seam s u [] nobody),
-              ),
-              tt,
-            )),
-      )
-
-  next-from : (o : Option Fdu) (w : Work) → firstMarked (w .fop .sentQueue) ≡ o → I live w → D live w → D live (sendNext o w)
-  unfolding sendNext
-  next-from none w e h d = pickC (D live) (ltb (offset (w .fop .vs) (w .fop .nnr)) (w .fop .preset .k)) (λ t. waiting-from (w .fop .waitQueue) w h d) (λ t. d)
-  next-from (some u) w e h d =
-      let i = found (w .fop .sentQueue) u e in
-      let s : List Fdu = addAll n sent0 (w .frames) in
-      let ln = queue-length C (addAll n sent0 (w .frames)) (w .confirmed) (fdus (w .fop .sentQueue)) (h .1 .cut) in
-      let j : ℕ = C + (length (w .confirmed) + i .0) in
-      let b : C + (length (w .confirmed) + i .0) < length (addAll n sent0 (w .frames)) = omega (arith, ln, i .1) in
-      let eu : u ≡ getD (addAll n sent0 (w .frames)) (C + (length (w .confirmed) + i .0)) nobody =
-      i .2 ∙ queue-at C (addAll n sent0 (w .frames)) (w .confirmed) (fdus (w .fop .sentQueue)) (h .1 .cut) (i .0) in
-      let ss : addAll n (addAll n sent0 (w .frames)) (AD u ∷ []) ≡ addAll n sent0 (w .frames) =
-      same-sent n (addAll n sent0 (w .frames)) u (C + (length (w .confirmed) + i .0)) (h .0 .num) b (omega (arith, h .0)) eu in (
-        d .0,
-        rw (addAll-append n sent0 (w .frames) (AD u ∷ []), ss)
-            (from-append m0 C s (w .frames) (AD u ∷ []) (d .1) ((d .0, C + (length (w .confirmed) + i .0), omega arith, b, eu), tt)),
-      )
-
   look-from : (w : Work) → I live w → D live w → D live (lookForFdu w)
-  unfolding lookForFdu
-  look-from w h d = pickC (D live) (w .fop .out .ad) (λ t. next-from (firstMarked (w .fop .sentQueue)) w refl h d) (λ t. d)
+  unfolding sendNext sendWaiting transmitAd
+  look-from w h d = look-ways (D live) w d again new
+    where
+      s : List Fdu
+      s = addAll n sent0 (w .frames)
+
+      again : (u : Fdu) → firstMarked (w .fop .sentQueue) ≡ some u → D live (sendNext (some u) w)
+      again u e =
+          let i = found (w .fop .sentQueue) u e in
+          let ln = queue-length C s (w .confirmed) (fdus (w .fop .sentQueue)) (h .1 .cut) in
+          let j : ℕ = C + (length (w .confirmed) + i .0) in
+          let b : j < length s = omega (arith, ln, i .1) in
+          let eu : u ≡ getD s j nobody = i .2 ∙ queue-at C s (w .confirmed) (fdus (w .fop .sentQueue)) (h .1 .cut) (i .0) in
+          let same : addAll n s (AD u ∷ []) ≡ s = same-sent n s u j (h .0 .num) b (omega (arith, h .0)) eu in (
+            d .0,
+            rw (addAll-append n sent0 (w .frames) (AD u ∷ []), same)
+                (from-append m0 C s (w .frames) (AD u ∷ []) (d .1) ((d .0, j, omega arith, b, eu), tt)),
+          )
+
+      new : (o : List ℕ) → offset (w .fop .vs) (w .fop .nnr) < w .fop .preset .k → w .fop .waitQueue ≡ some o → D live (sendWaiting (some o) w)
+      new o r e =
+          let u : Fdu = record { ns = w .fop .vs; octets = o } in
+          let more : addAll n s (AD u ∷ []) ≡ s ++ (u ∷ []) = new-sent n s u (h .1 .isVs) in (
+            d .0,
+            rw (addAll-append n sent0 (w .frames) (AD u ∷ []), more)
+                (from-append m0 C (s ++ (u ∷ [])) (w .frames) (AD u ∷ []) (from-more m0 C s (u ∷ []) (w .frames) (d .1))
+                ((d .0, length s, omega (arith, h .0), omega (arith, length-append s (u ∷ [])), sym (getD-append-seam s u [] nobody)), tt)),
+          )
 
   bd-from : (m : Mode) (w : Work) → D m w → D m (perform TransmitBd w)
   unfolding perform

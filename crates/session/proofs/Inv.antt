@@ -27,6 +27,7 @@ use Rattle.session.specs.Ends.{Settings, Within}
 use Rattle.session.specs.Session.{places}
 use Rattle.session.specs.Stronger.{Sub}
 use Rattle.fop.specs.Events as fop
+use Rattle.session.proofs.Choices.{by-pick, unrefused}
 use Rattle.session.proofs.Core.{Session, addAll, firstOf, answered, sender, goes, channels, wordCome}
 use Rattle.session.proofs.Lists.{iota, iota-append, length-iota}
 use Rattle.session.proofs.Chan.{Wds, wds-le, wds-lower}
@@ -35,14 +36,6 @@ use Rattle.session.proofs.Rows.{modeOf, sound, rowOk, do-sound, word-ok
 use Rattle.session.proofs.Sender.{do-keeps, WInv}
 use Rattle.session.proofs.Octets.{word-back}
 use Rattle.session.proofs.Bds.{bdsOf, bd-handed}
-
-pub pickS : (P : Session → Type 0) (b : Bool) {x y : Session} → (b ≡ true → P x) → (b ≡ false → P y) → P (pick b x y)
-pickS P true f g = f refl
-pickS P false f g = g refl
-
-pub pickW : (P : Work → Type 0) (b : Bool) {x y : Work} → P x → P y → P (pick b x y)
-pickW P true f g = f
-pickW P false f g = g
 
 abbrev pub presetOf : Settings → Preset
 presetOf s = record { k = s .k; transmissionLimit = s .limit; t1Initial = s .t1; timeoutType = 0 }
@@ -254,12 +247,12 @@ tick-keeps set σ I =
     let τ : Session = withFop (setClock (σ .fop .clock .timer - 1) (σ .fop .clock .transmissionCount) (σ .fop)) σ in
     let J : Inv set τ = timed set _ _ σ I in
     let g : T (sound (modeOf (σ .fop .state))) = is-sound (modeOf (σ .fop .state)) (set .n) _ _ _ _ _ _ (I .side) in
-    pickW (λ (w : Work). Inv set (answered (set .n) w σ)) (eqb (σ .fop .clock .timer) 1) {x = fopExpiry (τ .fop)} {y = begin none [] 0 (τ .fop)}
-    (row-keeps set τ (σ .words) nothing (length (σ .confirmed)) (first (expiryLines
+    by-pick (λ (w : Work). Inv set (answered (set .n) w σ)) (eqb (σ .fop .clock .timer) 1) {x = fopExpiry (τ .fop)} {y = begin none [] 0 (τ .fop)}
+    (λ b. row-keeps set τ (σ .words) nothing (length (σ .confirmed)) (first (expiryLines
     (ltb (σ .fop .clock .transmissionCount) (σ .fop .preset .transmissionLimit)) (eqb (σ .fop .preset .timeoutType) 0)) FopEvent.E18) [] 0 J
     (timer-ok (ltb (σ .fop .clock .transmissionCount) (σ .fop .preset .transmissionLimit)) (eqb (σ .fop .preset .timeoutType) 0) (alerting set σ I))
     (omega arith) tt (I .words))
-    (answered-keeps set τ (σ .words) nothing (length (σ .confirmed)) (begin none [] 0 (τ .fop)) J g
+    (λ b. answered-keeps set τ (σ .words) nothing (length (σ .confirmed)) (begin none [] 0 (τ .fop)) J g
     (enter (modeOf (σ .fop .state)) (set .n) (presetOf set) _ (σ .accepted) (σ .sent) (σ .frames) (σ .denied) _ _ _ (σ .fop .preset) nothing
     (length (σ .confirmed)) 0 (σ .fop .waitQueue) []
     (I .base) (I .side) (omega arith) tt (I .isSet) (I .waiting))
@@ -286,17 +279,13 @@ unfolding senderRefusal
 goes-is own e lent f j l = rw (j, le-leb (needed own e f) lent l)
 
 pub legal-of : (o : List ℕ) → _≡_ {A = ℕ} (pick (legal o) 0 10) 0 → legal o ≡ true
-legal-of o = go (legal o)
-  where
-    go : (b : Bool) → _≡_ {A = ℕ} (pick b 0 10) 0 → b ≡ true
-    go true e = refl
-    go false e = absurd (omega arith)
+legal-of o = unrefused (legal o) 9
 
 sender-keeps : (set : Settings) (e : SenderEvent) (lent : ℕ) (σ : Session) → Inv set σ
     → (judged (set .own) e ≡ 0 → Inv set (answered (set .n) (work (set .own) e (σ .fop)) σ)) → Inv set (sender set e lent σ)
 unfolding sender
 sender-keeps set e lent σ I h =
-    pickS (Inv set) (goes (set .own) e lent (σ .fop)) (λ t. h (fit (set .own) e lent (σ .fop) t .0)) (λ t. I)
+    by-pick (Inv set) (goes (set .own) e lent (σ .fop)) (λ t. h (fit (set .own) e lent (σ .fop) t .0)) (λ t. I)
 
 pub ad-keeps : (set : Settings) (lent : ℕ) (o : List ℕ) (σ : Session) → Inv set σ → Inv set (sender set (requestAd o) lent σ)
 unfolding fopAd judged work

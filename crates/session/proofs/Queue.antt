@@ -11,7 +11,7 @@ use borrow.Author.Tests.{ltb-true, ltb-false}
 use Rattle.base.specs.Choice.{pick}
 use Rattle.base.specs.Modulo.{advanced, offset}
 use Rattle.fop.specs.Units.{Fdu}
-use Rattle.fop.specs.Variables.{Work, Entry}
+use Rattle.fop.specs.Variables.{Entry}
 use Rattle.fop.specs.Machine.{fdus, markAll, firstMarked, unmark, acknowledged, unacknowledged}
 use Rattle.session.specs.Session.{nobody}
 
@@ -71,7 +71,3 @@ ack n c nn nr e (x ∷ q) j h b =
         let z : offset nr nn - j ≡ 0 = omega arith in
         let z' : offset nr nn - suc j ≡ 0 = omega arith in
         (rw (isJ, t, z) (rw z' at (f .0)), rw (isJ, t, z) (ap (_∷_ (x .fdu)) (rw z' at (f .1))))
-
-pub pickC : (P : Work → Type 0) (b : Bool) {x y : Work} → (b ≡ true → P x) → (b ≡ false → P y) → P (pick b x y)
-pickC P true f g = f refl
-pickC P false f g = g refl

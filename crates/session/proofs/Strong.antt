@@ -24,8 +24,9 @@ use Rattle.session.specs.Claims.{unitsAt, outstanding, expected, IsOutst
 use Rattle.session.specs.Stronger.{unitsOf, somes, inService, InSession, Stronger, Sub}
 use Rattle.fop.specs.Events as fop
 use Rattle.session.specs.Session as ses
+use Rattle.session.proofs.Choices.{by-pick}
 use Rattle.session.proofs.Rows.{modeOf, word-ok, timer-ok, ad-ok, bd-ok, lower-ok, terminate-ok}
-use Rattle.session.proofs.Inv.{Inv, hears, pickW, withFop, timed, fit, legal-of, ad-keeps, bd-keeps, ticks-keeps, lower-keeps, terminate-keeps}
+use Rattle.session.proofs.Inv.{Inv, hears, withFop, timed, fit, legal-of, ad-keeps, bd-keeps, ticks-keeps, lower-keeps, terminate-keeps}
 use Rattle.session.proofs.Inv.{word-keeps, alerting}
 use Rattle.session.proofs.Core.{Session, goes, addAll}
 use Rattle.session.proofs.Chan.{Wds, wds-le}
@@ -71,15 +72,15 @@ module _ (set : Settings) (vw : Within set) (m : Ends) (t : Tied set m) (σ : Li
   unfolding fopTick fopExpiry
   tick-from =
       let τ : Session = withFop (setClock (κ .fop .clock .timer - 1) (κ .fop .clock .transmissionCount) (κ .fop)) κ in
-      pickW (λ (w : Work). From (modeOf (κ .fop .state)) (length (κ .confirmed)) (addAll (set .n) (κ .sent) (w .frames)) (w .frames))
+      by-pick (λ (w : Work). From (modeOf (κ .fop .state)) (length (κ .confirmed)) (addAll (set .n) (κ .sent) (w .frames)) (w .frames))
       (eqb (κ .fop .clock .timer) 1)
       {x = fopExpiry (τ .fop)} {y = begin none [] 0 (τ .fop)}
-      (row-from set τ (timed set _ _ κ I) nothing (length (κ .confirmed))
+      (λ b. row-from set τ (timed set _ _ κ I) nothing (length (κ .confirmed))
       (first (expiryLines (ltb (κ .fop .clock .transmissionCount) (κ .fop .preset .transmissionLimit)) (eqb (κ .fop .preset .timeoutType) 0))
       FopEvent.E18) [] 0
       (timer-ok (ltb (κ .fop .clock .transmissionCount) (κ .fop .preset .transmissionLimit)) (eqb (κ .fop .preset .timeoutType) 0) (alerting set κ I))
       (omega arith) tt)
-      tt
+      (λ b. tt)
 
   abbrev Given-by : SenderEvent → Type 0
   Given-by e = Reads ((work (set .own) e (κ .fop)) .frames)

@@ -1,6 +1,6 @@
 -- Every event keeps the flags' invariant.
 use mathlib.Core.Path.{_≡_, refl, ap, _∙_}
-use mathlib.Core.Bool.{Bool, true, false, not, true≢false, false≢true}
+use mathlib.Core.Bool.{Bool, true, false, not}
 use mathlib.Core.List.{List, [], _∷_, _++_}
 use mathlib.Core.Option.{none, some}
 use Prim.Native.Nat.{ℕ, _+_, _-_, _*_, _≤_, _<_}
@@ -21,12 +21,14 @@ use Rattle.session.specs.Ends.{Settings, Within, startSender, startRecei
 use Rattle.session.specs.Session.{Event, adRequest, bdRequest, ticks, lowerSays, terminate, wordIn, wordLost, wordMade, frameIn, frameLost, release, places}
 use Rattle.session.specs.Session.{rest, addSent}
 use Rattle.fop.specs.Events as fop
+use Rattle.session.proofs.Choices.{by-pick, never}
+use Rattle.session.proofs.Test.{first-all, lower-all, expiry-all}
 use Rattle.session.proofs.Core.{Session, addAll, firstOf, answered, sender, goes, channels, wordCome, frameCome, receiver, taken, step, stepWith}
 use Rattle.session.proofs.Core.{releases, frameEvent, isHanded, free, isHeld}
 use Rattle.session.proofs.Chan.{Fly, Wds}
 use Rattle.session.proofs.Values.{Given, word, unit, nothing, Reports}
-use Rattle.session.proofs.Rows.{modeOf, sound, atAll, at-cell, rowOk, first-all, word-ok, timer-ok, ad-ok, bd-ok, lower-ok, terminate-ok}
-use Rattle.session.proofs.Inv.{Inv, alerting, is-sound, isLocked, row-bound, pickS, pickW, withFop, timed, fit, hears, legal-of}
+use Rattle.session.proofs.Rows.{modeOf, sound, atAll, at-cell, rowOk, word-ok, timer-ok, ad-ok, bd-ok, lower-ok, terminate-ok}
+use Rattle.session.proofs.Inv.{Inv, alerting, is-sound, isLocked, row-bound, withFop, timed, fit, hears, legal-of}
 use Rattle.session.proofs.Receiver.{ad-cases, begun, at}
 use Rattle.session.proofs.Clear.{length-places}
 use Rattle.session.proofs.Keys.{bit, bit-le, rank, rank-le, floor, waits, Keys, keys-le, keys-mono, keys-add, Tidy}
@@ -83,9 +85,7 @@ word-forward x r = implied (not (x .retransmit)) _ (seen-at forwardAt x forward-
 -- the table's rows that no word brings
 timer-holds : (c d : Bool) → d ≡ true → T (rowHolds (first (expiryLines c d) FopEvent.E18))
 unfolding table78
-timer-holds true true e = tt
-timer-holds false true e = tt
-timer-holds c false e = absurd (false≢true e)
+timer-holds = expiry-all rowHolds tt
 
 ad-holds : (c : Bool) → T (rowHolds (first (when c FopEvent.E19 ∷ []) FopEvent.E20))
 unfolding table78
@@ -97,12 +97,7 @@ bd-holds c = first-all rowHolds (when c FopEvent.E21 ∷ []) FopEvent.E22 tt
 
 lower-holds : (l : Lower) → T (rowHolds (lowerEvent l))
 unfolding table78
-lower-holds Lower.adAccept = tt
-lower-holds Lower.adReject = tt
-lower-holds Lower.bcAccept = tt
-lower-holds Lower.bcReject = tt
-lower-holds Lower.bdAccept = tt
-lower-holds Lower.bdReject = tt
+lower-holds = lower-all rowHolds tt
 
 terminate-holds : T (rowHolds FopEvent.E29)
 unfolding table78
@@ -158,7 +153,7 @@ sender-tidy : (set : Settings) (e : SenderEvent) (lent : ℕ) (σ : Session) →
     → (judged (set .own) e ≡ 0 → Tidy (set .n) (answered (set .n) (work (set .own) e (σ .fop)) σ)) → Tidy (set .n) (sender set e lent σ)
 unfolding sender
 sender-tidy set e lent σ t h =
-    pickS (Tidy (set .n)) (goes (set .own) e lent (σ .fop)) (λ b. h (fit (set .own) e lent (σ .fop) b .0)) (λ b. t)
+    by-pick (Tidy (set .n)) (goes (set .own) e lent (σ .fop)) (λ b. h (fit (set .own) e lent (σ .fop) b .0)) (λ b. t)
 
 tick-tidy : (set : Settings) (σ : Session) → Inv set σ → Tidy (set .n) σ → Tidy (set .n) (answered (set .n) (fopTick (σ .fop)) σ)
 unfolding fopTick fopExpiry answered channels
@@ -166,12 +161,12 @@ tick-tidy set σ I t =
     let τ : Session = withFop (setClock (σ .fop .clock .timer - 1) (σ .fop .clock .transmissionCount) (σ .fop)) σ in
     let c : Bool = ltb (σ .fop .clock .transmissionCount) (σ .fop .preset .transmissionLimit) in
     let t' : Tidy (set .n) τ = record { keys = t .keys; waitFlag = t .waitFlag; waitMissing = t .waitMissing; missing = t .missing; below = t .below } in
-    pickW (λ (w : Work). Tidy (set .n) (answered (set .n) w σ)) (eqb (σ .fop .clock .timer) 1) {x = fopExpiry (τ .fop)} {y = begin none [] 0 (τ .fop)}
-    (plain-tidy set τ nothing (first (expiryLines (ltb (σ .fop .clock .transmissionCount) (σ .fop .preset .transmissionLimit))
+    by-pick (λ (w : Work). Tidy (set .n) (answered (set .n) w σ)) (eqb (σ .fop .clock .timer) 1) {x = fopExpiry (τ .fop)} {y = begin none [] 0 (τ .fop)}
+    (λ b. plain-tidy set τ nothing (first (expiryLines (ltb (σ .fop .clock .transmissionCount) (σ .fop .preset .transmissionLimit))
     (eqb (σ .fop .preset .timeoutType) 0)) FopEvent.E18) [] (timed set _ _ σ I) t'
     (timer-ok (ltb (σ .fop .clock .transmissionCount) (σ .fop .preset .transmissionLimit)) (eqb (σ .fop .preset .timeoutType) 0) (alerting set σ I))
     (timer-holds (ltb (σ .fop .clock .transmissionCount) (σ .fop .preset .transmissionLimit)) (eqb (σ .fop .preset .timeoutType) 0) (alerting set σ I)) tt)
-    (tidy-answered (set .n) τ (σ .words) (begin none [] 0 (τ .fop)) (floor (σ .fop .state) (length (σ .confirmed))) t' (t .keys) (omega arith) (t .below))
+    (λ b. tidy-answered (set .n) τ (σ .words) (begin none [] 0 (τ .fop)) (floor (σ .fop .state) (length (σ .confirmed))) t' (t .keys) (omega arith) (t .below))
 
 words-tidy : (n : ℕ) (σ : Session) (fs : List Frame) (ws : List Word) → Tidy n σ
     → Keys n (length (σ .sent)) (floor (σ .fop .state) (length (σ .confirmed))) (2 * length (σ .accepted) + bit (σ .farm .retransmit)) ws
@@ -225,9 +220,6 @@ tidy-received n σ v acc bda r fs t a b m k =
       below = t .below;
     }
 
-no : {A : Type 0} → true ≡ false → A
-no e = absurd (true≢false e)
-
 module _ (n : ℕ) (σ : Session) (fs : List Frame) (t : Tidy n σ) where
   -- what the invariant says of the flags, at a state named s
   abbrev At : FarmState → Type 0
@@ -247,37 +239,37 @@ module _ (n : ℕ) (σ : Session) (fs : List Frame) (t : Tidy n σ) where
       tidy-received n σ _ _ _ _ fs t (h .1) (omega arith) (omega (arith, length-append (σ .accepted) (u ∷ [])))
       (omega (arith, length-append (σ .accepted) (u ∷ []), bit-le (σ .farm .retransmit)))
   takes-tidy u b Wait h = as-it-was _ _ _ (h .1) (h .2) refl
-  takes-tidy u b Lockout h = no (h .0)
+  takes-tidy u b Lockout h = never (h .0)
 
   e2-tidy : (u : Fdu) → length (σ .accepted) < length (σ .sent) → (s : FarmState) → At s → RT u farm.E2 s
   unfolding t79.table stepOf t79.performAll t79.perform t79.accepts
   e2-tidy u b Open h = tidy-received n σ _ _ _ _ fs t (omega arith) (omega arith) (omega arith) (omega (arith, bit-le (σ .farm .retransmit)))
   e2-tidy u b Wait h = as-it-was _ _ _ (h .1) (h .2) refl
-  e2-tidy u b Lockout h = no (h .0)
+  e2-tidy u b Lockout h = never (h .0)
 
   e3-tidy : (u : Fdu) → length (σ .accepted) < length (σ .sent) → (s : FarmState) → At s → RT u farm.E3 s
   unfolding t79.table stepOf t79.performAll t79.perform t79.accepts
   e3-tidy u b Open h = tidy-received n σ _ _ _ _ fs t (h .1) (omega arith) (omega arith) (omega (arith, bit-le (σ .farm .retransmit)))
   e3-tidy u b Wait h = as-it-was _ _ _ (h .1) (h .2) refl
-  e3-tidy u b Lockout h = no (h .0)
+  e3-tidy u b Lockout h = never (h .0)
 
   e4-tidy : (u : Fdu) (s : FarmState) → At s → RT u farm.E4 s
   unfolding t79.table stepOf t79.performAll t79.perform t79.accepts
   e4-tidy u Open h = as-it-was _ _ _ (h .1) (h .2) refl
   e4-tidy u Wait h = as-it-was _ _ _ (h .1) (h .2) refl
-  e4-tidy u Lockout h = no (h .0)
+  e4-tidy u Lockout h = never (h .0)
 
   e6-tidy : (b : List (List ℕ)) (s : FarmState) → At s → Tidy n (receiver (stepOf farm.E6 0 (at s (σ .farm))) (σ .accepted) b (σ .released) fs σ)
   unfolding t79.table stepOf t79.performAll t79.perform t79.accepts
   e6-tidy b Open h = as-it-was _ _ _ (h .1) (h .2) refl
   e6-tidy b Wait h = as-it-was _ _ _ (h .1) (h .2) refl
-  e6-tidy b Lockout h = no (h .0)
+  e6-tidy b Lockout h = never (h .0)
 
   e10-tidy : (r : ℕ) (s : FarmState) → At s → Tidy n (receiver (stepOf farm.E10 0 (at s (σ .farm))) (σ .accepted) (σ .acceptedBd) r fs σ)
   unfolding t79.table stepOf t79.performAll t79.perform
   e10-tidy r Open h = as-it-was _ _ _ (h .1) (h .2) refl
   e10-tidy r Wait h = as-it-was _ _ _ (omega arith) (omega arith) refl
-  e10-tidy r Lockout h = no (h .0)
+  e10-tidy r Lockout h = never (h .0)
 
 frame-tidy : (set : Settings) → Within set → (σ : Session) (room : Bool) (l : List Frame) → Inv set σ → Tidy (set .n) σ
     → Fly (set .k) (σ .sent) (length (σ .accepted)) (length (σ .accepted)) l → Tidy (set .n) (frameCome set room l σ)
@@ -326,7 +318,7 @@ step-tidy set vw wordMade σ I t =
     (omega (arith, t .waitFlag, t .waitMissing)) (t .missing) (t .keys))
 step-tidy set vw frameIn σ I t = frame-tidy set vw σ (free set σ) (σ .frames) I t (I .base .fly)
 step-tidy set vw frameLost σ I t = words-tidy (set .n) σ (rest (σ .frames)) (σ .words) t (t .keys)
-step-tidy set vw release σ I t = pickS (Tidy (set .n)) (isHeld σ) (λ e. release-tidy set σ I t) (λ e. t)
+step-tidy set vw release σ I t = by-pick (Tidy (set .n)) (isHeld σ) (λ e. release-tidy set σ I t) (λ e. t)
 
 pub start-tidy : (set : Settings) → Tidy (set .n) (begun set)
 unfolding startSender startReceiver
