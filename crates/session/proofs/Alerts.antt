@@ -5,7 +5,7 @@ use mathlib.Core.Bool.{Bool, true, false}
 use mathlib.Core.List.{List, [], _∷_}
 use mathlib.Core.Option.{Option, none, some}
 use Prim.Native.Nat.{ℕ}
-use lib.Dec.{ltb, eqb, T}
+use lib.Dec.{eqb, T}
 use Rattle.fop.specs.Table.{State, Cell, cell, NotApplicable, Reason, Action, table78, cell78, Accept, Reject}
 use Rattle.fop.specs.Table.{Confirm, RejectAd, AcceptBd, RejectBd, AddToWaitQueue, LookForFdu, LookForDirective, RemoveAcknowledgedFrames, InitiateAdRetransmission}
 use Rattle.fop.specs.Table.{InitiateBcRetransmission, ReleaseBcFrame, CancelTimer, StartTimer, Alert, Initialise, TransmitUnlock, TransmitSetVr, TransmitBd}
@@ -13,14 +13,13 @@ use Rattle.fop.specs.Table.{SetVs, SetNnr, SetK, SetT1Initial, SetTransmissionL
 use Rattle.fop.specs.Variables.{Work, begin}
 use Rattle.fop.specs.Machine.{fopDo, performCell, perform, sendNext, sendWaiting, transmitAd, transmitBc}
 use Rattle.fop.specs.Machine.{removeAcknowledged}
-use Rattle.session.proofs.Choices.{by-pick}
 use Rattle.session.proofs.Ways.{look-ways, directive-ways, purge-ways}
-use Rattle.session.proofs.Test.{first-all, lower-all, expiry-all, Keeps, where-so, allKeep, all-keep}
+use Rattle.session.proofs.Test.{first-all, lower-all, lowered, tick-ways, Keeps, where-so, allKeep, all-keep}
 use Rattle.session.proofs.Rows.{modeOf, sound, atAll, at-cell}
 use Rattle.fop.specs.Table.{ifNotSuspended, Ignore, SetSuspendState, Suspend, Resume}
 use Rattle.fop.specs.Table.{FopEvent}
 use Rattle.fop.specs.Variables.{Fop}
-use Rattle.fop.specs.Events.{when, fopTick, fopExpiry, fopLower, Lower, fopAd, fopBd, isEmpty, fopDirective, directiveEvent}
+use Rattle.fop.specs.Events.{when, fopTick, fopLower, Lower, fopAd, fopBd, isEmpty, fopDirective, directiveEvent}
 
 -- no alert, or one that p allows
 abbrev pub Hush : (Reason → Bool) → Option Reason → Type 0
@@ -102,11 +101,8 @@ do-hush e o v f t g = cell-hush ownAlert (cell78 (table78 e) (f .state)) (begin 
 -- of a sender in a state of the session, at Timeout_Type 0
 module _ (f : Fop) (g : T (sound (modeOf (f .state)))) where
   pub tick-hush : eqb (f .preset .timeoutType) 0 ≡ true → Hush ownAlert ((fopTick f) .alert)
-  unfolding fopTick fopExpiry table78 hushes
-  tick-hush z =
-      by-pick (Hushed ownAlert) (eqb (f .clock .timer) 1)
-      (λ t. do-hush _ [] 0 _ (expiry-all rowCalm tt (ltb (f .clock .transmissionCount) (f .preset .transmissionLimit)) (eqb (f .preset .timeoutType) 0) z) g)
-      (λ t. inl refl)
+  unfolding table78 hushes
+  tick-hush z = tick-ways rowCalm tt (Hushed ownAlert) f z (λ e t. do-hush e [] 0 (lowered f) t g) (inl refl)
 
   pub lower-hush : (l : Lower) → Hush ownAlert ((fopLower l f) .alert)
   unfolding fopLower table78 hushes

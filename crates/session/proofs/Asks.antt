@@ -22,10 +22,9 @@ use Rattle.session.specs.Ends.{Settings, Within}
 use Rattle.session.specs.Session.{adRequest, wordIn, nobody}
 use Rattle.session.specs.Claims.{IsOutstanding, outstanding, Marked}
 use Rattle.session.specs.Stronger.{inService, asking}
-use Rattle.session.proofs.Core.{stepWith, Session, answered, channels, wordCome, step}
-use Rattle.session.proofs.Inv.{Inv, goes-is, hears, fine}
-use Rattle.session.proofs.Chan.{Wds}
-use Rattle.session.proofs.Next.{historyOf, Resent, lv, off-is, out-from, room-is, sender-is, expired, ticked}
+use Rattle.session.proofs.Core.{stepWith, Session, answered, channels, step}
+use Rattle.session.proofs.Inv.{Inv, goes-is}
+use Rattle.session.proofs.Next.{historyOf, Resent, lv, off-is, out-from, room-is, sender-is, word-step, expired, ticked}
 
 -- a unit that is sent at once starts the timer
 look-timer : (w : Work) (o : List ℕ) → w .fop .out .ad ≡ true → firstMarked (w .fop .sentQueue) ≡ none → offset (w .fop .vs) (w .fop .nnr) < w .fop .preset .k
@@ -110,15 +109,6 @@ ask-is w f s a b c e p l k =
 
 module _ (set : Settings) (vw : Within set) (σ : Session) (I : Inv set σ) (w : Word) (ws : List Word) (i lent : ℕ)
     (comes : σ .words ≡ w ∷ ws) (r : needed (set .own) (wordArrives (wordOctets (set .own) w)) (σ .fop) ≤ lent) where
-  pub word-step : step set (wordIn lent) σ ≡ answered (set .n) (fopWord w (σ .fop)) (channels (σ .frames) ws σ)
-  unfolding step stepWith wordCome judged channels
-  word-step =
-      let wd : Wds (set .n) (length (σ .confirmed)) (length (σ .accepted)) (w ∷ ws) = rw comes at (I .words) in
-      let h = hears set vw w (σ .fop) (wd .3) (omega (arith, wd .1)) in
-      ap (λ (l : List Word). wordCome set lent l σ) comes
-      ∙ sender-is set (wordArrives (wordOctets (set .own) w)) lent (channels (σ .frames) ws σ) (fine set vw w (wd .3) (omega (arith, wd .1))) r
-      ∙ ap (λ (x : Work). answered (set .n) x (channels (σ .frames) ws σ)) h
-
   over : (u : Fdu) → Resent u σ (answered (set .n) (fopWord w (σ .fop)) σ) ⊎ Marked u ((fopWord w (σ .fop)) .fop)
       → Resent u σ (answered (set .n) (fopWord w (σ .fop)) (channels (σ .frames) ws σ))
       ⊎ Marked u ((answered (set .n) (fopWord w (σ .fop)) (channels (σ .frames) ws σ)) .fop)
@@ -137,6 +127,6 @@ module _ (set : Settings) (vw : Within set) (σ : Session) (I : Inv set σ) (w :
       let lv0 = lv set σ I sv in
       let z : offset (w .nr) (σ .fop .nnr) ≡ 0 = omega (arith, nr, lv0, I .base) in
       let e = ask-is w (σ .fop) s a b c z (omega (arith, off-is set σ I sv, from, o .0)) (omega arith) (omega arith) in
-      rw word-step (over (getD (σ .sent) i nobody)
+      rw (word-step set vw σ I w ws lent comes r) (over (getD (σ .sent) i nobody)
       (ticked set σ I sv FopEvent.E10 (w .nr) (σ .fop) refl i (σ .fop .sentQueue) refl (fopWord w (σ .fop)) (ap (λ (x : Work). x .fop .sentQueue) e)
       (ap (λ (x : Work). x .frames) e) o (σ .fop .out .ad) refl))

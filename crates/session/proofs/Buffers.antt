@@ -1,7 +1,7 @@
 -- The single receiver's buffers: those taken are at most those set, and a receiver that waits has none free. The session's invariant
 -- (Inv) does not need this.
-use mathlib.Core.Path.{_≡_, refl}
-use mathlib.Core.Bool.{Bool, true, false, false≢true}
+use mathlib.Core.Path.{_≡_, sym, _∙_}
+use mathlib.Core.Bool.{true, false, false≢true}
 use mathlib.Core.List.{List, [], _∷_}
 use Prim.Native.Nat.{ℕ, _+_, _-_, _≤_}
 use native.Mathlib.Omega.{arith}
@@ -9,6 +9,7 @@ use lib.Dec.{ltb}
 use lib.ListN.{length, length-append}
 use borrow.Author.Tests.{ltb-true, ltb-false}
 use Rattle.base.specs.Choice.{both}
+use Rattle.base.proofs.Tests.{both-left, both-true, both-false}
 use Rattle.fop.specs.Units.{Fdu, Frame, AD, BD, Unlock, SetVR, Refused, Word, wordOctets}
 use Rattle.fop.specs.Events.{SenderEvent, requestAd, requestBd, lower, directive, wordArrives}
 use Rattle.fop.specs.Events as fop
@@ -53,33 +54,21 @@ module _ (set : Settings) (a : List Fdu) (u : Fdu) (R : ℕ) (v : Variables) whe
     e1-stock : (s : FarmState) → both (ltb (length a - R) (set .buffers)) (notWait s) ≡ true → isLocked s ≡ false → After E1 s
     unfolding table stepOf performAll perform accepts
     e1-stock Open p l =
-        let k : ltb (length a - R) (set .buffers) ≡ true = left (ltb (length a - R) (set .buffers)) true p in
+        let k : ltb (length a - R) (set .buffers) ≡ true = both-left (ltb (length a - R) (set .buffers)) true p in
         record {
           below = omega (arith, length-append a (u ∷ []));
           most = omega (arith, length-append a (u ∷ []), ltb-true (length a - R) (set .buffers) k);
           full = tt;
         }
-      where
-        left : (b c : Bool) → both b c ≡ true → b ≡ true
-        left true c e = refl
-        left false c e = e
-    e1-stock Wait p l = absurd (right (ltb (length a - R) (set .buffers)) p)
-      where
-        right : (b : Bool) → both b false ≡ true → ⊥
-        right true e = false≢true e
-        right false e = false≢true e
+    e1-stock Wait p l = absurd (false≢true (sym (both-false (ltb (length a - R) (set .buffers))) ∙ p))
     e1-stock Lockout p l = never l
 
     e2-stock : (s : FarmState) → both (ltb (length a - R) (set .buffers)) (notWait s) ≡ false → isLocked s ≡ false
         → Full s (length a) (set .buffers + R) → After E2 s
     unfolding table stepOf performAll perform accepts
     e2-stock Open p l f =
-        let k : ltb (length a - R) (set .buffers) ≡ false = left (ltb (length a - R) (set .buffers)) p in
+        let k : ltb (length a - R) (set .buffers) ≡ false = sym (both-true (ltb (length a - R) (set .buffers))) ∙ p in
         record { below = below; most = most; full = omega (arith, ltb-false (length a - R) (set .buffers) k) }
-      where
-        left : (b : Bool) → both b true ≡ false → b ≡ false
-        left true e = e
-        left false e = refl
     e2-stock Wait p l f = record { below = below; most = most; full = f }
     e2-stock Lockout p l f = never l
 

@@ -10,7 +10,7 @@ use lib.ListN.{length, length-take, length-append}
 use borrow.Author.Tests.{eqb-true, not-false}
 use Rattle.base.specs.Modulo.{advanced, offset}
 use Rattle.fop.specs.Units.{Word}
-use Rattle.fop.specs.Table.{State, S1, S2, S3, S4, S5, S6, Action, Cell, cell, ifNotSuspended, NotApplicable, FopEvent, table78, cell78, Ignore, Accept, Reject, Confirm}
+use Rattle.fop.specs.Table.{State, S1, S2, S3, S4, S5, S6, Action, Cell, cell, ifNotSuspended, NotApplicable, table78, cell78, Ignore, Accept, Reject, Confirm}
 use Rattle.fop.specs.Table.{RejectAd, AcceptBd, RejectBd, AddToWaitQueue, LookForFdu, LookForDirective, RemoveAcknowledgedFrames, InitiateAdRetransmission}
 use Rattle.fop.specs.Table.{InitiateBcRetransmission, ReleaseBcFrame, CancelTimer, StartTimer, Alert, Initialise, TransmitUnlock, TransmitSetVr, TransmitBd, SetSuspendState}
 use Rattle.fop.specs.Table.{Suspend, Resume, SetVs, SetNnr, SetK, SetT1Initial, SetTransmissionLimit, SetTimeoutType, AdOutReady, BcOutReady, BdOutReady}
@@ -23,11 +23,10 @@ use Rattle.session.proofs.Ways.{directive-ways, purge-ways}
 use Rattle.session.proofs.Test.{isThere}
 use Rattle.session.proofs.Core.{Session}
 use Rattle.session.proofs.Chan.{Wds, wds-le}
-use Rattle.session.proofs.Values.{live, word, queue-length}
+use Rattle.session.proofs.Values.{word, queue-length}
 use Rattle.session.proofs.Rows.{word-ok}
-use Rattle.session.proofs.Sender.{acks}
-use Rattle.session.proofs.Inv.{Inv, presetOf, enter, row-bound}
-use Rattle.session.proofs.Next.{lv}
+use Rattle.session.proofs.Inv.{Inv, row-bound}
+use Rattle.session.proofs.Next.{lv, acked}
 use Rattle.session.proofs.Clear.{look-conf}
 use Rattle.session.proofs.Keys.{Tidy}
 use Rattle.session.proofs.Every.{implies, implied, everySeen, seen-at}
@@ -163,14 +162,8 @@ module _ (set : Settings) (σ : Session) (I : Inv set σ) (Q : Tidy (set .n) σ)
 
   removed : length (acknowledged (σ .fop .nnr) (w .nr) (σ .fop .sentQueue)) ≡ offset (w .nr) (σ .fop .nnr)
   removed =
-      let l = lv set σ I sv in
-      let ln = queue-length (length (σ .confirmed)) (σ .sent) [] (fdus (σ .fop .sentQueue)) (l .cut) in
-      let a = acks (set .n) (presetOf set) (length (σ .confirmed)) (σ .denied) (σ .accepted) (σ .sent) (σ .frames) (reports .0)
-      (begin (some FopEvent.E2) [] (w .nr) (σ .fop))
-      (enter live (set .n) (presetOf set) (length (σ .confirmed)) (σ .accepted) (σ .sent) (σ .frames) (σ .denied) (fdus (σ .fop .sentQueue))
-      (σ .fop .vs) (σ .fop .nnr) (σ .fop .preset)
-      word (reports .0) (w .nr) (σ .fop .waitQueue) [] (I .base) l (reports .2)
-      (reports .1, wds-le (set .n) (reports .0) (length (σ .accepted)) ws (reports .4)) (I .isSet) (I .waiting)) in
+      let ln = queue-length (length (σ .confirmed)) (σ .sent) [] (fdus (σ .fop .sentQueue)) (lv set σ I sv .cut) in
+      let a = acked set σ I sv (reports .0) (w .nr) (reports .2) (reports .1) (wds-le (set .n) (reports .0) (length (σ .accepted)) ws (reports .4)) in
       ap length (a .0) ∙ length-take (offset (w .nr) (σ .fop .nnr)) (fdus (σ .fop .sentQueue))
       ∙ omega (arith, new-is, ln, I .base, wds-le (set .n) (reports .0) _ ws (reports .4))
 

@@ -33,7 +33,7 @@ use Rattle.session.proofs.Rows.{after, afterAll, modeOf, matched, sound
 use Rattle.session.proofs.Sender.{WInv, keeps}
 use Rattle.session.proofs.Queue.{found}
 use Rattle.session.proofs.Few.{purge-few}
-use Rattle.session.proofs.Inv.{Inv, Side, presetOf, is-sound, enter}
+use Rattle.session.proofs.Inv.{Inv, Side, presetOf, in-mode, row-begins}
 use Rattle.session.proofs.Next.{historyOf}
 
 -- each AD frame of the list is a unit sent, at a place from C on; and there is one only where m is live
@@ -210,16 +210,13 @@ module _ (set : Settings) (σ : Session) (I : Inv set σ) where
       → From (modeOf (σ .fop .state)) (length (σ .confirmed)) (addAll (set .n) (σ .sent) ((fopDo e o v (σ .fop)) .frames)) ((fopDo e o v (σ .fop)) .frames)
   unfolding fopDo
   row-from given a e o v t l r =
-      let g : T (sound (modeOf (σ .fop .state))) = is-sound (modeOf (σ .fop .state)) (set .n) _ _ _ _ _ _ (I .side) in
+      let g : T (sound (modeOf (σ .fop .state))) = in-mode set σ I in
       end-from (set .n) (length (σ .confirmed)) (presetOf set) (σ .denied) (σ .accepted) (σ .sent) (σ .frames) given a (modeOf (σ .fop .state))
       (modeOf ((fopDo e o v (σ .fop)) .fop .state)) (fopDo e o v (σ .fop))
       (do-sound given e o v (σ .fop) t g)
       (cell-from (set .n) (presetOf set) (length (σ .confirmed)) (σ .denied) (σ .accepted) (σ .sent) (σ .frames) given a (modeOf (σ .fop .state))
       (cell78 (table78 e) (σ .fop .state)) (begin (some e) o v (σ .fop))
-      (at-cell (cellOk given) (table78 e) (σ .fop .state) t g)
-      (enter (modeOf (σ .fop .state)) (set .n) (presetOf set) (length (σ .confirmed)) (σ .accepted) (σ .sent) (σ .frames) (σ .denied)
-      (fdus (σ .fop .sentQueue)) (σ .fop .vs) (σ .fop .nnr) (σ .fop .preset) given a v (σ .fop .waitQueue) o
-      (I .base) (I .side) l r (I .isSet) (I .waiting))
+      (at-cell (cellOk given) (table78 e) (σ .fop .state) t g) (row-begins set σ I given a o v l r (some e))
       (start-from (set .n) (length (σ .confirmed)) (presetOf set) (σ .denied) (σ .accepted) (σ .sent) (σ .frames) given a (modeOf (σ .fop .state))
       (begin (some e) o v (σ .fop)) refl))
 

@@ -1,14 +1,13 @@
 -- Suspension is idle: with Timeout_Type and Suspend_State 0, whatever the sender is asked keeps both 0 and issues no Suspend notification. So
 -- rows E18, E31 to E34 and E104 of table 7-8 are met by no event (`idle`).
-use Rattle.fop.specs.Answers.{judged, senderRefusal, senderAnswer, senderNext, refused}
-use Rattle.base.specs.Choice.{pick}
+use Rattle.fop.specs.Answers.{Answer, judged, senderRefusal, senderAnswer, senderNext}
 use mathlib.Core.Path.{_≡_, refl, sym, _∙_, subst}
 use mathlib.Core.Bool.{Bool, true, false, _&&_, false≢true, not}
 use mathlib.Core.List.{List, [], _∷_}
 use mathlib.Core.Option.{Option, none, some}
 use Prim.Native.Nat.{ℕ, _≤_, _<_}
 use native.Mathlib.Omega.{arith}
-use lib.Dec.{ltb, eqb, T, leb}
+use lib.Dec.{eqb, T, leb}
 use borrow.Author.Tests.{eq-eqb, eqb-true, leb-true}
 use Rattle.fop.specs.Units.{Heard, valid, invalid, other, Own, readWord}
 use Rattle.fop.specs.Table.{Action, Cell, cell, ifNotSuspended, NotApplicable, FopEvent, table78, cell78, Ignore, Accept, Reject, Confirm, RejectAd}
@@ -19,14 +18,13 @@ use Rattle.fop.specs.Variables.{Fop, Work}
 use Rattle.fop.specs.Machine.{perform, performCell, sendNext, sendWaiting, transmitAd, transmitBc}
 use Rattle.fop.specs.Variables.{begin}
 use Rattle.fop.specs.Machine.{removeAcknowledged, fopDo}
-use Rattle.fop.specs.Events.{Line, when, first, wordLines, wordEvent, seen, fopWord, fopAd, fopBd, fopExpiry, fopTick, fopLower, Lower, directiveLines, directiveEvent, validDirective, fopDirective, SenderEvent, requestAd, requestBd, lower, directive, wordArrives, work}
+use Rattle.fop.specs.Events.{Line, when, first, wordLines, wordEvent, seen, fopWord, fopAd, fopBd, fopTick, fopLower, Lower, directiveLines, directiveEvent, validDirective, fopDirective, SenderEvent, requestAd, requestBd, lower, directive, wordArrives, work}
 use Rattle.fop.specs.Events.{isEmpty, fopHeard}
 use Rattle.fop.specs.Events as fop
-use Rattle.fop.specs.Answers as ans
 use Rattle.base.proofs.Computed.{is-true}
 use Rattle.session.proofs.Choices.{by-pick, and-l, and-r, and-both, unrefused, upto, _also_}
 use Rattle.session.proofs.Ways.{look-ways, directive-ways, purge-ways}
-use Rattle.session.proofs.Test.{everyCell, every-cell, allLines, first-all, lower-all, expiry-all, Keeps, where-so, allKeep, all-keep}
+use Rattle.session.proofs.Test.{everyCell, every-cell, allLines, first-all, lower-all, lowered, tick-ways, Keeps, where-so, allKeep, all-keep}
 use Rattle.session.proofs.Inv.{fit}
 
 -- Suspend_State, Timeout_Type and the notification; z says that the value in hand is 0
@@ -103,13 +101,11 @@ do-still z e o v f t k h =
     (record { notSuspended = j .0; alerting = j .1 }, j .2)
 
 tick-still : (f : Fop) → Idle f → Stays (fopTick f)
-unfolding fopTick fopExpiry table78 still
+unfolding table78 still
 tick-still f h =
-    by-pick Stays (eqb (f .clock .timer) 1)
-    (λ t. do-still false _ [] 0 _ (expiry-all (rowStill false) tt (ltb (f .clock .transmissionCount) (f .preset .transmissionLimit)) (eqb (f .preset .timeoutType) 0)
-    (eq-eqb (f .preset .timeoutType) 0 (h .alerting)))
-    (λ e. absurd (false≢true e)) (record { notSuspended = h .notSuspended; alerting = h .alerting }))
-    (λ t. (record { notSuspended = h .notSuspended; alerting = h .alerting }, refl))
+    let k : Idle (lowered f) = record { notSuspended = h .notSuspended; alerting = h .alerting } in
+    tick-ways (rowStill false) tt Stays f (eq-eqb (f .preset .timeoutType) 0 (h .alerting))
+    (λ e t. do-still false e [] 0 (lowered f) t (λ y. absurd (false≢true y)) k) (k, refl)
 
 lower-still : (l : Lower) (f : Fop) → Idle f → Stays (fopLower l f)
 unfolding fopLower table78 still
@@ -190,9 +186,8 @@ work-still own (wordArrives s) f j h = heard-still (readWord own s) f h
 
 pub idle : (own : Own) (e : SenderEvent) (lent : ℕ) (f : Fop) → Idle f → Idle (senderNext own e lent f) × ((senderAnswer own e lent f) .suspended ≡ false)
 unfolding senderNext senderAnswer
-idle own e lent f h = go (eqb (senderRefusal own e lent f) 0) refl
-  where
-    go : (b : Bool) → eqb (senderRefusal own e lent f) 0 ≡ b
-        → Idle (pick b ((work own e f) .fop) f) × ((pick b (ans.answered own (work own e f)) (refused (senderRefusal own e lent f) f)) .suspended ≡ false)
-    go true z = work-still own e f (fit own e lent f z .0) h
-    go false z = (h, refl)
+idle own e lent f h =
+    let goes : Bool = eqb (senderRefusal own e lent f) 0 in (
+      by-pick Idle goes (λ z. work-still own e f (fit own e lent f z .0) h .0) (λ z. h),
+      by-pick (λ (a : Answer). a .suspended ≡ false) goes (λ z. work-still own e f (fit own e lent f z .0) h .1) (λ z. refl),
+    )

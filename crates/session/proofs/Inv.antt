@@ -2,11 +2,11 @@
 use mathlib.Core.Path.{_≡_, refl, sym, ap, _∙_}
 use mathlib.Core.Bool.{Bool, true, false, false≢true}
 use mathlib.Core.List.{List, [], _∷_, _++_, append-nil}
-use mathlib.Core.Option.{Option, none}
-use Prim.Native.Nat.{ℕ, _+_, _-_, _%_, _≤_, _<_}
+use mathlib.Core.Option.{Option, none, some}
+use Prim.Native.Nat.{ℕ, _+_, _%_, _≤_, _<_}
 use native.Mathlib.Nat.{zero-add}
 use native.Mathlib.Omega.{arith}
-use lib.Dec.{leb, ltb, eqb, T}
+use lib.Dec.{leb, eqb, T}
 use lib.ListN.{length, drop, length-append}
 use lib.Seq.{drop-drop, drop-append-seam}
 use borrow.Author.Tests.{eq-eqb, eqb-true, leb-true, le-leb}
@@ -16,18 +16,19 @@ use Rattle.fop.specs.Units.{Fdu, Frame, Word, Own, legal, wordOctets}
 use Rattle.fop.specs.Table.{FopEvent}
 use Rattle.fop.specs.Variables.{Fop, Work, Preset, begin, setClock}
 use Rattle.fop.specs.Machine.{fdus, fopDo}
-use Rattle.fop.specs.Events.{fopWord, fopAd, fopBd, fopTick, fopExpiry, fopLower, fopDirective, directiveEvent, fopHeard, isEmpty, SenderEvent, requestAd}
+use Rattle.fop.specs.Events.{fopWord, fopAd, fopBd, fopTick, fopLower, fopDirective, directiveEvent, fopHeard, isEmpty, SenderEvent, requestAd}
 use Rattle.fop.specs.Events.{requestBd, lower, directive, wordArrives, work, Lower, seen}
 use Rattle.fop.specs.Answers.{judged, senderRefusal, needed}
 use Rattle.farm.specs.declared.State.{State as FarmState}
 use Rattle.farm.specs.declared.State.the-variants.{Open, Wait, Lockout}
 use Rattle.farm.specs.declared.Variables.{Variables}
-use Rattle.fop.specs.Events.{first, expiryLines}
+use Rattle.fop.specs.Events.{first}
 use Rattle.session.specs.Ends.{Settings, Within}
 use Rattle.session.specs.Session.{places}
 use Rattle.session.specs.Stronger.{Sub}
 use Rattle.fop.specs.Events as fop
 use Rattle.session.proofs.Choices.{by-pick, unrefused}
+use Rattle.session.proofs.Test.{lowered, tick-ways}
 use Rattle.session.proofs.Core.{Session, addAll, firstOf, answered, sender, goes, channels, wordCome}
 use Rattle.session.proofs.Lists.{iota, iota-append, length-iota}
 use Rattle.session.proofs.Chan.{Wds, wds-le, wds-lower}
@@ -175,31 +176,40 @@ answered-keeps set σ ws given a w I g h ww =
       bd = bd-handed (σ .acceptedBd) (σ .sentBd) (σ .frames) (w .frames) (I .bd);
     }
 
+-- the sender's mode is one of the session
+pub in-mode : (set : Settings) (σ : Session) → Inv set σ → T (sound (modeOf (σ .fop .state)))
+in-mode set σ I = is-sound (modeOf (σ .fop .state)) (set .n) _ _ _ _ _ _ (I .side)
+
+-- the work on an event, as it begins and after its row; a is what the word in hand reports, or the count confirmed
+module _ (set : Settings) (σ : Session) (I : Inv set σ) (given : Given) (a : ℕ) (o : List ℕ) (v : ℕ) (l : length (σ .confirmed) ≤ a)
+    (rp : Reports given (set .n) a (length (σ .accepted)) v o) where
+  abbrev W : Mode → Work → Type 0
+  W m w = WInv (set .n) (presetOf set) (length (σ .confirmed)) (σ .denied) (σ .accepted) (σ .sent) (σ .frames) given a m w
+
+  pub row-begins : (e : Option FopEvent) → W (modeOf (σ .fop .state)) (begin e o v (σ .fop))
+  row-begins e =
+      enter (modeOf (σ .fop .state)) (set .n) (presetOf set) _ (σ .accepted) (σ .sent) (σ .frames) (σ .denied) _ _ _ (σ .fop .preset) given a v
+      (σ .fop .waitQueue) o (I .base) (I .side) l rp (I .isSet) (I .waiting)
+
+  row-does : (e : FopEvent) → T (rowOk given e) → W (modeOf ((fopDo e o v (σ .fop)) .fop .state)) (fopDo e o v (σ .fop))
+  row-does e t =
+      do-keeps (set .n) (presetOf set) (length (σ .confirmed)) (σ .denied) (σ .accepted) (σ .sent) (σ .frames) given a e o v (σ .fop) t
+      (in-mode set σ I) (row-begins (some e))
+
 row-keeps : (set : Settings) (σ : Session) (ws : List Word) (given : Given) (a : ℕ) (e : FopEvent) (o : List ℕ) (v : ℕ) → Inv set σ
     → T (rowOk given e) → length (σ .confirmed) ≤ a → Reports given (set .n) a (length (σ .accepted)) v o → Wds (set .n) a (length (σ .accepted)) ws
     → Inv set (answered (set .n) (fopDo e o v (σ .fop)) (channels (σ .frames) ws σ))
 row-keeps set σ ws given a e o v I t l rp ww =
-    let g : T (sound (modeOf (σ .fop .state))) = is-sound (modeOf (σ .fop .state)) (set .n) _ _ _ _ _ _ (I .side) in
-    answered-keeps set σ ws given a (fopDo e o v (σ .fop)) I (do-sound given e o v (σ .fop) t g)
-    (do-keeps (set .n) (presetOf set) (length (σ .confirmed)) (σ .denied) (σ .accepted) (σ .sent) (σ .frames) given a e o v (σ .fop) t g
-    (enter (modeOf (σ .fop .state)) (set .n) (presetOf set) _ (σ .accepted) (σ .sent) (σ .frames) (σ .denied) _ _ _ (σ .fop .preset) given a v
-    (σ .fop .waitQueue) o
-    (I .base) (I .side) l rp (I .isSet) (I .waiting)))
-    ww
+    answered-keeps set σ ws given a (fopDo e o v (σ .fop)) I (do-sound given e o v (σ .fop) t (in-mode set σ I)) (row-does set σ I given a o v l rp e t) ww
 
 -- no more is confirmed than what is reported
 pub row-bound : (set : Settings) (σ : Session) (given : Given) (a : ℕ) (e : FopEvent) (o : List ℕ) (v : ℕ) → Inv set σ → T (rowOk given e)
     → length (σ .confirmed) ≤ a → Reports given (set .n) a (length (σ .accepted)) v o
     → length (σ .confirmed) + length ((fopDo e o v (σ .fop)) .confirmed) ≤ a
 row-bound set σ given a e o v I t l rp =
-    let g : T (sound (modeOf (σ .fop .state))) = is-sound (modeOf (σ .fop .state)) (set .n) _ _ _ _ _ _ (I .side) in
-    base-of (modeOf ((fopDo e o v (σ .fop)) .fop .state)) (set .n) (presetOf set) (length (σ .confirmed)) (σ .denied) (σ .accepted) given a _ _ _ _ _ _ _
-    ((fopDo e o v (σ .fop)) .fop .preset) ((fopDo e o v (σ .fop)) .value) ((fopDo e o v (σ .fop)) .fop .waitQueue) ((fopDo e o v (σ .fop)) .octets)
-    (do-sound given e o v (σ .fop) t g)
-    (do-keeps (set .n) (presetOf set) (length (σ .confirmed)) (σ .denied) (σ .accepted) (σ .sent) (σ .frames) given a e o v (σ .fop) t g
-    (enter (modeOf (σ .fop .state)) (set .n) (presetOf set) _ (σ .accepted) (σ .sent) (σ .frames) (σ .denied) _ _ _ (σ .fop .preset) given a v
-    (σ .fop .waitQueue) o
-    (I .base) (I .side) l rp (I .isSet) (I .waiting)))
+    let w : Work = fopDo e o v (σ .fop) in
+    base-of (modeOf (w .fop .state)) (set .n) (presetOf set) (length (σ .confirmed)) (σ .denied) (σ .accepted) given a _ _ _ _ _ _ _
+    (w .fop .preset) (w .value) (w .fop .waitQueue) (w .octets) (do-sound given e o v (σ .fop) t (in-mode set σ I)) (row-does set σ I given a o v l rp e t)
     .most
 
 -- The events of the sender, each by its rows. `work` is what the table does, whether or not the event is then refused.
@@ -242,21 +252,14 @@ pub alerting : (set : Settings) (σ : Session) → Inv set σ → eqb (σ .fop .
 alerting set σ I = eq-eqb (σ .fop .preset .timeoutType) 0 (ap (λ (p : Preset). p .timeoutType) (I .isSet))
 
 tick-keeps : (set : Settings) (σ : Session) → Inv set σ → Inv set (answered (set .n) (fopTick (σ .fop)) σ)
-unfolding fopTick fopExpiry answered channels
+unfolding answered channels
 tick-keeps set σ I =
-    let τ : Session = withFop (setClock (σ .fop .clock .timer - 1) (σ .fop .clock .transmissionCount) (σ .fop)) σ in
+    let τ : Session = withFop (lowered (σ .fop)) σ in
     let J : Inv set τ = timed set _ _ σ I in
-    let g : T (sound (modeOf (σ .fop .state))) = is-sound (modeOf (σ .fop .state)) (set .n) _ _ _ _ _ _ (I .side) in
-    by-pick (λ (w : Work). Inv set (answered (set .n) w σ)) (eqb (σ .fop .clock .timer) 1) {x = fopExpiry (τ .fop)} {y = begin none [] 0 (τ .fop)}
-    (λ b. row-keeps set τ (σ .words) nothing (length (σ .confirmed)) (first (expiryLines
-    (ltb (σ .fop .clock .transmissionCount) (σ .fop .preset .transmissionLimit)) (eqb (σ .fop .preset .timeoutType) 0)) FopEvent.E18) [] 0 J
-    (timer-ok (ltb (σ .fop .clock .transmissionCount) (σ .fop .preset .transmissionLimit)) (eqb (σ .fop .preset .timeoutType) 0) (alerting set σ I))
-    (omega arith) tt (I .words))
-    (λ b. answered-keeps set τ (σ .words) nothing (length (σ .confirmed)) (begin none [] 0 (τ .fop)) J g
-    (enter (modeOf (σ .fop .state)) (set .n) (presetOf set) _ (σ .accepted) (σ .sent) (σ .frames) (σ .denied) _ _ _ (σ .fop .preset) nothing
-    (length (σ .confirmed)) 0 (σ .fop .waitQueue) []
-    (I .base) (I .side) (omega arith) tt (I .isSet) (I .waiting))
-    (I .words))
+    tick-ways (rowOk nothing) timer-ok (λ w. Inv set (answered (set .n) w σ)) (σ .fop) (alerting set σ I)
+    (λ e t. row-keeps set τ (σ .words) nothing (length (σ .confirmed)) e [] 0 J t (omega arith) tt (I .words))
+    (answered-keeps set τ (σ .words) nothing (length (σ .confirmed)) (begin none [] 0 (τ .fop)) J (in-mode set σ I)
+    (row-begins set σ I nothing (length (σ .confirmed)) [] 0 (omega arith) tt none) (I .words))
 
 -- an event that goes through was judged fit, and had its room
 judge : (j need lent : ℕ) → eqb (pick (eqb j 0) (pick (leb need lent) 0 11) j) 0 ≡ true → (j ≡ 0) × (need ≤ lent)

@@ -6,12 +6,11 @@ use mathlib.Core.Option.{some}
 use Prim.Native.Nat.{_-_, ℕ, suc, _+_, _≤_, max}
 use native.Mathlib.Omega.{arith}
 use lib.ListN.{length}
-use Rattle.base.specs.Choice.{pick}
+use Rattle.base.specs.Choice.{pick, must}
 use Rattle.fop.specs.Units.{Fdu, Frame, AD, BD, Unlock, SetVR, Refused, Word, legal, written, wordOctets}
 use Rattle.fop.specs.Variables.{Fop, Work}
 use Rattle.fop.specs.Events.{SenderEvent, requestAd, requestBd, directive, wordArrives, work}
 use Rattle.fop.specs.Answers.{runOf, octetsDown, senderAnswer, senderNext, senderRefusal, refused}
-use Rattle.base.specs.Choice.{must}
 use Rattle.fop.specs.Answers as ans
 use Rattle.farm.specs.Table.{stepOf}
 use Rattle.farm.specs.Receiver as farm
@@ -23,7 +22,6 @@ use Rattle.farm.specs.declared.Released.{Released}
 use Rattle.farm.specs.declared.Released.the-variants.{Done, NoneTaken}
 use Rattle.session.specs.Receiver as rcv
 use Rattle.session.specs.Receiver.{frameArrives, releaseBuffer, ReceiverAnswer, receiverNext, releaseAnswer, receiverAnswer, receiverWord}
-use Rattle.session.specs.Frames.{read}
 use Rattle.session.specs.Frames.{read}
 use Rattle.session.specs.Ends.{Settings, Within, Ends, Tied, tables, startReceiver}
 use Rattle.session.specs.Session.{Linked, History, Event, adRequest, bdRequest, ticks, lowerSays, terminate, wordIn, wordLost, wordMade, frameIn, frameLost, release}
@@ -76,6 +74,16 @@ run-is (u ∷ us) = refl
 map-rest : {A B : Type 0} (f : A → B) (l : List A) → rest (map f l) ≡ map f (rest l)
 map-rest f [] = refl
 map-rest f (x ∷ l) = refl
+
+-- the frames that an event hands down read back
+pub reads-of : (set : Settings) (e : SenderEvent) (lent : ℕ) (κ : Session) → goes (set .own) e lent (κ .fop) ≡ true → Inv set (core.sender set e lent κ)
+    → Reads ((work (set .own) e (κ .fop)) .frames)
+unfolding core.sender core.answered
+reads-of set e lent κ b J =
+    let τ : Session = core.answered (set .n) (work (set .own) e (κ .fop)) κ in
+    let K : Inv set (core.answered (set .n) (work (set .own) e (κ .fop)) κ) = rw b at J in
+    reads-last (κ .frames) ((work (set .own) e (κ .fop)) .frames)
+    (fly-reads (set .n) (set .k) (τ .sent) (K .base .num) (length (τ .accepted)) (length (τ .accepted)) (τ .frames) (K .base .fly))
 
 -- what the answer's octets say of Sent, and of the channel
 module _ (set : Settings) (vw : Within set) where
@@ -172,19 +180,10 @@ module _ (set : Settings) (vw : Within set) where
         → Rel (toSender set m e lent (map (wordOctets (set .own)) ws) σ) (core.sender set e lent (core.channels (κ .frames) ws κ))
     unfolding core.sender core.channels senderAnswer senderNext core.answered
     to-sender σ κ e lent ws R J =
-        let w : Work = work (set .own) e (κ .fop) in
         chosen (goes (set .own) e lent (κ .fop)) (work (set .own) e (κ .fop)) (senderRefusal (set .own) e lent (κ .fop)) σ κ e lent ws R
-        (λ b. (work-few (set .own) e (κ .fop), through b J))
+        (λ b. (work-few (set .own) e (κ .fop), reads-of set e lent (core.channels (κ .frames) ws κ) b J))
         (t .next e lent (σ .sender) (R .good) ∙ ap (λ (f : Fop). senderNext (set .own) e lent f) (R .fop))
         (t .answer e lent (σ .sender) (R .good) ∙ ap (λ (f : Fop). senderAnswer (set .own) e lent f) (R .fop))
-      where
-        through : goes (set .own) e lent (κ .fop) ≡ true → Inv set (core.sender set e lent (core.channels (κ .frames) ws κ))
-            → Reads ((work (set .own) e (κ .fop)) .frames)
-        through b J =
-            let τ : Session = core.answered (set .n) (work (set .own) e (κ .fop)) (core.channels (κ .frames) ws κ) in
-            let K : Inv set (core.answered (set .n) (work (set .own) e (κ .fop)) (core.channels (κ .frames) ws κ)) = rw b at J in
-            reads-last (κ .frames) ((work (set .own) e (κ .fop)) .frames)
-            (fly-reads (set .n) (set .k) (τ .sent) (K .base .num) (length (τ .accepted)) (length (τ .accepted)) (τ .frames) (K .base .fly))
 
     -- the oldest word to the sender
     heard : (σ : Linked m) (κ : Session) (lent : ℕ) (ws : List Word) → Rel σ κ → Inv set (core.wordCome set lent ws κ)
@@ -320,16 +319,6 @@ module _ (set : Settings) (vw : Within set) where
         ∙ ap (λ (y : Released). rcv.afterRelease y (receiverOf set (used κ) (κ .farm))) (released-is set vw (used κ) (κ .farm)))
         (t .answerReceiver releaseBuffer (σ .receiver) (R .goodReceiver) ∙ ap (λ (f : Receiver). receiverAnswer releaseBuffer f) (R .farm)
         ∙ ap releaseAnswer (released-is set vw (used κ) (κ .farm)))
-
--- the frames that an event hands down read back
-pub reads-of : (set : Settings) (e : SenderEvent) (lent : ℕ) (κ : Session) → goes (set .own) e lent (κ .fop) ≡ true → Inv set (core.sender set e lent κ)
-    → Reads ((work (set .own) e (κ .fop)) .frames)
-unfolding core.sender core.answered
-reads-of set e lent κ b J =
-    let τ : Session = core.answered (set .n) (work (set .own) e (κ .fop)) κ in
-    let K : Inv set (core.answered (set .n) (work (set .own) e (κ .fop)) κ) = rw b at J in
-    reads-last (κ .frames) ((work (set .own) e (κ .fop)) .frames)
-    (fly-reads (set .n) (set .k) (τ .sent) (K .base .num) (length (τ .accepted)) (length (τ .accepted)) (τ .frames) (K .base .fly))
 
 -- the table machines are ends of this kind
 abbrev pub tables-tied : (set : Settings) → Tied set (tables set)

@@ -12,9 +12,9 @@ use Rattle.fop.specs.Table.{SetVs, SetNnr, SetK, SetT1Initial, SetTransmissionL
 use Rattle.fop.specs.Variables.{Fop}
 use Rattle.fop.specs.Variables.{begin}
 use Rattle.fop.specs.Machine.{performCell, fopDo}
-use Rattle.fop.specs.Events.{when, first, expiryLines, Seen, wordLines, wordEvent, Lower, lowerEvent}
+use Rattle.fop.specs.Events.{when, first, Seen, wordLines, wordEvent, Lower, lowerEvent}
 use Rattle.session.proofs.Choices.{and-l, and-r}
-use Rattle.session.proofs.Test.{first-all, lower-all, expiry-all}
+use Rattle.session.proofs.Test.{first-all, lower-all}
 use Rattle.session.proofs.Values.{Mode, live, dead, bad, Given, word, unit, nothing}
 
 -- what an action does to the mode; bad: the invariant does not cover it
@@ -151,10 +151,10 @@ pub lower-ok : (l : Lower) → T (rowOk nothing (lowerEvent l))
 unfolding table78
 lower-ok = lower-all (rowOk nothing) tt
 
--- the timer expires, at Timeout_Type 0
-pub timer-ok : (c d : Bool) → d ≡ true → T (rowOk nothing (first (expiryLines c d) FopEvent.E18))
+-- the expiry of the timer, at Timeout_Type 0
+pub timer-ok : T (rowOk nothing FopEvent.E16 && rowOk nothing FopEvent.E17)
 unfolding table78
-timer-ok = expiry-all (rowOk nothing) tt
+timer-ok = tt
 
 pub ad-ok : (c : Bool) → T (rowOk unit (first (when c FopEvent.E19 ∷ []) FopEvent.E20))
 unfolding table78

@@ -5,7 +5,7 @@ use mathlib.Core.Bool.{Bool, true, false, _||_}
 use mathlib.Core.List.{List, [], _∷_, _++_}
 use mathlib.Core.Option.{Option, none, some}
 use Prim.Native.Nat.{ℕ}
-use lib.Dec.{ltb, eqb, T}
+use lib.Dec.{eqb, T}
 use Rattle.fop.specs.Units.{Frame, AD, BD, Unlock, SetVR, Refused, Word}
 use Rattle.fop.specs.Table.{State, Action, Cell, cell, ifNotSuspended, NotApplicable, FopEvent, table78, cell78, Ignore, Accept, Reject, Confirm}
 use Rattle.fop.specs.Table.{RejectAd, AcceptBd, RejectBd, AddToWaitQueue, LookForFdu, LookForDirective, RemoveAcknowledgedFrames, InitiateAdRetransmission}
@@ -13,10 +13,9 @@ use Rattle.fop.specs.Table.{InitiateBcRetransmission, ReleaseBcFrame, CancelTim
 use Rattle.fop.specs.Table.{Suspend, Resume, SetVs, SetNnr, SetK, SetT1Initial, SetTransmissionLimit, SetTimeoutType, AdOutReady, BcOutReady, BdOutReady}
 use Rattle.fop.specs.Variables.{Fop, Work, begin}
 use Rattle.fop.specs.Machine.{perform, performAll, performCell, removeAcknowledged, transmitBc, fopDo}
-use Rattle.fop.specs.Events.{when, wordLines, wordEvent, seen, fopWord, fopAd, fopBd, isEmpty, fopExpiry, fopTick, fopLower, Lower, fopDirective, directiveEvent}
+use Rattle.fop.specs.Events.{when, wordLines, wordEvent, seen, fopWord, fopAd, fopBd, isEmpty, fopTick, fopLower, Lower, fopDirective, directiveEvent}
 use Rattle.session.specs.Claims.{serves}
-use Rattle.session.proofs.Choices.{by-pick}
-use Rattle.session.proofs.Test.{first-all, lower-all, expiry-all, Keeps, allKeep, all-keep}
+use Rattle.session.proofs.Test.{first-all, lower-all, lowered, tick-ways, Keeps, allKeep, all-keep}
 use Rattle.session.proofs.Rows.{atAll, at-cell, modeOf, sound}
 use Rattle.session.proofs.Few.{purge-few}
 
@@ -102,11 +101,8 @@ do-shut e o v f t g = cell-shut (f .state) (cell78 (table78 e) (f .state)) (begi
 -- of a sender in a state of the session, at Timeout_Type 0
 module _ (f : Fop) (g : T (sound (modeOf (f .state)))) where
   pub tick-shut : eqb (f .preset .timeoutType) 0 ≡ true → Shut (fopTick f)
-  unfolding fopTick fopExpiry table78 blind
-  tick-shut z =
-      by-pick Shut (eqb (f .clock .timer) 1)
-      (λ t. do-shut _ [] 0 _ (expiry-all rowShuts tt (ltb (f .clock .transmissionCount) (f .preset .transmissionLimit)) (eqb (f .preset .timeoutType) 0) z) g)
-      (λ t. inl tt)
+  unfolding table78 blind
+  tick-shut z = tick-ways rowShuts tt Shut f z (λ e t. do-shut e [] 0 (lowered f) t g) (inl tt)
 
   pub lower-shut : (l : Lower) → Shut (fopLower l f)
   unfolding fopLower table78 blind

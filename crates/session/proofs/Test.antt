@@ -5,11 +5,12 @@ use mathlib.Core.Path.{_≡_}
 use mathlib.Core.Bool.{Bool, true, false, _&&_, false≢true}
 use mathlib.Core.List.{List, [], _∷_}
 use mathlib.Core.Option.{Option, none, some}
-use lib.Dec.{T}
+use Prim.Native.Nat.{_-_}
+use lib.Dec.{T, ltb, eqb}
 use Rattle.fop.specs.Table.{State, S1, S2, S3, S4, S5, S6, Action, Cell, Row, row, cell78, FopEvent, E16, E17, E18, E41, E42, E43, E44, E45, E46}
-use Rattle.fop.specs.Variables.{Work}
-use Rattle.fop.specs.Machine.{perform, performAll}
-use Rattle.fop.specs.Events.{Line, when, first, expiryLines, Lower, lowerEvent}
+use Rattle.fop.specs.Variables.{Fop, Work, begin, setClock}
+use Rattle.fop.specs.Machine.{perform, performAll, fopDo}
+use Rattle.fop.specs.Events.{Line, when, first, expiryLines, fopExpiry, fopTick, Lower, lowerEvent}
 use Rattle.session.proofs.Choices.{and-l, and-r, by-pick}
 
 -- every cell of a row
@@ -49,10 +50,22 @@ lower-all t h Lower.bdAccept = and-l (t E45) _ (and-r (t E44) _ (and-r (t E43) _
 lower-all t h Lower.bdReject = and-r (t E45) _ (and-r (t E44) _ (and-r (t E43) _ (and-r (t E42) _ (and-r (t E41) _ h))))
 
 -- the expiry of the timer, at Timeout_Type 0
-pub expiry-all : (t : FopEvent → Bool) → T (t E16 && t E17) → (short alerting : Bool) → alerting ≡ true → T (t (first (expiryLines short alerting) E18))
+expiry-all : (t : FopEvent → Bool) → T (t E16 && t E17) → (short alerting : Bool) → alerting ≡ true → T (t (first (expiryLines short alerting) E18))
 expiry-all t h true true e = and-l (t E16) _ h
 expiry-all t h false true e = and-r (t E16) _ h
 expiry-all t h short false e = absurd (false≢true e)
+
+-- a tick: the timer is lowered, and with Timeout_Type 0 its expiry is E16 or E17
+abbrev pub lowered : Fop → Fop
+lowered f = setClock (f .clock .timer - 1) (f .clock .transmissionCount) f
+
+pub tick-ways : (t : FopEvent → Bool) → T (t E16 && t E17) → (P : Work → Type 0) (f : Fop) → eqb (f .preset .timeoutType) 0 ≡ true
+    → ((e : FopEvent) → T (t e) → P (fopDo e [] 0 (lowered f))) → P (begin none [] 0 (lowered f)) → P (fopTick f)
+unfolding fopTick fopExpiry
+tick-ways t h P f alerting expires passes =
+    by-pick P (eqb (f .clock .timer) 1)
+    (λ b. expires _ (expiry-all t h (ltb (f .clock .transmissionCount) (f .preset .transmissionLimit)) (eqb (f .preset .timeoutType) 0) alerting))
+    (λ b. passes)
 
 -- A property that actions keep.
 abbrev pub Keeps : (Work → Type 0) → Action → Type 0

@@ -1,11 +1,11 @@
 -- Every event keeps the flags' invariant.
 use mathlib.Core.Path.{_≡_, refl, ap, _∙_}
-use mathlib.Core.Bool.{Bool, true, false, not}
+use mathlib.Core.Bool.{Bool, true, false, not, _&&_}
 use mathlib.Core.List.{List, [], _∷_, _++_}
 use mathlib.Core.Option.{none, some}
-use Prim.Native.Nat.{ℕ, _+_, _-_, _*_, _≤_, _<_}
+use Prim.Native.Nat.{ℕ, _+_, _*_, _≤_, _<_}
 use native.Mathlib.Omega.{arith}
-use lib.Dec.{leb, ltb, eqb, T, leb→le}
+use lib.Dec.{leb, eqb, T, leb→le}
 use lib.ListN.{length, length-append}
 use Rattle.base.specs.Choice.{pick}
 use Rattle.base.specs.Modulo.{advanced}
@@ -13,28 +13,26 @@ use Rattle.fop.specs.Units.{Fdu, Frame, AD, BD, Unlock, SetVR, Refused, Word, w
 use Rattle.fop.specs.Table.{State, Cell, cell, NotApplicable, FopEvent, table78, cell78}
 use Rattle.fop.specs.Variables.{Work, begin}
 use Rattle.fop.specs.Machine.{fopDo, performCell, performAll, perform}
-use Rattle.fop.specs.Variables.{setClock}
-use Rattle.fop.specs.Events.{Seen, seen, wordEvent, fopWord, fopTick, fopExpiry, fopAd, fopBd, fopLower, fopDirective, directiveEvent}
+use Rattle.fop.specs.Events.{Seen, seen, wordEvent, fopWord, fopTick, fopAd, fopBd, fopLower, fopDirective, directiveEvent}
 use Rattle.fop.specs.Events.{when, first, Lower, lowerEvent, isEmpty, SenderEvent, requestAd, requestBd, lower, directive, wordArrives, work}
 use Rattle.fop.specs.Answers.{judged}
 use Rattle.session.specs.Ends.{Settings, Within, startSender, startReceiver}
 use Rattle.session.specs.Session.{Event, adRequest, bdRequest, ticks, lowerSays, terminate, wordIn, wordLost, wordMade, frameIn, frameLost, release, places}
 use Rattle.session.specs.Session.{rest, addSent}
 use Rattle.fop.specs.Events as fop
-use Rattle.session.proofs.Choices.{by-pick, never}
-use Rattle.session.proofs.Test.{first-all, lower-all, expiry-all}
+use Rattle.session.proofs.Choices.{by-pick, never, and-l, and-r}
+use Rattle.session.proofs.Test.{first-all, lower-all, lowered, tick-ways}
 use Rattle.session.proofs.Core.{Session, addAll, firstOf, answered, sender, goes, channels, wordCome, frameCome, receiver, taken, step, stepWith}
 use Rattle.session.proofs.Core.{releases, frameEvent, isHanded, free, isHeld}
 use Rattle.session.proofs.Chan.{Fly, Wds}
 use Rattle.session.proofs.Values.{Given, word, unit, nothing, Reports}
-use Rattle.session.proofs.Rows.{modeOf, sound, atAll, at-cell, rowOk, word-ok, timer-ok, ad-ok, bd-ok, lower-ok, terminate-ok}
-use Rattle.session.proofs.Inv.{Inv, alerting, is-sound, isLocked, row-bound, withFop, timed, fit, hears, legal-of}
+use Rattle.session.proofs.Rows.{modeOf, sound, atAll, at-cell, rowOk, word-ok, ad-ok, bd-ok, lower-ok, terminate-ok}
+use Rattle.session.proofs.Inv.{Inv, alerting, in-mode, isLocked, row-bound, withFop, timed, fit, hears, legal-of}
 use Rattle.session.proofs.Receiver.{ad-cases, begun, at}
 use Rattle.session.proofs.Clear.{length-places}
 use Rattle.session.proofs.Keys.{bit, bit-le, rank, rank-le, floor, waits, Keys, keys-le, keys-mono, keys-add, Tidy}
 use Rattle.session.proofs.Every.{implies, implied, everySeen, seen-at}
 use Rattle.fop.specs.Table.{ifNotSuspended}
-use Rattle.fop.specs.Events.{expiryLines}
 use Rattle.farm.specs.Table as t79
 use Rattle.farm.specs.Table.{stepOf}
 use Rattle.farm.specs.Receiver.{unitOf}
@@ -83,9 +81,12 @@ word-forward : (x : Seen) → x .retransmit ≡ false → T (atAll forward (tabl
 word-forward x r = implied (not (x .retransmit)) _ (seen-at forwardAt x forward-all) (rw r)
 
 -- the table's rows that no word brings
-timer-holds : (c d : Bool) → d ≡ true → T (rowHolds (first (expiryLines c d) FopEvent.E18))
+abbrev timerRow : FopEvent → Bool
+timerRow e = rowOk nothing e && rowHolds e
+
+timer-holds : T (timerRow FopEvent.E16 && timerRow FopEvent.E17)
 unfolding table78
-timer-holds = expiry-all rowHolds tt
+timer-holds = tt
 
 ad-holds : (c : Bool) → T (rowHolds (first (when c FopEvent.E19 ∷ []) FopEvent.E20))
 unfolding table78
@@ -143,9 +144,8 @@ plain-tidy : (set : Settings) (σ : Session) (given : Given) (e : FopEvent) (o :
     → Tidy (set .n) (answered (set .n) (fopDo e o 0 (σ .fop)) (channels (σ .frames) (σ .words) σ))
 unfolding fopDo
 plain-tidy set σ given e o I t ok h r =
-    let g : T (sound (modeOf (σ .fop .state))) = is-sound (modeOf (σ .fop .state)) (set .n) _ _ _ _ _ _ (I .side) in
     let rk : rank ((fopDo e o 0 (σ .fop)) .fop .state) ≤ rank (σ .fop .state) =
-    holds-next (cell78 (table78 e) (σ .fop .state)) (begin (some e) o 0 (σ .fop)) (at-cell holds (table78 e) (σ .fop .state) h g) in
+    holds-next (cell78 (table78 e) (σ .fop .state)) (begin (some e) o 0 (σ .fop)) (at-cell holds (table78 e) (σ .fop .state) h (in-mode set σ I)) in
     let cb = row-bound set σ given (length (σ .confirmed)) e o 0 I ok (omega arith) r in
     tidy-answered (set .n) σ (σ .words) (fopDo e o 0 (σ .fop)) (floor (σ .fop .state) (length (σ .confirmed))) t (t .keys) (omega (arith, rk, cb)) (t .below)
 
@@ -156,17 +156,13 @@ sender-tidy set e lent σ t h =
     by-pick (Tidy (set .n)) (goes (set .own) e lent (σ .fop)) (λ b. h (fit (set .own) e lent (σ .fop) b .0)) (λ b. t)
 
 tick-tidy : (set : Settings) (σ : Session) → Inv set σ → Tidy (set .n) σ → Tidy (set .n) (answered (set .n) (fopTick (σ .fop)) σ)
-unfolding fopTick fopExpiry answered channels
+unfolding answered channels
 tick-tidy set σ I t =
-    let τ : Session = withFop (setClock (σ .fop .clock .timer - 1) (σ .fop .clock .transmissionCount) (σ .fop)) σ in
-    let c : Bool = ltb (σ .fop .clock .transmissionCount) (σ .fop .preset .transmissionLimit) in
+    let τ : Session = withFop (lowered (σ .fop)) σ in
     let t' : Tidy (set .n) τ = record { keys = t .keys; waitFlag = t .waitFlag; waitMissing = t .waitMissing; missing = t .missing; below = t .below } in
-    by-pick (λ (w : Work). Tidy (set .n) (answered (set .n) w σ)) (eqb (σ .fop .clock .timer) 1) {x = fopExpiry (τ .fop)} {y = begin none [] 0 (τ .fop)}
-    (λ b. plain-tidy set τ nothing (first (expiryLines (ltb (σ .fop .clock .transmissionCount) (σ .fop .preset .transmissionLimit))
-    (eqb (σ .fop .preset .timeoutType) 0)) FopEvent.E18) [] (timed set _ _ σ I) t'
-    (timer-ok (ltb (σ .fop .clock .transmissionCount) (σ .fop .preset .transmissionLimit)) (eqb (σ .fop .preset .timeoutType) 0) (alerting set σ I))
-    (timer-holds (ltb (σ .fop .clock .transmissionCount) (σ .fop .preset .transmissionLimit)) (eqb (σ .fop .preset .timeoutType) 0) (alerting set σ I)) tt)
-    (λ b. tidy-answered (set .n) τ (σ .words) (begin none [] 0 (τ .fop)) (floor (σ .fop .state) (length (σ .confirmed))) t' (t .keys) (omega arith) (t .below))
+    tick-ways timerRow timer-holds (λ w. Tidy (set .n) (answered (set .n) w σ)) (σ .fop) (alerting set σ I)
+    (λ e h. plain-tidy set τ nothing e [] (timed set _ _ σ I) t' (and-l (rowOk nothing e) _ h) (and-r (rowOk nothing e) _ h) tt)
+    (tidy-answered (set .n) τ (σ .words) (begin none [] 0 (τ .fop)) (floor (σ .fop .state) (length (σ .confirmed))) t' (t .keys) (omega arith) (t .below))
 
 words-tidy : (n : ℕ) (σ : Session) (fs : List Frame) (ws : List Word) → Tidy n σ
     → Keys n (length (σ .sent)) (floor (σ .fop .state) (length (σ .confirmed))) (2 * length (σ .accepted) + bit (σ .farm .retransmit)) ws
@@ -186,12 +182,11 @@ word-tidy set vw lent σ (w ∷ ws) I t h k =
     let b2 = bit-le (σ .farm .retransmit) in
     let ca : length (σ .confirmed) ≤ k .0 = omega (arith, k .2, b1) in
     let al : k .0 ≤ length (σ .accepted) = omega (arith, keys-le (set .n) _ _ _ ws (k .6), b2) in
-    let g : T (sound (modeOf (σ .fop .state))) = is-sound (modeOf (σ .fop .state)) (set .n) _ _ _ _ _ _ (I .side) in
     let cb = row-bound set σ word (k .0) (wordEvent (seen w (σ .fop))) [] (w .nr) I (word-ok (seen w (σ .fop))) ca (k .1, al) in
     sender-tidy set (wordArrives (wordOctets (set .own) w)) lent (channels (σ .frames) ws σ)
     (words-tidy (set .n) σ (σ .frames) ws t (keys-mono (set .n) _ _ _ _ _ _ ws (omega arith) (k .2) (omega arith) (k .6)))
     (λ j. rw (hears set vw w (σ .fop) (h .3) (omega (arith, h .1)))
-    (tidy-answered (set .n) σ ws (fopWord w (σ .fop)) (2 * k .0 + bit (w .retransmit)) t (k .6) (low g (w .retransmit) refl cb) (omega (arith, k .5))))
+    (tidy-answered (set .n) σ ws (fopWord w (σ .fop)) (2 * k .0 + bit (w .retransmit)) t (k .6) (low (in-mode set σ I) (w .retransmit) refl cb) (omega (arith, k .5))))
   where
     low : T (sound (modeOf (σ .fop .state))) → (b : Bool) → w .retransmit ≡ b → length (σ .confirmed) + length ((fopWord w (σ .fop)) .confirmed) ≤ k .0
         → floor ((fopWord w (σ .fop)) .fop .state) (length (σ .confirmed) + length ((fopWord w (σ .fop)) .confirmed)) ≤ 2 * k .0 + bit (w .retransmit)
