@@ -23,46 +23,6 @@ use Rattle.session.proofs.Choices.{by-pick, and-l, and-r}
 use Rattle.session.proofs.Ways.{look-ways, directive-ways, purge-ways}
 use Rattle.session.proofs.Test.{everyCell, every-cell, first-all, lower-all}
 
--- the frames that an action can hand down
-abbrev sends : Action → ℕ
-sends Accept = 0
-sends Reject = 0
-sends Confirm = 0
-sends RejectAd = 0
-sends AcceptBd = 0
-sends RejectBd = 0
-sends Ignore = 0
-sends (SetSuspendState s) = 0
-sends Suspend = 0
-sends Resume = 0
-sends AddToWaitQueue = 0
-sends LookForFdu = 1
-sends LookForDirective = 1
-sends RemoveAcknowledgedFrames = 0
-sends InitiateAdRetransmission = 0
-sends InitiateBcRetransmission = 0
-sends ReleaseBcFrame = 0
-sends CancelTimer = 0
-sends StartTimer = 0
-sends (Alert r) = 0
-sends Initialise = 0
-sends TransmitUnlock = 1
-sends TransmitSetVr = 1
-sends TransmitBd = 1
-sends SetVs = 0
-sends SetNnr = 0
-sends SetK = 0
-sends SetT1Initial = 0
-sends SetTransmissionLimit = 0
-sends SetTimeoutType = 0
-sends AdOutReady = 0
-sends BcOutReady = 0
-sends BdOutReady = 0
-
-abbrev sendsAll : List Action → ℕ
-sendsAll [] = 0
-sendsAll (x ∷ xs) = sends x + sendsAll xs
-
 abbrev Most : ℕ → Work → Type 0
 Most k w = length (w .frames) ≤ k
 
@@ -76,46 +36,51 @@ look-few w = look-ways (Most (length (w .frames) + 1)) w (omega arith) (λ u e. 
 pub purge-few : (w : Work) → (purge w) .frames ≡ w .frames
 purge-few w = purge-ways (λ v. v .frames ≡ w .frames) w refl (λ r v k. k)
 
-act-few : (x : Action) (w : Work) → Most (length (w .frames) + sends x) (perform x w)
+-- the frames that an action can hand down, at most, with the proof
+unfoldable sends : (x : Action) → (k : ℕ) × ((w : Work) → Most (length (w .frames) + k) (perform x w))
 unfolding perform removeAcknowledged transmitBc
-act-few Accept w = omega arith
-act-few Reject w = omega arith
-act-few Confirm w = omega arith
-act-few RejectAd w = omega arith
-act-few AcceptBd w = omega arith
-act-few RejectBd w = omega arith
-act-few Ignore w = omega arith
-act-few (SetSuspendState s) w = omega arith
-act-few Suspend w = omega arith
-act-few Resume w = omega arith
-act-few AddToWaitQueue w = omega arith
-act-few LookForFdu w = look-few w
-act-few LookForDirective w = directive-ways (Most (length (w .frames) + 1)) w (omega arith) (λ b. one-more w (b .frame)) (w .fop .bcFrame)
-act-few RemoveAcknowledgedFrames w = omega arith
-act-few InitiateAdRetransmission w = omega arith
-act-few InitiateBcRetransmission w = omega arith
-act-few ReleaseBcFrame w = omega arith
-act-few CancelTimer w = omega arith
-act-few StartTimer w = omega arith
-act-few (Alert r) w = omega (arith, ap length (purge-few w))
-act-few Initialise w = omega (arith, ap length (purge-few w))
-act-few TransmitUnlock w = one-more w _
-act-few TransmitSetVr w = one-more w _
-act-few TransmitBd w = one-more w _
-act-few SetVs w = omega arith
-act-few SetNnr w = omega arith
-act-few SetK w = omega arith
-act-few SetT1Initial w = omega arith
-act-few SetTransmissionLimit w = omega arith
-act-few SetTimeoutType w = omega arith
-act-few AdOutReady w = omega arith
-act-few BcOutReady w = omega arith
-act-few BdOutReady w = omega arith
+sends Accept = (0, λ w. omega arith)
+sends Reject = (0, λ w. omega arith)
+sends Confirm = (0, λ w. omega arith)
+sends RejectAd = (0, λ w. omega arith)
+sends AcceptBd = (0, λ w. omega arith)
+sends RejectBd = (0, λ w. omega arith)
+sends Ignore = (0, λ w. omega arith)
+sends (SetSuspendState s) = (0, λ w. omega arith)
+sends Suspend = (0, λ w. omega arith)
+sends Resume = (0, λ w. omega arith)
+sends AddToWaitQueue = (0, λ w. omega arith)
+sends LookForFdu = (1, look-few)
+sends LookForDirective = (1, λ w. directive-ways (Most (length (w .frames) + 1)) w (omega arith) (λ b. one-more w (b .frame)) (w .fop .bcFrame))
+sends RemoveAcknowledgedFrames = (0, λ w. omega arith)
+sends InitiateAdRetransmission = (0, λ w. omega arith)
+sends InitiateBcRetransmission = (0, λ w. omega arith)
+sends ReleaseBcFrame = (0, λ w. omega arith)
+sends CancelTimer = (0, λ w. omega arith)
+sends StartTimer = (0, λ w. omega arith)
+sends (Alert r) = (0, λ w. omega (arith, ap length (purge-few w)))
+sends Initialise = (0, λ w. omega (arith, ap length (purge-few w)))
+sends TransmitUnlock = (1, λ w. one-more w _)
+sends TransmitSetVr = (1, λ w. one-more w _)
+sends TransmitBd = (1, λ w. one-more w _)
+sends SetVs = (0, λ w. omega arith)
+sends SetNnr = (0, λ w. omega arith)
+sends SetK = (0, λ w. omega arith)
+sends SetT1Initial = (0, λ w. omega arith)
+sends SetTransmissionLimit = (0, λ w. omega arith)
+sends SetTimeoutType = (0, λ w. omega arith)
+sends AdOutReady = (0, λ w. omega arith)
+sends BcOutReady = (0, λ w. omega arith)
+sends BdOutReady = (0, λ w. omega arith)
+
+abbrev sendsAll : List Action → ℕ
+sendsAll [] = 0
+sendsAll (x ∷ xs) = sends x .0 + sendsAll xs
 
 all-few : (xs : List Action) (w : Work) → Most (length (w .frames) + sendsAll xs) (performAll xs w)
 unfolding performAll
 all-few [] w = omega arith
-all-few (x ∷ xs) w = omega (arith, act-few x w, all-few xs (perform x w))
+all-few (x ∷ xs) w = omega (arith, sends x .1 w, all-few xs (perform x w))
 
 -- no cell of the table hands down more than one
 abbrev cellFew : Cell → Bool
@@ -140,7 +105,7 @@ unfolding fopDo
 do-few e o v f t = done-few (cell78 (table78 e) (f .state)) (begin (some e) o v f) (every-cell cellFew (table78 e) (f .state) t) refl
 
 tick-few : (f : Fop) → Most 1 (fopTick f)
-unfolding fopTick fopExpiry table78
+unfolding fopTick fopExpiry table78 sends
 tick-few f =
     by-pick (Most 1) (eqb (f .clock .timer) 1)
     (λ t. do-few _ [] 0 _ (first-all rowFew (expiryLines (ltb (f .clock .transmissionCount) (f .preset .transmissionLimit))
@@ -148,25 +113,25 @@ tick-few f =
     (λ t. omega arith)
 
 lower-few : (l : Lower) (f : Fop) → Most 1 (fopLower l f)
-unfolding fopLower table78
+unfolding fopLower table78 sends
 lower-few l f = do-few _ [] 0 f (lower-all rowFew tt l)
 
 heard-few : (h : Heard) (f : Fop) → Most 1 (fopHeard h f)
-unfolding fopHeard fopWord wordEvent table78
+unfolding fopHeard fopWord wordEvent table78 sends
 heard-few (valid w) f = do-few _ [] (w .nr) f (first-all rowFew (wordLines (seen w f)) FopEvent.E103 tt)
 heard-few invalid f = do-few _ [] 0 f tt
 heard-few (other r) f = omega arith
 
 ad-few : (o : List ℕ) (f : Fop) → Most 1 (fopAd o f)
-unfolding fopAd table78
+unfolding fopAd table78 sends
 ad-few o f = do-few _ o 0 f (first-all rowFew (when (isEmpty (f .waitQueue)) FopEvent.E19 ∷ []) FopEvent.E20 tt)
 
 bd-few : (o : List ℕ) (f : Fop) → Most 1 (fopBd o f)
-unfolding fopBd table78
+unfolding fopBd table78 sends
 bd-few o f = do-few _ o 0 f (first-all rowFew (when (f .out .bd) FopEvent.E21 ∷ []) FopEvent.E22 tt)
 
 directive-few : (d v : ℕ) (f : Fop) → Most 1 (fopDirective d v f)
-unfolding fopDirective directiveEvent table78
+unfolding fopDirective directiveEvent table78 sends
 directive-few d v f = do-few _ [] v f (first-all rowFew (directiveLines d v f) FopEvent.E39 tt)
 
 pub work-few : (own : Own) (e : SenderEvent) (f : Fop) → length ((work own e f) .frames) ≤ 1
