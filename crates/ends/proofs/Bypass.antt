@@ -27,6 +27,7 @@ use Rattle.fop_actions.specs.View.{stateOf}
 use Rattle.fop_rows.specs.Rows.{done, doneAll, doneCell, rowOf}
 use Rattle.fop_events.specs.Events.{eventNumber}
 use Rattle.fop_view.proofs.Allowed.{every, every-in}
+use Rattle.session.proofs.Choices.{by-pick}
 use Rattle.session.proofs.Test.{isThere}
 
 -- a type-BD frame is handed down
@@ -43,49 +44,46 @@ Unbypassed w = bypasses (w .told .handed) ≡ false
 
 -- The actions that test before they act.
 module _ (w : Work) (h : Unbypassed w) where
-  looked : bypasses (act.lookForFdu w .told .handed) ≡ false
+  looked : Unbypassed (act.lookForFdu w)
   unfolding act.lookForFdu act.sendMarked act.transmitAdFrame act.respond act.startTimer act.handDown withVariables withQueues withTold
   looked = by (w .variables .«ad_out») (ltb 0 (w .queues .marked)) (w .queues .waiting) (act.inWindow w) where
     by : (a m i r : Bool)
-        → bypasses ((pick a (pick m (act.sendMarked w) (pick i (pick r (act.transmitAdFrame (act.respond response.AcceptAdUnit w)) w) w)) w) .told .handed) ≡ false
+        → Unbypassed (pick a (pick m (act.sendMarked w) (pick i (pick r (act.transmitAdFrame (act.respond response.AcceptAdUnit w)) w) w)) w)
     by false m i r = h
     by true true i r = refl
     by true false true true = refl
     by true false true false = h
     by true false false r = h
 
-  controlled : (x : Handed) → bypasses x ≡ false → bypasses (act.sendMarkedControl x w .told .handed) ≡ false
+  controlled : (x : Handed) → bypasses x ≡ false → Unbypassed (act.sendMarkedControl x w)
   unfolding act.sendMarkedControl act.sendControl act.handDown act.holdControl withVariables withQueues withTold
   controlled x k = by (w .variables .«bc_out») (w .queues .«control_marked») where
-    by : (a m : Bool) → bypasses ((pick a (pick m (act.sendControl x w) w) w) .told .handed) ≡ false
+    by : (a m : Bool) → Unbypassed (pick a (pick m (act.sendControl x w) w) w)
     by true true = k
     by true false = h
     by false m = h
 
-  directed : (c : Control) → bypasses (act.lookForDirectiveOf c w .told .handed) ≡ false
+  directed : (c : Control) → Unbypassed (act.lookForDirectiveOf c w)
   unfolding act.lookForDirectiveOf
   directed control.None = h
   directed control.Unlock = controlled handed.Unlock refl
   directed (control.SetVr n) = controlled (handed.SetVr n) refl
 
-  denied : (c : Control) → bypasses (act.denyControl c (act.emptied w) .told .handed) ≡ false
+  denied : (c : Control) → Unbypassed (act.denyControl c (act.emptied w))
   unfolding act.denyControl act.respond act.emptied act.releaseBcFrame act.holdControl withQueues withTold
   denied control.None = h
   denied control.Unlock = h
   denied (control.SetVr n) = h
 
-  sent-purged : bypasses (act.purgeSentQueue w .told .handed) ≡ false
+  sent-purged : Unbypassed (act.purgeSentQueue w)
   unfolding act.purgeSentQueue
   sent-purged = denied (w .queues .control)
 
-  wait-purged : bypasses (act.purgeWaitQueue w .told .handed) ≡ false
+  wait-purged : Unbypassed (act.purgeWaitQueue w)
   unfolding act.purgeWaitQueue act.notWaiting act.respond withQueues withTold
-  wait-purged = by (w .queues .waiting) where
-    by : (b : Bool) → bypasses ((pick b (act.respond response.RejectAdUnit (act.notWaiting w)) w) .told .handed) ≡ false
-    by true = h
-    by false = h
+  wait-purged = by-pick Unbypassed (w .queues .waiting) (λ b. h) (λ b. h)
 
-purged : (w : Work) → Unbypassed w → bypasses (act.purgeWaitQueue (act.purgeSentQueue w) .told .handed) ≡ false
+purged : (w : Work) → Unbypassed w → Unbypassed (act.purgeWaitQueue (act.purgeSentQueue w))
 purged w h = wait-purged (act.purgeSentQueue w) (sent-purged w h)
 
 -- any action but Transmit type-BD frame, each with the proof that it hands no type-BD frame down
@@ -145,14 +143,13 @@ all (a ∷ more) n l w t h =
     one none t = absurd (apart t)
     one (some k) t = k n l w h
 
-in-cell : (c : Cell) (n l : ℕ) (w : Work) → otherCell c ≡ true → Unbypassed w → bypasses (doneCell c n l w .told .handed) ≡ false
+in-cell : (c : Cell) (n l : ℕ) (w : Work) → otherCell c ≡ true → Unbypassed w → Unbypassed (doneCell c n l w)
 unfolding doneCell act.toState
 in-cell NotApplicable n l w t h = h
 in-cell (cell acts s) n l w t h = all acts n l w t h
-in-cell (ifNotSuspended acts more s) n l w t h = by (eqb (w .variables .«suspend_state») 0) where
-  by : (b : Bool) → bypasses ((pick b (doneAll acts n l w) (doneAll more n l w)) .told .handed) ≡ false
-  by true = all acts n l w (both-left (others acts) (others more) t) h
-  by false = all more n l w (both-right (others acts) (others more) t) h
+in-cell (ifNotSuspended acts more s) n l w t h =
+    by-pick Unbypassed (eqb (w .variables .«suspend_state») 0) (λ b. all acts n l w (both-left (others acts) (others more) t) h)
+    (λ b. all more n l w (both-right (others acts) (others more) t) h)
 
 -- the rows
 rows : (e : FopEvent) → eqb (eventNumber e) 21 ≡ false → every (λ x. otherCell (cell78 (table78 e) (stateOf x))) ≡ true
@@ -208,6 +205,6 @@ rows E102 t = refl
 rows E103 t = refl
 rows E104 t = refl
 
-pub no-bypass : (e : FopEvent) (n l : ℕ) (s : Sender) → eqb (eventNumber e) 21 ≡ false → bypasses (rowOf e n l (begun s) .told .handed) ≡ false
+pub no-bypass : (e : FopEvent) (n l : ℕ) (s : Sender) → eqb (eventNumber e) 21 ≡ false → Unbypassed (rowOf e n l (begun s))
 unfolding rowOf begun noneTold
 no-bypass e n l s t = in-cell (cell78 (table78 e) (stateOf (s .state))) n l (begun s) (every-in (λ x. otherCell (cell78 (table78 e) (stateOf x))) (rows e t) (s .state)) refl
