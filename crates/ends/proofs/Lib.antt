@@ -9,6 +9,7 @@ pub mod Served
 pub mod Requested
 pub mod Events
 pub mod Theorem
+pub mod Example
 pub mod Steps
 pub mod Refused
 pub mod Output
