@@ -1,4 +1,4 @@
--- Which alerts the cells of table 7-8 can give.
+-- Which alerts the cells of table 7-8 can give: none but those of their own Alert actions, by a computed test of each cell.
 use mathlib.Core.Logic.{_⊎_, inl, inr}
 use mathlib.Core.Path.{_≡_, refl}
 use mathlib.Core.Bool.{Bool, true, false}

@@ -72,10 +72,6 @@ clear-is w f s a b c e p =
     )
     (clear-cell (begin (some FopEvent.E2) [] (w .nr) f) (f .state) s)
 
-length-fdus : (q : List Entry) → length (fdus q) ≡ length q
-length-fdus [] = refl
-length-fdus (e ∷ q) = ap suc (length-fdus q)
-
 cleared-conf : (w : Word) (f : Fop) → (cleared w f) .confirmed ≡ acknowledged (f .nnr) (w .nr) (f .sentQueue)
 unfolding cleared perform removeAcknowledged began
 cleared-conf w f = refl

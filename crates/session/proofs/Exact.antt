@@ -1,4 +1,5 @@
--- A control word that reaches a sender in service makes the count of confirmed units what it reports.
+-- A control word that reaches a sender in service makes the count of confirmed units what it reports: no more is confirmed (Inv); no less,
+-- since by a computed test the cell that it meets first removes acknowledged frames, and no action takes a confirmed unit back.
 use mathlib.Core.Path.{_≡_, refl, ap, _∙_}
 use mathlib.Core.Bool.{Bool, true, false, not, false≢true}
 use mathlib.Core.List.{List, [], _∷_}

@@ -1,4 +1,5 @@
--- An event hands down at most one frame.
+-- An event hands down at most one frame: each action has a count with its proof, and a computed test shows that the counts of every cell of
+-- table 7-8 add up to 1 at most.
 use mathlib.Core.Path.{_≡_, refl, ap}
 use mathlib.Core.Bool.{Bool, true, _&&_}
 use mathlib.Core.List.{List, [], _∷_, _++_}

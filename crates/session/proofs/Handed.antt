@@ -115,9 +115,10 @@ module _ (n : ℕ) (P : Preset) (C : ℕ) (gone : List (Option ℕ)) (acc sent0 
   purged : (w : Work) → From m0 C (addAll n sent0 (w .frames)) (w .frames) → From m0 C (addAll n sent0 ((purge w) .frames)) ((purge w) .frames)
   purged w d = rw (purge-few w) d
 
-  by-given : (x : Action) (m m' : Mode) (w v : Work) → D m v → (m' ≡ m) ⊎ (m' ≡ bad) → D m' v
-  by-given x m m' w v d (inl e) = subst (λ (y : Mode). D y v) (sym e) d
-  by-given x m m' w v d (inr e) = subst (λ (y : Mode). D y v) (sym e) tt
+  -- an action that keeps the mode, or is not covered
+  by-given : (m m' : Mode) (v : Work) → D m v → (m' ≡ m) ⊎ (m' ≡ bad) → D m' v
+  by-given m m' v d (inl e) = subst (λ (y : Mode). D y v) (sym e) d
+  by-given m m' v d (inr e) = subst (λ (y : Mode). D y v) (sym e) tt
 
   wait-mode : (g : Given) (m : Mode) → (after g AddToWaitQueue m ≡ m) ⊎ (after g AddToWaitQueue m ≡ bad)
   wait-mode word m = inr refl
@@ -148,13 +149,12 @@ module _ (n : ℕ) (P : Preset) (C : ℕ) (gone : List (Option ℕ)) (acc sent0 
   from (SetSuspendState s) m w h d = d
   from Suspend m w h d = d
   from Resume m w h d = d
-  from AddToWaitQueue m w h d = by-given AddToWaitQueue m (after given AddToWaitQueue m) w (perform AddToWaitQueue w) d (wait-mode given m)
+  from AddToWaitQueue m w h d = by-given m (after given AddToWaitQueue m) (perform AddToWaitQueue w) d (wait-mode given m)
   from LookForFdu live w h d = look-from w h d
   from LookForFdu dead w h d = tt
   from LookForFdu bad w h d = tt
   from LookForDirective m w h d = tt
-  from RemoveAcknowledgedFrames m w h d = by-given RemoveAcknowledgedFrames m (after given RemoveAcknowledgedFrames m) w
-      (perform RemoveAcknowledgedFrames w) d (remove-mode given m)
+  from RemoveAcknowledgedFrames m w h d = by-given m (after given RemoveAcknowledgedFrames m) (perform RemoveAcknowledgedFrames w) d (remove-mode given m)
   from InitiateAdRetransmission m w h d = d
   from InitiateBcRetransmission m w h d = d
   from ReleaseBcFrame m w h d = d
@@ -166,7 +166,7 @@ module _ (n : ℕ) (P : Preset) (C : ℕ) (gone : List (Option ℕ)) (acc sent0 
   from Initialise m w h d = tt
   from TransmitUnlock m w h d = tt
   from TransmitSetVr m w h d = tt
-  from TransmitBd m w h d = by-given TransmitBd m (after given TransmitBd m) w (perform TransmitBd w) (bd-from m w d) (bd-mode given m)
+  from TransmitBd m w h d = by-given m (after given TransmitBd m) (perform TransmitBd w) (bd-from m w d) (bd-mode given m)
   from SetVs m w h d = tt
   from SetNnr m w h d = tt
   from SetK m w h d = tt

@@ -38,6 +38,7 @@ use Rattle.session.proofs.Sender.{do-keeps, WInv}
 use Rattle.session.proofs.Octets.{word-back}
 use Rattle.session.proofs.Bds.{bdsOf, bd-handed}
 
+-- the sender's part of the settings
 abbrev pub presetOf : Settings → Preset
 presetOf s = record { k = s .k; transmissionLimit = s .limit; t1Initial = s .t1; timeoutType = 0 }
 
@@ -47,6 +48,7 @@ Side live n C sent gone q vs nn = Live n C gone sent [] [] q vs nn
 Side dead n C sent gone q vs nn = Dead C gone sent [] [] q
 Side bad n C sent gone q vs nn = ⊥
 
+-- the receiver is in Lockout
 abbrev pub isLocked : FarmState → Bool
 isLocked Open = false
 isLocked Wait = false
@@ -70,6 +72,7 @@ pub record Inv (set : Settings) (σ : Session) : Type 0 where
   pub receiver : Rcv set (σ .farm) (length (σ .accepted)) (length (σ .acceptedBd))
   pub bd : Sub (σ .acceptedBd ++ bdsOf (σ .frames)) (σ .sentBd)
 
+-- more places confirmed, in order
 conf-iota : (l m : List (Option ℕ)) (c : ℕ) → l ≡ iota 0 (length l) → m ≡ iota (length l) c → l ++ m ≡ iota 0 (length (l ++ m))
 conf-iota l m c e f =
     let k : length (l ++ m) ≡ length l + c = length-append l m ∙ ap (λ (x : ℕ). length l + x) (ap length f ∙ length-iota (length l) c) in
@@ -81,6 +84,7 @@ rebase : (n K C D : ℕ) (acc sent : List Fdu) (fr : List Frame) (conf : List Fd
 rebase n K C D acc sent fr conf e b =
     record { num = b .num; order = b .order; behind = b .behind; truly = omega arith; room = omega arith; small = b .small; fly = b .fly }
 
+-- what is left of Sent behind what is confirmed
 recut : (C D : ℕ) (sent conf q : List Fdu) → D ≡ C + length conf → conf ++ q ≡ drop C sent → q ≡ drop D sent
 recut C D sent conf q e c =
     sym (drop-append-seam conf q) ∙ ap (λ (l : List Fdu). drop (length conf) l) c ∙ drop-drop (length conf) C sent ∙ ap (λ (i : ℕ). drop i sent) (sym e)
@@ -94,6 +98,7 @@ enter live n P C acc sent fr gone q vs nn p given a v wt o b s l r e k = rw (app
 enter dead n P C acc sent fr gone q vs nn p given a v wt o b s l r e k = rw (append-nil fr) (b, s, omega arith, r, e, k)
 enter bad n P C acc sent fr gone q vs nn p given a v wt o b s l r e k = tt
 
+-- the mode is not bad
 pub is-sound : (m : Mode) (n C : ℕ) (sent : List Fdu) (gone : List (Option ℕ)) (q : List Fdu) (vs nn : ℕ) → Side m n C sent gone q vs nn → T (sound m)
 is-sound live n C sent gone q vs nn s = tt
 is-sound dead n C sent gone q vs nn s = tt
@@ -109,6 +114,7 @@ pub record Left (n : ℕ) (P : Preset) (C : ℕ) (acc : List Fdu) (a : ℕ) (sen
   pub isSet : p ≡ P
   pub waiting : WaitOk wt
 
+-- which the invariant of either mode gives
 pub base-of : (m : Mode) (n : ℕ) (P : Preset) (C : ℕ) (gone : List (Option ℕ)) (acc : List Fdu) (given : Given) (a : ℕ) (sent : List Fdu) (fr : List Frame)
     (conf den q : List Fdu) (vs nn : ℕ) (p : Preset) (v : ℕ) (wt : Option (List ℕ)) (o : List ℕ)
     → T (sound m) → WI n P C gone acc given a m sent fr conf den q vs nn p v wt o → Left n P C acc a sent fr conf p wt
@@ -196,6 +202,7 @@ module _ (set : Settings) (σ : Session) (I : Inv set σ) (given : Given) (a : �
       do-keeps (set .n) (presetOf set) (length (σ .confirmed)) (σ .denied) (σ .accepted) (σ .sent) (σ .frames) given a e o v (σ .fop) t
       (in-mode set σ I) (row-begins (some e))
 
+-- a row of the table keeps the invariant
 row-keeps : (set : Settings) (σ : Session) (ws : List Word) (given : Given) (a : ℕ) (e : FopEvent) (o : List ℕ) (v : ℕ) → Inv set σ
     → T (rowOk given e) → length (σ .confirmed) ≤ a → Reports given (set .n) a (length (σ .accepted)) v o → Wds (set .n) a (length (σ .accepted)) ws
     → Inv set (answered (set .n) (fopDo e o v (σ .fop)) (channels (σ .frames) ws σ))
@@ -214,6 +221,7 @@ row-bound set σ given a e o v I t l rp =
 
 -- The events of the sender, each by its rows. `work` is what the table does, whether or not the event is then refused.
 
+-- another sender
 abbrev pub withFop : Fop → Session → Session
 withFop f σ =
     record {
@@ -230,10 +238,12 @@ withFop f σ =
       acceptedBd = σ .acceptedBd;
     }
 
+-- another timer and Transmission_Count
 pub timed : (set : Settings) (t c : ℕ) (σ : Session) → Inv set σ → Inv set (withFop (setClock t c (σ .fop)) σ)
 timed set t c σ I =
     record { base = I .base; side = I .side; isSet = I .isSet; waiting = I .waiting; places = I .places; words = I .words; receiver = I .receiver; bd = I .bd }
 
+-- other words under way
 pub words-are : (set : Settings) (σ : Session) (ws : List Word) → Inv set σ → Wds (set .n) (length (σ .confirmed)) (length (σ .accepted)) ws
     → Inv set (channels (σ .frames) ws σ)
 unfolding channels
@@ -273,17 +283,21 @@ judge j need lent = first (eqb j 0) refl
     first true z t = second (leb need lent) refl z t
     first false z t = absurd (false≢true (sym z ∙ t))
 
+-- so a sender's event that goes through
 pub fit : (own : Own) (e : SenderEvent) (lent : ℕ) (f : Fop) → goes own e lent f ≡ true → (judged own e ≡ 0) × (needed own e f ≤ lent)
 unfolding senderRefusal
 fit own e lent f t = judge (judged own e) (needed own e f) lent t
 
+-- and the other way
 pub goes-is : (own : Own) (e : SenderEvent) (lent : ℕ) (f : Fop) → judged own e ≡ 0 → needed own e f ≤ lent → goes own e lent f ≡ true
 unfolding senderRefusal
 goes-is own e lent f j l = rw (j, le-leb (needed own e f) lent l)
 
+-- a request that is not refused by 10 is legal
 pub legal-of : (o : List ℕ) → _≡_ {A = ℕ} (pick (legal o) 0 10) 0 → legal o ≡ true
 legal-of o = unrefused (legal o) 9
 
+-- an event keeps the invariant where its work does
 sender-keeps : (set : Settings) (e : SenderEvent) (lent : ℕ) (σ : Session) → Inv set σ
     → (judged (set .own) e ≡ 0 → Inv set (answered (set .n) (work (set .own) e (σ .fop)) σ)) → Inv set (sender set e lent σ)
 unfolding sender
@@ -316,6 +330,7 @@ pub hears : (set : Settings) → Within set → (w : Word) (f : Fop) → w .coun
 unfolding work fopHeard
 hears set vw w f c b = rw (word-back (set .own) (vw .spacecraft) (vw .channel) w c b)
 
+-- and is judged fit
 pub fine : (set : Settings) → Within set → (w : Word) → w .counter ≤ 3 → w .nr < 256 → judged (set .own) (wordArrives (wordOctets (set .own) w)) ≡ 0
 unfolding judged
 fine set vw w c b = rw (word-back (set .own) (vw .spacecraft) (vw .channel) w c b)

@@ -41,10 +41,12 @@ use Rattle.session.proofs.Receiver.{step-keeps, ad-cases, begun}
 use Rattle.session.proofs.Next.{historyOf}
 use Rattle.session.proofs.Few.{work-few}
 
+-- each frame reads back
 abbrev pub Reads : List Frame → Type 0
 Reads [] = Unit {0}
 Reads (x ∷ xs) = Readable x × Reads xs
 
+-- so do the frames under way
 pub fly-reads : (n K : ℕ) (s : List Fdu) → Numbered n s → (A H : ℕ) (fs : List Frame) → Fly K s A H fs → Reads fs
 fly-reads n K s h A H [] f = tt
 fly-reads n K s h A H (AD u ∷ fs) f = (
@@ -56,10 +58,12 @@ fly-reads n K s h A H (Unlock ∷ fs) f = absurd f
 fly-reads n K s h A H (SetVR v ∷ fs) f = absurd f
 fly-reads n K s h A H (Refused r ∷ fs) f = absurd f
 
+-- and the last of them
 reads-last : (fs gs : List Frame) → Reads (fs ++ gs) → Reads gs
 reads-last [] gs h = h
 reads-last (x ∷ fs) gs h = reads-last fs gs (h .1)
 
+-- a frame that is written reads as it was
 pub reads : (set : Settings) → Within set → (x : Frame) → Readable x → read (set .own) (written (set .own) x) ≡ x
 reads set vw (AD u) h = ad-back (set .own) (vw .spacecraft) (vw .channel) u (h .0) (h .1)
 reads set vw (BD o) h = bd-back (set .own) (vw .spacecraft) (vw .channel) o h
@@ -67,6 +71,7 @@ reads set vw Unlock h = absurd h
 reads set vw (SetVR v) h = absurd h
 reads set vw (Refused r) h = absurd h
 
+-- an answer's run
 run-is : (l : List Fdu) → runOf l ≡ record { number = firstOf l; count = length l }
 run-is [] = refl
 run-is (u ∷ us) = refl
@@ -129,6 +134,7 @@ module _ (set : Settings) (vw : Within set) where
       pub words : σ .words ≡ map (wordOctets (set .own)) (κ .words)
       pub history : σ .history ≡ historyOf κ
 
+    -- the start
     pub at-start : Rel (begins m) (begun set)
     unfolding begins startReceiver
     at-start =
@@ -175,6 +181,7 @@ module _ (set : Settings) (vw : Within set) where
           history = rw (a, R .history) (refusal-through r (κ .fop) κ);
         }
 
+    -- an event of the sender
     to-sender : (σ : Linked m) (κ : Session) (e : SenderEvent) (lent : ℕ) (ws : List Word) → Rel σ κ
         → Inv set (core.sender set e lent (core.channels (κ .frames) ws κ))
         → Rel (toSender set m e lent (map (wordOctets (set .own)) ws) σ) (core.sender set e lent (core.channels (κ .frames) ws κ))
@@ -202,12 +209,13 @@ module _ (set : Settings) (vw : Within set) where
     unlocks κ (SetVR v) fs I h = absurd h
     unlocks κ (Refused r) fs I h = absurd h
 
-    -- the oldest frame to the receiver
+    -- the histories after the receiver's answer
     said : (κ : Session) (x : Frame) (fs : List Frame) → Inv set κ → Fly (set .k) (κ .sent) (length (κ .accepted)) (length (κ .accepted)) (x ∷ fs)
         → afterFrame x (answerTo κ x) (historyOf κ) ≡ historyOf (core.frameCome set (free set κ) (x ∷ fs) κ)
     unfolding core.frameCome core.receiver afterFrame
     said κ x fs I h = rw (unlocks κ x fs I h, accepted-is set vw κ I x fs h, acceptedBd-is set vw κ I x)
 
+    -- a frame arrives
     arrives : (σ : Linked m) (κ : Session) (x : Frame) (fs : List Frame) → Rel σ κ → Inv set κ
         → Fly (set .k) (κ .sent) (length (κ .accepted)) (length (κ .accepted)) (x ∷ fs)
         → Readable x → Stocked set (core.frameCome set (free set κ) (x ∷ fs) κ)
@@ -237,6 +245,7 @@ module _ (set : Settings) (vw : Within set) where
               ∙ said κ x fs I h;
         }
 
+    -- the oldest frame to the receiver
     got : (σ : Linked m) (κ : Session) (fs : List Frame) → Rel σ κ → Inv set κ → Fly (set .k) (κ .sent) (length (κ .accepted)) (length (κ .accepted)) fs
         → Stocked set (core.frameCome set (free set κ) fs κ)
         → Rel (ses.frameCome set m (map (written (set .own)) fs) σ) (core.frameCome set (free set κ) fs κ)
@@ -283,16 +292,19 @@ module _ (set : Settings) (vw : Within set) where
     unfolding core.channels toSender core.sender
     plain σ κ e lent R J = rw (R .words) (to-sender σ κ e lent (κ .words) R J)
 
+    -- other channels
     relink : (σ : Linked m) (κ : Session) (fs : List Frame) (ws : List Word) (fs' ws' : List (List ℕ)) → Rel σ κ → fs' ≡ map (written (set .own)) fs
         → ws' ≡ map (wordOctets (set .own)) ws → Rel (ses.channels m fs' ws' σ) (core.channels fs ws κ)
     unfolding core.channels
     relink σ κ fs ws fs' ws' R f w =
         record { good = R .good; goodReceiver = R .goodReceiver; fop = R .fop; farm = R .farm; stock = R .stock; frames = f; words = w; history = R .history }
 
+    -- the receiver's control word
     pub word-is : (σ : Linked m) (κ : Session) → Rel σ κ → m .word (σ .receiver) ≡ wordOctets (set .own) (core.report (κ .farm))
     unfolding receiverWord core.report wordOctets wordOf
     word-is σ κ R = t .word (σ .receiver) (R .goodReceiver) ∙ ap (λ (f : Receiver). receiverWord f) (R .farm)
 
+    -- every event
     pub same-step : (e : Event) (σ : Linked m) (κ : Session) → Rel σ κ → Inv set κ → Rel (ses.step set m e σ) (core.step set e κ)
     unfolding ses.step core.step core.stepWith receiverNext receiverAnswer
     same-step (adRequest o lent) σ κ R I = plain σ κ (requestAd o) lent R (step-keeps set vw (adRequest o lent) κ I)

@@ -70,6 +70,7 @@ in-serving P a b S4 e = absurd (false≢true e)
 in-serving P a b S5 e = absurd (false≢true e)
 in-serving P a b S6 e = absurd (false≢true e)
 
+-- they are in service
 pub served : (s : State) → serves s ≡ true → inService s ≡ true
 served = in-serving (λ s. inService s ≡ true) refl refl
 
@@ -93,15 +94,19 @@ out-is set σ I f =
     rw f (ap (λ (l : List (Option ℕ)). remaining l [] 0 (length (σ .sent))) (I .places) ∙ left-iota (length (σ .confirmed)) 0 (length (σ .sent)) ∙ rw (a, b))
 
 module _ (set : Settings) (σ : Session) (I : Inv set σ) (sv : inService (σ .fop .state) ≡ true) where
+  -- the sender is live
   pub lv : Live (set .n) (length (σ .confirmed)) (σ .denied) (σ .sent) [] [] (fdus (σ .fop .sentQueue)) (σ .fop .vs) (σ .fop .nnr)
   lv = live-of (σ .fop .state) (set .n) _ _ _ _ _ _ sv (I .side)
 
+  -- how many are outstanding
   pub out-count : length (outstanding (historyOf σ)) ≡ length (σ .sent) - length (σ .confirmed)
   out-count = ap length (out-is set σ I (lv .fresh)) ∙ length-nums _ _
 
+  -- and by the sequence numbers
   pub off-is : offset (σ .fop .vs) (σ .fop .nnr) ≡ length (σ .sent) - length (σ .confirmed)
   off-is = omega (arith, lv, I .base)
 
+  -- an outstanding unit is behind those confirmed
   pub out-from : (i : ℕ) → IsOutstanding (historyOf σ) i → length (σ .confirmed) ≤ i
   out-from i o = go (ltb i (length (σ .confirmed))) refl
     where
@@ -120,6 +125,7 @@ module _ (set : Settings) (σ : Session) (I : Inv set σ) (sv : inService (σ .f
         rw (lv .fresh),
       )
 
+  -- a unit of the queue by its place in Sent
   queue-unit : (j : ℕ) → getD (fdus (σ .fop .sentQueue)) j nobody ≡ getD (σ .sent) (length (σ .confirmed) + j) nobody
   queue-unit j =
       queue-at (length (σ .confirmed)) (σ .sent) [] (fdus (σ .fop .sentQueue)) (lv .cut) j ∙ ap (λ (k : ℕ). getD (σ .sent) k nobody) (omega arith)
@@ -167,6 +173,7 @@ module _ (set : Settings) (σ : Session) (I : Inv set σ) (sv : inService (σ .f
       (enter live (set .n) (presetOf set) (length (σ .confirmed)) (σ .accepted) (σ .sent) (σ .frames) (σ .denied) (fdus (σ .fop .sentQueue))
       (σ .fop .vs) (σ .fop .nnr) (σ .fop .preset) word a v (σ .fop .waitQueue) [] (I .base) lv l (e, m) (I .isSet) (I .waiting))
 
+  -- the window has room
   pub room-is : length (outstanding (historyOf σ)) < set .k → offset (σ .fop .vs) (σ .fop .nnr) < σ .fop .preset .k
   room-is h = omega (arith, h, out-count, off-is, ap (λ (p : Preset). p .k) (I .isSet))
 
@@ -193,6 +200,7 @@ pub look-new : (w : Work) (o : List ℕ) → w .fop .out .ad ≡ true → firstM
 unfolding lookForFdu sendNext sendWaiting transmitAd
 look-new w o a m k e = rw (a, m, lt-ltb _ _ k, e)
 
+-- and where a unit is marked
 pub look-again : (w : Work) (u : Fdu) → w .fop .out .ad ≡ true → firstMarked (w .fop .sentQueue) ≡ some u → (lookForFdu w) .frames ≡ w .frames ++ (AD u ∷ [])
 unfolding lookForFdu sendNext
 look-again w u a m = rw (a, m)

@@ -32,6 +32,7 @@ pub fdus-append : (q r : List Entry) → fdus (q ++ r) ≡ fdus q ++ fdus r
 fdus-append [] r = refl
 fdus-append (e ∷ q) r = ap (_∷_ (e .fdu)) (fdus-append q r)
 
+-- the oldest marked unit stands on the queue
 pub found : (q : List Entry) (u : Fdu) → firstMarked q ≡ some u → (i : ℕ) × (i < length (fdus q)) × (u ≡ getD (fdus q) i nobody)
 found [] u h = let z : _≡_ {A = ℕ} 0 1 = cc in absurd (omega arith)
 found (e ∷ q) u h = go (found q u) (e .marked) h

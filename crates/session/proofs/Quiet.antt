@@ -4,7 +4,7 @@ use mathlib.Core.Path.{_≡_, refl, sym, ap, _∙_}
 use mathlib.Core.Bool.{Bool, true, false, not, _&&_, _||_, true≢false, false≢true}
 use mathlib.Core.List.{List, [], _∷_}
 use mathlib.Core.Option.{none, some}
-use Prim.Native.Nat.{ℕ, _+_, _-_, _*_, _≤_}
+use Prim.Native.Nat.{_+_, _-_, _*_, _≤_}
 use native.Mathlib.Omega.{arith}
 use lib.Dec.{leb, ltb, eqb, T}
 use lib.ListN.{length}
@@ -101,8 +101,6 @@ module _ (set : Settings) (σ : Session) (I : Inv set σ) (w : Word) (ws : List 
       → Keys (set .n) (length (σ .sent)) (floor s (length (σ .confirmed))) (2 * length (σ .accepted) + bit (σ .farm .retransmit)) (w ∷ ws)
       → fitting s (seen w (σ .fop)) ≡ true
   live-fits s h k =
-      let C : ℕ = length (σ .confirmed) in
-      let S : ℕ = length (σ .sent) in
       let b1 = bit-le (w .retransmit) in
       let ca : length (σ .confirmed) ≤ k .0 = omega (arith, k .2, b1) in
       let new : offset (w .nr) (σ .fop .nnr) ≡ k .0 - length (σ .confirmed) = omega (arith, k .1, ca, k .5, h, I .base) in

@@ -86,7 +86,6 @@ module _ (n : ℕ) (P : Preset) (C : ℕ) (gone : List (Option ℕ)) (acc sent0 
       → (acknowledged (w .fop .nnr) (w .value) (w .fop .sentQueue) ≡ take (offset (w .value) (w .fop .nnr)) (fdus (w .fop .sentQueue)))
       × (fdus (unacknowledged (w .fop .nnr) (w .value) (w .fop .sentQueue)) ≡ drop (offset (w .value) (w .fop .nnr)) (fdus (w .fop .sentQueue)))
   acks a w h =
-      let s : List Fdu = addAll n sent0 (w .frames) in
       let ln = queue-length C (addAll n sent0 (w .frames)) (w .confirmed) (fdus (w .fop .sentQueue)) (h .1 .cut) in
       let z : offset (w .value) (w .fop .nnr) - 0 ≡ offset (w .value) (w .fop .nnr) = omega arith in
       rw z at (ack n (C + length (w .confirmed)) (w .fop .nnr) (w .value) (h .1 .isNn) (w .fop .sentQueue) 0

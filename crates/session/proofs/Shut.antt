@@ -1,4 +1,5 @@
--- An AD frame is handed down only by an event that leaves the sender active or resending without wait.
+-- An AD frame is handed down only by an event that leaves the sender active or resending without wait: a computed test shows that no other
+-- cell of table 7-8 has an action that may hand one down.
 use mathlib.Core.Logic.{_⊎_, inl, inr}
 use mathlib.Core.Path.{_≡_, refl}
 use mathlib.Core.Bool.{Bool, true, false, _||_}

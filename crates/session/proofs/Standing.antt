@@ -1,4 +1,5 @@
--- Of the table machines: what is sent, confirmed, outstanding and denied, and the states.
+-- Of the table machines: what is sent, confirmed, outstanding and denied, and the states. In service the queue is what is not confirmed, and
+-- nothing is denied; out of service all that is not confirmed is denied. So at most K are outstanding.
 use mathlib.Core.Logic.{_⊎_, inl, inr}
 use mathlib.Core.Path.{_≡_, refl, sym, ap, _∙_, subst}
 use mathlib.Core.Bool.{true, false, true≢false}
@@ -54,23 +55,26 @@ module _ (set : Settings) (κ : Session) (I : Inv set κ) where
       ∙ iota-append 0 (length (κ .confirmed)) (length (κ .sent) - length (κ .confirmed)) ∙ ap (iota 0) z in
       ap (unitsAt (κ .sent)) e ∙ units-iota (κ .sent) 0 (length (κ .sent)) (omega arith) ∙ ap (map some) (take-length (κ .sent))
 
-  pub at-most : (s : State) → κ .fop .state ≡ s → length (outstanding (historyOf κ)) ≤ set .k
+  pub state-is : (s : State) → Side (modeOf s) (set .n) (length (κ .confirmed)) (κ .sent) (κ .denied) (fdus (κ .fop .sentQueue)) (κ .fop .vs) (κ .fop .nnr)
+      → (inService s ≡ true) ⊎ (s ≡ S6)
+  state-is S1 h = inl refl
+  state-is S2 h = inl refl
+  state-is S3 h = inl refl
+  state-is S4 h = absurd h
+  state-is S5 h = absurd h
+  state-is S6 h = inr refl
+
+  pub at-most : length (outstanding (historyOf κ)) ≤ set .k
   unfolding outstanding
-  at-most S1 e = let l = lv set κ I (rw e) in omega (arith, ap length (out-is set κ I (l .fresh)), length-nums C (S - C), I .base)
-  at-most S2 e = let l = lv set κ I (rw e) in omega (arith, ap length (out-is set κ I (l .fresh)), length-nums C (S - C), I .base)
-  at-most S3 e = let l = lv set κ I (rw e) in omega (arith, ap length (out-is set κ I (l .fresh)), length-nums C (S - C), I .base)
-  at-most S4 e = absurd (subst (λ (x : State). Side (modeOf x) (set .n) C (κ .sent) (κ .denied) (fdus (κ .fop .sentQueue)) (κ .fop .vs) (κ .fop .nnr))
-      e (I .side))
-  at-most S5 e = absurd (subst (λ (x : State). Side (modeOf x) (set .n) C (κ .sent) (κ .denied) (fdus (κ .fop .sentQueue)) (κ .fop .vs) (κ .fop .nnr))
-      e (I .side))
-  at-most S6 e =
-      let d = fell (κ .fop .state) (I .side) e in
-      let l = low in
-      let z : remaining (κ .confirmed) (κ .denied) 0 (length (κ .sent)) ≡ [] =
-      ap (λ (x : List (Option ℕ)). remaining x (κ .denied) 0 (length (κ .sent))) (I .places)
-      ∙ ap (λ (x : List (Option ℕ)). remaining (iota 0 C) x 0 (length (κ .sent))) d
-      ∙ left-none (length (κ .confirmed)) (length (κ .sent) - length (κ .confirmed)) 0 (length (κ .sent)) (omega arith) in
-      omega (arith, ap length z)
+  at-most = by (state-is (κ .fop .state) (I .side))
+    where
+      by : (inService (κ .fop .state) ≡ true) ⊎ (κ .fop .state ≡ S6) → length (outstanding (historyOf κ)) ≤ set .k
+      by (inl e) = omega (arith, ap length (out-is set κ I (lv set κ I e .fresh)), length-nums C (S - C), I .base)
+      by (inr e) =
+          let z : remaining (κ .confirmed) (κ .denied) 0 S ≡ [] =
+          ap (λ (x : List (Option ℕ)). remaining x (κ .denied) 0 S) (I .places)
+          ∙ ap (λ (x : List (Option ℕ)). remaining (iota 0 C) x 0 S) (fell (κ .fop .state) (I .side) e) ∙ left-none C (S - C) 0 S (omega (arith, low)) in
+          omega (arith, ap length z)
 
   pub standing : inService (κ .fop .state) ≡ true → unitsAt (κ .sent) (κ .confirmed ++ somes (outstanding (historyOf κ))) ≡ map some (κ .sent)
   standing e =
@@ -85,15 +89,6 @@ module _ (set : Settings) (κ : Session) (I : Inv set κ) where
       (omega (arith, length-drop (length (κ .confirmed)) (κ .sent))))
       ∙ sym (unitsOf-nums (κ .sent) (length (κ .confirmed)) (length (κ .sent) - length (κ .confirmed)) (omega arith))
       ∙ ap (unitsOf (κ .sent)) (sym (out-is set κ I (l .fresh)))
-
-  pub state-is : (s : State) → Side (modeOf s) (set .n) (length (κ .confirmed)) (κ .sent) (κ .denied) (fdus (κ .fop .sentQueue)) (κ .fop .vs) (κ .fop .nnr)
-      → (inService s ≡ true) ⊎ (s ≡ S6)
-  state-is S1 h = inl refl
-  state-is S2 h = inl refl
-  state-is S3 h = inl refl
-  state-is S4 h = absurd h
-  state-is S5 h = absurd h
-  state-is S6 h = inr refl
 
   pub opens : (s : FarmState) → isLocked s ≡ false → Full s (length (κ .accepted)) (set .buffers + κ .released) → BufferFree set (historyOf κ) → s ≡ Open
   opens Open l f b = refl

@@ -1,6 +1,8 @@
--- The stronger claims.
+-- The stronger claims of all tied ends. What an event of the session hands down is a unit sent and not confirmed (Handed), by an event that
+-- leaves the sender serving (Shut); a word makes the count confirmed exact (Exact); alerts, refusals and words are in Answered, what is
+-- outstanding in Standing. Each is said of the tables' session and carried to the ends' by Link.
 use mathlib.Core.Logic.{_⊎_, inl, inr}
-use mathlib.Core.Path.{_≡_, refl, sym, ap, _∙_, subst}
+use mathlib.Core.Path.{_≡_, sym, ap, _∙_, subst}
 use mathlib.Core.Bool.{true}
 use mathlib.Core.List.{List, [], _∷_, _++_, map, map-append}
 use mathlib.Core.Option.{Option, none, some}
@@ -188,7 +190,7 @@ module _ (set : Settings) (vw : Within set) (m : Ends) (t : Tied set m) (σ : Li
   stronger : Stronger set m σ γ
   stronger =
       record {
-        atMostK = by (λ h. length (outstanding h) ≤ set .k) (at-most set κ I (κ .fop .state) refl);
+        atMostK = by (λ h. length (outstanding h) ≤ set .k) (at-most set κ I);
         standing = λ e. by (λ h. unitsAt (h .sent) (h .confirmed ++ somes (outstanding h)) ≡ map some (h .sent))
             (standing set κ I (ap inService (sym st-is) ∙ e));
         queue = λ e. ap (λ (f : Fop). fdus (f .sentQueue)) (G .fop) ∙ by (λ h. fdus (κ .fop .sentQueue) ≡ unitsOf (h .sent) (outstanding h))

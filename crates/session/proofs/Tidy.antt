@@ -1,4 +1,5 @@
--- Every event keeps the flags' invariant.
+-- Every event keeps the flags' invariant (Keys): a row leads to a state of resending only from one, or by a word that asks for it, which is a
+-- computed test of table 7-8; the receiver's rows are computed in each state.
 use mathlib.Core.Path.{_≡_, refl, ap, _∙_}
 use mathlib.Core.Bool.{Bool, true, false, not, _&&_}
 use mathlib.Core.List.{List, [], _∷_, _++_}
