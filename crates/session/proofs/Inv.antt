@@ -104,7 +104,7 @@ is-sound live n C sent gone q vs nn s = tt
 is-sound dead n C sent gone q vs nn s = tt
 is-sound bad n C sent gone q vs nn s = s
 
--- and after it
+-- what an event leaves
 pub record Left (n : ℕ) (P : Preset) (C : ℕ) (acc : List Fdu) (a : ℕ) (sent : List Fdu) (fr : List Frame) (conf : List Fdu) (p : Preset)
     (wt : Option (List ℕ)) : Type 0 where
   pub base : Base n (P .k) C acc sent fr conf
@@ -124,6 +124,7 @@ base-of dead n P C gone acc given a sent fr conf den q vs nn p v wt o g h =
     record { base = h .0; most = h .2; more = h .1 .after; cut = h .1 .cut; isSet = h .4; waiting = h .5 }
 base-of bad n P C gone acc given a sent fr conf den q vs nn p v wt o g h = absurd g
 
+-- and the sender's part after it
 leave : (m : Mode) (n : ℕ) (P : Preset) (C D : ℕ) (gone : List (Option ℕ)) (acc : List Fdu) (given : Given) (a : ℕ) (sent : List Fdu) (fr : List Frame)
     (conf den q : List Fdu) (vs nn : ℕ) (p : Preset) (v : ℕ) (wt : Option (List ℕ)) (o : List ℕ) → D ≡ C + length conf → T (sound m)
     → WI n P C gone acc given a m sent fr conf den q vs nn p v wt o

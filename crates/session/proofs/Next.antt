@@ -11,7 +11,7 @@ use lib.ListN.{length, take, drop, getD}
 use borrow.Author.Tests.{lt-ltb, eq-eqb, ltb-true, ltb-false, eqb-true, eqb-false}
 use Rattle.base.specs.Modulo.{advanced, offset}
 use Rattle.fop.specs.Units.{Fdu, AD, Word, legal, wordOctets}
-use Rattle.fop.specs.Table.{State, S1, S2, S3, S4, S5, S6, FopEvent, table78, cell78, AdOutReady, InitiateAdRetransmission}
+use Rattle.fop.specs.Table.{State, S1, S2, S3, S4, S5, S6, FopEvent, table78, cell78, AddToWaitQueue, AdOutReady, InitiateAdRetransmission}
 use Rattle.fop.specs.Variables.{Fop, Work, Entry, Preset, begin}
 use Rattle.fop.specs.Machine.{fdus, firstMarked, acknowledged, unacknowledged, markAll, fopDo, performCell, performAll, perform, lookForFdu, sendNext}
 use Rattle.fop.specs.Variables.{setState, onFop}
@@ -194,33 +194,41 @@ word-step set vw σ I w ws lent comes r =
     ∙ sender-is set (wordArrives (wordOctets (set .own) w)) lent (channels (σ .frames) ws σ) (fine set vw w (wd .3) (omega (arith, wd .1))) r
     ∙ ap (λ (x : Work). answered (set .n) x (channels (σ .frames) ws σ)) (hears set vw w (σ .fop) (wd .3) (omega (arith, wd .1)))
 
--- look for FDU
+-- Look for FDU sends the unit waiting, where none is marked and the window has room
+look-is : (w : Work) (o : List ℕ) → w .fop .out .ad ≡ true → firstMarked (w .fop .sentQueue) ≡ none → offset (w .fop .vs) (w .fop .nnr) < w .fop .preset .k
+    → w .fop .waitQueue ≡ some o → lookForFdu w ≡ sendWaiting (some o) w
+unfolding lookForFdu sendNext
+look-is w o a m k e = rw (a, m, lt-ltb _ _ k, e)
+
 pub look-new : (w : Work) (o : List ℕ) → w .fop .out .ad ≡ true → firstMarked (w .fop .sentQueue) ≡ none → offset (w .fop .vs) (w .fop .nnr) < w .fop .preset .k
     → w .fop .waitQueue ≡ some o → (lookForFdu w) .frames ≡ w .frames ++ (AD (record { ns = w .fop .vs; octets = o }) ∷ [])
-unfolding lookForFdu sendNext sendWaiting transmitAd
-look-new w o a m k e = rw (a, m, lt-ltb _ _ k, e)
+unfolding sendWaiting transmitAd
+look-new w o a m k e = ap (λ (v : Work). v .frames) (look-is w o a m k e)
 
 -- and where a unit is marked
 pub look-again : (w : Work) (u : Fdu) → w .fop .out .ad ≡ true → firstMarked (w .fop .sentQueue) ≡ some u → (lookForFdu w) .frames ≡ w .frames ++ (AD u ∷ [])
 unfolding lookForFdu sendNext
 look-again w u a m = rw (a, m)
 
--- an AD unit is offered
-ad-frames : (o : List ℕ) (f : Fop) → f .state ≡ S1 → f .out .ad ≡ true → f .waitQueue ≡ none → firstMarked (f .sentQueue) ≡ none
-    → offset (f .vs) (f .nnr) < f .preset .k
-    → (fopAd o f) .frames ≡ AD (record { ns = f .vs; octets = o }) ∷ []
-unfolding fopAd fopDo performCell performAll perform table78
-ad-frames o f s a w m k = rw (w, s) (look-new _ o a m k refl)
+-- an AD unit is offered, and sent at once
+unfoldable pub sentAtOnce : List ℕ → Fop → Work
+sentAtOnce o f = sendWaiting (some o) (perform AddToWaitQueue (begin (some FopEvent.E19) o 0 f))
+
+pub ad-is : (o : List ℕ) (f : Fop) → f .state ≡ S1 → f .out .ad ≡ true → f .waitQueue ≡ none → firstMarked (f .sentQueue) ≡ none
+    → offset (f .vs) (f .nnr) < f .preset .k → fopAd o f ≡ onFop (setState S1 ((sentAtOnce o f) .fop)) (sentAtOnce o f)
+unfolding fopAd fopDo performCell performAll perform table78 sentAtOnce
+ad-is o f s a w m k = rw (w, s) (ap (λ (v : Work). onFop (setState S1 (v .fop)) v) (look-is _ o a m k refl))
 
 pub offers : (set : Settings) (σ : Session) → Inv set σ → (o : List ℕ) (lent : ℕ) → legal o ≡ true → needed (set .own) (requestAd o) (σ .fop) ≤ lent
     → σ .fop .state ≡ S1 → σ .fop .out .ad ≡ true → σ .fop .waitQueue ≡ none → firstMarked (σ .fop .sentQueue) ≡ none
     → length (outstanding (historyOf σ)) < set .k
     → Sent (nextUnit set (historyOf σ) o) σ (step set (adRequest o lent) σ)
-unfolding step stepWith work judged
+unfolding step stepWith work judged sentAtOnce sendWaiting transmitAd perform
 offers set σ I o lent g r s a w m k =
     let sv : inService (σ .fop .state) ≡ true = rw s in
     let j : judged (set .own) (requestAd o) ≡ 0 = rw g in
-    rw (sender-is set (requestAd o) lent σ j r) (next-sends set σ I sv _ o (ad-frames o (σ .fop) s a w m (room-is set σ I sv k)))
+    rw (sender-is set (requestAd o) lent σ j r)
+    (next-sends set σ I sv _ o (ap (λ (v : Work). v .frames) (ad-is o (σ .fop) s a w m (room-is set σ I sv k))))
 
 -- the lower layer comes ready
 low-frames : (f : Fop) → serves (f .state) ≡ true → (fopLower adAccept f) .frames ≡ (lookForFdu (perform AdOutReady (begin (some FopEvent.E41) [] 0 f))) .frames

@@ -68,17 +68,18 @@ module _ (set : Settings) (vw : Within set) (m : Ends) (t : Tied set m) (σ : Li
   answer-is : (e : SenderEvent) (lent : ℕ) → m .answer e lent (σ .sender) ≡ senderAnswer (set .own) e lent (κ .fop)
   answer-is = A.answer-is set vw m t σ γ κ R G I Q
 
-  -- what an event of the session hands down reads back, and is a unit sent, not confirmed
-  tick-from : From (modeOf (κ .fop .state)) (length (κ .confirmed)) (addAll (set .n) (κ .sent) ((fopTick (κ .fop)) .frames)) ((fopTick (κ .fop)) .frames)
+  -- each AD frame of the list is a unit sent, not confirmed
+  abbrev SentFrom : List Frame → Type 0
+  SentFrom fr = From (modeOf (κ .fop .state)) (length (κ .confirmed)) (addAll (set .n) (κ .sent) fr) fr
+
+  tick-from : SentFrom ((fopTick (κ .fop)) .frames)
   tick-from =
-      tick-ways (rowOk nothing) timer-ok
-      (λ w. From (modeOf (κ .fop .state)) (length (κ .confirmed)) (addAll (set .n) (κ .sent) (w .frames)) (w .frames)) (κ .fop) (alerting set κ I)
+      tick-ways (rowOk nothing) timer-ok (λ w. SentFrom (w .frames)) (κ .fop) (alerting set κ I)
       (λ e t. row-from set (withFop (lowered (κ .fop)) κ) (timed set _ _ κ I) nothing (length (κ .confirmed)) e [] 0 t (omega arith) tt) tt
 
+  -- what an event of the session hands down reads back, and is such a list
   abbrev Given-by : SenderEvent → Type 0
-  Given-by e = Reads ((work (set .own) e (κ .fop)) .frames)
-      × From (modeOf (κ .fop .state)) (length (κ .confirmed)) (addAll (set .n) (κ .sent) ((work (set .own) e (κ .fop)) .frames))
-      ((work (set .own) e (κ .fop)) .frames)
+  Given-by e = Reads ((work (set .own) e (κ .fop)) .frames) × SentFrom ((work (set .own) e (κ .fop)) .frames)
 
   given-by : (e : SenderEvent) (lent : ℕ) → InSession (σ .words) e → goes (set .own) e lent (κ .fop) ≡ true → Given-by e
   unfolding work judged fopAd fopBd fopLower fopDirective directiveEvent fopWord core.wordCome core.channels
@@ -113,7 +114,7 @@ module _ (set : Settings) (vw : Within set) (m : Ends) (t : Tied set m) (σ : Li
       ≡ true = subst (λ (x : List ℕ). goes (set .own) (wordArrives x) lent (κ .fop) ≡ true) (l .3) g in (
         subst (λ (x : List ℕ). Reads ((work (set .own) (wordArrives x) (κ .fop)) .frames)) (sym (l .3))
             (reads-of set (wordArrives (wordOctets (set .own) (l .0))) lent (core.channels (κ .frames) (l .1) κ) g' (word-keeps set vw lent κ (l .0 ∷ l .1) I wd)),
-        subst (λ (w : Work). From (modeOf (κ .fop .state)) (length (κ .confirmed)) (addAll (set .n) (κ .sent) (w .frames)) (w .frames)) (sym (l .5))
+        subst (λ (w : Work). SentFrom (w .frames)) (sym (l .5))
             (row-from set κ I word (wd .0) (wordEvent (seen (l .0) (κ .fop))) [] ((l .0) .nr) (word-ok (seen (l .0) (κ .fop))) (wd .2)
             (wd .1, wds-le (set .n) (wd .0) _ (l .1) (wd .4))),
       )
@@ -122,15 +123,14 @@ module _ (set : Settings) (vw : Within set) (m : Ends) (t : Tied set m) (σ : Li
   abbrev Handed : Fdu → Type 0
   Handed u = (u .ns ≡ advanced (set .n) (length (κ .sent))) ⊎ ((i : ℕ) × IsOutstanding (historyOf κ) i × (u ≡ getD (κ .sent) i nobody))
 
-  one-handed : (fr : List Frame) (o : List ℕ) (u : Fdu) → length fr ≤ 1 → Reads fr
-      → From (modeOf (κ .fop .state)) (length (κ .confirmed)) (addAll (set .n) (κ .sent) fr) fr → octetsDown (set .own) fr ≡ some o → read (set .own) o ≡ AD u
-      → Handed u
-  one-handed [] o u l r f e q = absurd (none-some e)
-  one-handed (x ∷ []) o u l r f e q =
+  -- the frame whose octets are read as the AD unit u is u's, and the only one
+  down-is : (fr : List Frame) (o : List ℕ) (u : Fdu) → length fr ≤ 1 → Reads fr → octetsDown (set .own) fr ≡ some o → read (set .own) o ≡ AD u
+      → fr ≡ AD u ∷ []
+  down-is [] o u l r e q = absurd (none-some e)
+  down-is (x ∷ []) o u l r e q =
       let a : written (set .own) x ≡ o = cc in
-      let b : x ≡ AD u = sym (reads set vw x (r .0)) ∙ ap (read (set .own)) a ∙ q in
-      is-handed set κ I u (subst (λ (y : Frame). From (modeOf (κ .fop .state)) (length (κ .confirmed)) (addAll (set .n) (κ .sent) (y ∷ [])) (y ∷ [])) b f)
-  one-handed (x ∷ y ∷ fr) o u l r f e q = absurd (omega arith)
+      ap (λ (y : Frame). y ∷ []) (sym (reads set vw x (r .0)) ∙ ap (read (set .own)) a ∙ q)
+  down-is (x ∷ y ∷ fr) o u l r e q = absurd (omega arith)
 
   handed : (e : SenderEvent) (lent : ℕ) → InSession (σ .words) e → (o : List ℕ) (u : Fdu)
       → (m .answer e lent (σ .sender)) .down ≡ some o → read (set .own) o ≡ AD u
@@ -138,7 +138,7 @@ module _ (set : Settings) (vw : Within set) (m : Ends) (t : Tied set m) (σ : Li
   handed e lent h o u d q =
       A.answer-ways set vw m t σ γ κ R G I Q (λ a. a .down ≡ some o → Handed u) e lent
       (λ g x. let k = given-by e lent h g in
-      one-handed ((work (set .own) e (κ .fop)) .frames) o u (work-few (set .own) e (κ .fop)) (k .0) (k .1) x q)
+      is-handed set κ I u (subst SentFrom (down-is ((work (set .own) e (κ .fop)) .frames) o u (work-few (set .own) e (κ .fop)) (k .0) x q) (k .1)))
       (λ x. absurd (none-some x)) d
 
   -- only an event that leaves the sender active or resending without wait hands an AD frame down
@@ -155,14 +155,6 @@ module _ (set : Settings) (vw : Within set) (m : Ends) (t : Tied set m) (σ : Li
       let l = A.oldest-heard set vw m t σ γ κ R G I Q s (h .0) (h .1) in
       subst Shut (sym (l .5)) (word-shut (κ .fop) (in-mode set κ I) (l .0))
 
-  not-ad : (fr : List Frame) (o : List ℕ) (u : Fdu) → length fr ≤ 1 → Reads fr → NoAd fr → octetsDown (set .own) fr ≡ some o → read (set .own) o ≡ AD u → ⊥
-  not-ad [] o u l r h e q = none-some e
-  not-ad (x ∷ []) o u l r h e q =
-      let a : written (set .own) x ≡ o = cc in
-      let b : x ≡ AD u = sym (reads set vw x (r .0)) ∙ ap (read (set .own)) a ∙ q in
-      subst (λ (y : Frame). NoAd (y ∷ [])) b h
-  not-ad (x ∷ y ∷ fr) o u l r h e q = omega arith
-
   shut : (e : SenderEvent) (lent : ℕ) → InSession (σ .words) e → (o : List ℕ) (u : Fdu)
       → (m .answer e lent (σ .sender)) .down ≡ some o → read (set .own) o ≡ AD u → serves ((m .answer e lent (σ .sender)) .state) ≡ true
   shut e lent h o u d q =
@@ -171,7 +163,8 @@ module _ (set : Settings) (vw : Within set) (m : Ends) (t : Tied set m) (σ : Li
     where
       by-shut : Shut (work (set .own) e (κ .fop)) → goes (set .own) e lent (κ .fop) ≡ true
           → octetsDown (set .own) ((work (set .own) e (κ .fop)) .frames) ≡ some o → serves ((work (set .own) e (κ .fop)) .fop .state) ≡ true
-      by-shut (inl n) g x = absurd (not-ad ((work (set .own) e (κ .fop)) .frames) o u (work-few (set .own) e (κ .fop)) (given-by e lent h g .0) n x q)
+      by-shut (inl n) g x =
+          absurd (subst NoAd (down-is ((work (set .own) e (κ .fop)) .frames) o u (work-few (set .own) e (κ .fop)) (given-by e lent h g .0) x q) n)
       by-shut (inr k) g x = k
 
   -- a word makes the count confirmed what it reports
