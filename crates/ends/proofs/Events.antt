@@ -1,18 +1,19 @@
 -- Every event of the session: our sender's step does what the table machine does on what the sender's state and store read as.
 use Prim.Native.Nat.{ℕ, _<_}
 use mathlib.Core.Path.{_≡_, refl, sym, ap, subst, _∙_}
-use mathlib.Core.Bool.{Bool, true, false, _&&_, true≢false}
+use mathlib.Core.Bool.{Bool, true, false, not, _&&_}
 use mathlib.Core.List.{List, [], _∷_}
 use mathlib.Core.Option.{none, some}
 use native.Mathlib.Omega.{arith}
-use borrow.Author.Tests.{leb-true, le-leb, eqb-true}
+use borrow.Author.Tests.{leb-true, le-leb, eqb-true, not-true}
 use lib.Dec.{leb, ltb, eqb}
 use lib.ListN.{length, getD}
-use Rattle.base.specs.Choice.{pick, must}
+use Rattle.base.specs.Choice.{pick, must, both}
 use Rattle.base.specs.Limits.{largestUnit}
 use Rattle.base.specs.Fields.{fieldAt}
 use Rattle.base.specs.Outcome.{Outcome, Outcome.done}
 use Rattle.base.specs.Outcome as outcome
+use Rattle.base.proofs.Tests.{both-left, both-right}
 use Rattle.base.proofs.Computed.{is-true}
 use Rattle.base.proofs.Lists.{octets-at}
 use Rattle.fop_actions.proofs.SentQueue.{without-none}
@@ -39,7 +40,7 @@ use Rattle.fop_rows.specs.Rows.{eventOf, rowIf, rowOf, rowNumbered}
 use Rattle.fop_events.specs.Events.{eventNumber, variablesOf, expiryNumber, adNumber, bdNumber, lowerNumber, directiveNumber, wordNumber, told}
 use Rattle.fop_view.specs.State.{Good}
 use Rattle.fop_view.specs.Rows.{brings, Meets, isOffering}
-use Rattle.session.proofs.Rows.{first-all}
+use Rattle.session.proofs.Test.{first-all}
 use Rattle.session.proofs.Octets.{octets-are}
 use Rattle.sender.specs.Answers.{Step, stepBy, refusedStep}
 use Rattle.sender.specs.Limits.{smallestStore}
@@ -50,25 +51,18 @@ use Rattle.ends.proofs.Writing.{Fits, fitting}
 use Rattle.ends.proofs.Concluding.{Agrees, concludes, refuses-7, refuses-10, refuses-12}
 use Rattle.ends.proofs.Judged.{Does, agreed, refuses, refused-keeps, refused-good}
 use Rattle.ends.proofs.Served.{serves}
-use Rattle.ends.proofs.Requested.{offers, rejects-ad, rejects-bd, bypasses-down, lengthless-21, lengthless-22}
+use Rattle.ends.proofs.Requested.{offers, rejects-ad, rejects-bd, bypasses-down, lengthless}
 use Rattle.ends.proofs.Meets.{word-meets, directive-meets, expiry-meets, valid-not-40, invalid-is-40}
 
 -- an event that neither offers a unit nor is E21
 abbrev plain : FopEvent → Bool
-plain e = pick (isOffering (brings e)) false (pick (eqb (eventNumber e) 21) false true)
+plain e = both (not (isOffering (brings e))) (not (eqb (eventNumber e) 21))
 
 plain-quiet : (e : FopEvent) → plain e ≡ true → isOffering (brings e) ≡ false
-plain-quiet e = by (isOffering (brings e)) (eqb (eventNumber e) 21) where
-  by : (a b : Bool) → pick a false (pick b false true) ≡ true → a ≡ false
-  by true b t = absurd (true≢false (sym t))
-  by false b t = refl
+plain-quiet e p = not-true _ (both-left _ _ p)
 
 plain-unbypassed : (e : FopEvent) → plain e ≡ true → eqb (eventNumber e) 21 ≡ false
-plain-unbypassed e = by (isOffering (brings e)) (eqb (eventNumber e) 21) where
-  by : (a b : Bool) → pick a false (pick b false true) ≡ true → b ≡ false
-  by true b t = absurd (true≢false (sym t))
-  by false true t = absurd (true≢false (sym t))
-  by false false t = refl
+plain-unbypassed e p = not-true _ (both-right (not (isOffering (brings e))) _ p)
 
 -- the store that is lent is long enough
 stored : (own : Own) (s : Sender) (store : List ℕ) → Good own s store → leb smallestStore (length store) ≡ true
@@ -102,37 +96,21 @@ module _ (own : Own) (s : Sender) (store : List ℕ) (lent : ℕ) (good : Good o
   refused-by e j q h a = refuses own lent e f (refusedStep j s store output) j q h a (refused-keeps own s store output j) (refused-good own s store output j good)
 
   -- Answers of the lower layer.
-  lower-plain : (l : fop.Lower) → plain (fop.lowerEvent l) ≡ true
-  lower-plain fop.adAccept = refl
-  lower-plain fop.adReject = refl
-  lower-plain fop.bcAccept = refl
-  lower-plain fop.bcReject = refl
-  lower-plain fop.bdAccept = refl
-  lower-plain fop.bdReject = refl
-
-  lower-meets : (l : fop.Lower) → Meets (fop.lowerEvent l) [] 0 s
-  lower-meets fop.adAccept = tt
-  lower-meets fop.adReject = tt
-  lower-meets fop.bcAccept = tt
-  lower-meets fop.bcReject = tt
-  lower-meets fop.bdAccept = tt
-  lower-meets fop.bdReject = tt
-
-  lower-is : (l : fop.Lower) → lowerNumber (lowerAnswer l) ≡ eventNumber (fop.lowerEvent l)
+  lower-row : (l : fop.Lower) → (plain (fop.lowerEvent l) ≡ true) × Meets (fop.lowerEvent l) [] 0 s × (lowerNumber (lowerAnswer l) ≡ eventNumber (fop.lowerEvent l))
   unfolding lowerNumber
-  lower-is fop.adAccept = refl
-  lower-is fop.adReject = refl
-  lower-is fop.bcAccept = refl
-  lower-is fop.bcReject = refl
-  lower-is fop.bdAccept = refl
-  lower-is fop.bdReject = refl
+  lower-row fop.adAccept = (refl, tt, refl)
+  lower-row fop.adReject = (refl, tt, refl)
+  lower-row fop.bcAccept = (refl, tt, refl)
+  lower-row fop.bcReject = (refl, tt, refl)
+  lower-row fop.bdAccept = (refl, tt, refl)
+  lower-row fop.bdReject = (refl, tt, refl)
 
   pub lower-does : (l : fop.Lower) → Does own lent (lower l) f (lowerLayerOf (lowerAnswer l) s store output)
   unfolding lowerLayerOf work fopLower judged
   lower-does l =
       agreed own lent (lower l) f (lowerLayerOf (lowerAnswer l) s store output) refl
-      (subst (λ (k : ℕ). Agrees own lent f (fopDo (fop.lowerEvent l) [] 0 f) (served k 0 s s store output)) (sym (lower-is l))
-      (by-row (fop.lowerEvent l) 0 s good (lower-meets l) refl (lower-plain l)))
+      (subst (λ (k : ℕ). Agrees own lent f (fopDo (fop.lowerEvent l) [] 0 f) (served k 0 s s store output)) (sym (lower-row l .2))
+      (by-row (fop.lowerEvent l) 0 s good (lower-row l .1) refl (lower-row l .0)))
 
   -- Directives.
   directive-plain : (d v : ℕ) → plain (directiveEvent d v (variablesOf s)) ≡ true
@@ -309,10 +287,10 @@ module _ (own : Own) (s : Sender) (store : List ℕ) (lent : ℕ) (good : Good o
       (bypassedBy (eventNumber (first (when b E21 ∷ []) E22)) s (rowNumbered (eventNumber (first (when b E21 ∷ []) E22)) 0 0 (begun s)) o store output)
   bd-event o legal true =
       subst (λ (w : Work). Agrees own lent f (fopDo E21 o 0 f) (bypassedBy 21 s w o store output))
-      (sym (row-event E21 0 0 (begun s) ∙ lengthless-21 0 0 (length o) s)) (bypasses-down own o s store lent good legal)
+      (sym (row-event E21 0 0 (begun s) ∙ lengthless true 0 0 (length o) s)) (bypasses-down own o s store lent good legal)
   bd-event o legal false =
       subst (λ (w : Work). Agrees own lent f (fopDo E22 o 0 f) (bypassedBy 22 s w o store output))
-      (sym (row-event E22 0 0 (begun s) ∙ lengthless-22 0 0 (length o) s)) (rejects-bd own o s store lent good)
+      (sym (row-event E22 0 0 (begun s) ∙ lengthless false 0 0 (length o) s)) (rejects-bd own o s store lent good)
 
   bd-row : (o : List ℕ) → Fits o → Agrees own lent f (fopBd o f) (bypassedBy (bdNumber s) s (rowNumbered (bdNumber s) 0 0 (begun s)) o store output)
   unfolding fopBd bdNumber begun

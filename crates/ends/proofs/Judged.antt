@@ -26,26 +26,30 @@ pub record Does (own : Own) (lent : ℕ) (e : SenderEvent) (f : Fop) (x : Step) 
   pub next : fopOf (begun (x .answer .next .fop)) (x .store) ≡ senderNext own e lent f
   pub good : Good own (x .answer .next .fop) (x .store)
 
+-- the refusal, by whether the frame fits and how the event was judged: j, or 11, or 0
+abbrev number : Bool → ℕ → ℕ
+number b j = pick (eqb j 0) (pick b 0 11) j
+
+-- x where the event is not refused, else y by the refusal
+abbrev unless : {A : Type 0} → A → (ℕ → A) → ℕ → A
+unless x y k = pick (eqb k 0) x (y k)
+
+fits : {A : Type 0} (x : A) (y : ℕ → A) (b : Bool) → pick b x (y 11) ≡ unless x y (number b 0)
+fits x y true = refl
+fits x y false = refl
+
+stays : {A : Type 0} (x : A) (y : ℕ → A) (b : Bool) (j : ℕ) → eqb j 0 ≡ false → unless x y (number b j) ≡ y j
+stays x y b j h = ap (λ (t : Bool). unless x y (pick t (pick b 0 11) j)) h ∙ ap (λ (t : Bool). pick t x (y j)) h
+
 module _ (own : Own) (lent : ℕ) (e : SenderEvent) (f : Fop) where
   abbrev m : machine.Work
   m = work own e f
 
-  abbrev number : Bool → ℕ → ℕ
-  number b j = pick (eqb j 0) (pick b 0 11) j
-
   abbrev answerIf : Bool → ℕ → Answer
-  answerIf b j = pick (eqb (number b j) 0) (answered own m) (refused (number b j) f)
+  answerIf b j = unless (answered own m) (λ k. refused k f) (number b j)
 
   abbrev nextIf : Bool → ℕ → Fop
-  nextIf b j = pick (eqb (number b j) 0) (m .fop) f
-
-  fits-answer : (b : Bool) → pick b (answered own m) (refused 11 f) ≡ answerIf b 0
-  fits-answer true = refl
-  fits-answer false = refl
-
-  fits-next : (b : Bool) → pick b (m .fop) f ≡ nextIf b 0
-  fits-next true = refl
-  fits-next false = refl
+  nextIf b j = unless (m .fop) (λ k. f) (number b j)
 
   -- not refused by 10, 12 or 7
   pub agreed : (x : Step) → judged own e ≡ 0 → Agrees own lent f m x → Does own lent e f x
@@ -53,30 +57,20 @@ module _ (own : Own) (lent : ℕ) (e : SenderEvent) (f : Fop) where
   agreed x j a =
       let b = leb (room (octetsDown own (m .frames))) lent in
       record {
-        answer = a .answer ∙ fits-answer b ∙ ap (λ (k : ℕ). answerIf b k) (sym j);
-        next = a .next ∙ fits-next b ∙ ap (λ (k : ℕ). nextIf b k) (sym j);
+        answer = a .answer ∙ fits (answered own m) (λ k. refused k f) b ∙ ap (λ (k : ℕ). answerIf b k) (sym j);
+        next = a .next ∙ fits (m .fop) (λ k. f) b ∙ ap (λ (k : ℕ). nextIf b k) (sym j);
         good = a .good;
       }
 
   -- refused by one of them
-  refused-answer : (b : Bool) (j : ℕ) → eqb j 0 ≡ false → answerIf b j ≡ refused j f
-  refused-answer b j h =
-      let n : number b j ≡ j = ap (λ (t : Bool). pick t (pick b 0 11) j) h in
-      ap (λ (k : ℕ). pick (eqb k 0) (answered own m) (refused k f)) n ∙ ap (λ (t : Bool). pick t (answered own m) (refused j f)) h
-
-  refused-next : (b : Bool) (j : ℕ) → eqb j 0 ≡ false → nextIf b j ≡ f
-  refused-next b j h =
-      let n : number b j ≡ j = ap (λ (t : Bool). pick t (pick b 0 11) j) h in
-      ap (λ (k : ℕ). pick (eqb k 0) (m .fop) f) n ∙ ap (λ (t : Bool). pick t (m .fop) f) h
-
   pub refuses : (x : Step) (j : ℕ) → judged own e ≡ j → eqb j 0 ≡ false → answerBy x ≡ refused j f → fopOf (begun (x .answer .next .fop)) (x .store) ≡ f
       → Good own (x .answer .next .fop) (x .store) → Does own lent e f x
   unfolding senderAnswer senderNext senderRefusal needed
   refuses x j q h a n g =
       let b = leb (room (octetsDown own (m .frames))) lent in
       record {
-        answer = a ∙ sym (refused-answer b j h) ∙ ap (λ (k : ℕ). answerIf b k) (sym q);
-        next = n ∙ sym (refused-next b j h) ∙ ap (λ (k : ℕ). nextIf b k) (sym q);
+        answer = a ∙ sym (stays (answered own m) (λ k. refused k f) b j h) ∙ ap (λ (k : ℕ). answerIf b k) (sym q);
+        next = n ∙ sym (stays (m .fop) (λ k. f) b j h) ∙ ap (λ (k : ℕ). nextIf b k) (sym q);
         good = g;
       }
 

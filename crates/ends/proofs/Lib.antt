@@ -9,5 +9,9 @@ pub mod Served
 pub mod Requested
 pub mod Events
 pub mod Theorem
+pub mod Example
+pub mod Steps
 pub mod Refused
+pub mod Output
+pub mod Behind
 pub mod Restored

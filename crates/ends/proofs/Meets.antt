@@ -1,15 +1,13 @@
 -- The event that the table's conditions pick meets what its row depends on (crate fop_view, specs/Rows): most rows depend on nothing; for
 -- the others the condition of the event's own line says it, with the limits of the directive's value and, for a control word, with N(R)
 -- from NN(R) to V(S), since otherwise the event is E13. A valid directive is never E40, an invalid one always.
-use Prim.Native.Nat.{ℕ, zero, suc, _≤_, _<_}
+use Prim.Native.Nat.{ℕ, _≤_, _<_}
 use mathlib.Core.Path.{_≡_, refl, sym, ap, subst, _∙_}
 use mathlib.Core.Bool.{Bool, true, false, not, _&&_}
 use mathlib.Core.List.{List, [], _∷_}
-use native.Mathlib.Nat.{le-of-suc-le-suc, not-suc-le-zero}
 use native.Mathlib.Omega.{arith}
 use borrow.Author.Tests.{ltb-true, ltb-false, eqb-false, eq-eqb, not-true}
 use lib.Dec.{T, leb, ltb, eqb, leb→le, eqb→eq}
-use Rattle.base.specs.Choice.{pick}
 use Rattle.base.specs.Modulo.{offset}
 use Rattle.base.proofs.Tests.{apart}
 use Rattle.base.proofs.Computed.{is-true}
@@ -22,25 +20,17 @@ use Rattle.fop_actions.specs.Start.{begun}
 use Rattle.fop_actions.proofs.Ways.{yes, no}
 use Rattle.fop_events.specs.Events.{eventNumber, variablesOf}
 use Rattle.fop_view.specs.Rows.{acknowledging, Needed, Meets}
-use Rattle.session.proofs.Rows.{and-l, and-r, first-all}
-
--- a pair, for a chain of them
-infixr 5 _also_
-abbrev _also_ : {A B : Type 0} → A → B → A × B
-a also b = (a, b)
+use Rattle.session.proofs.Choices.{by-pick, and-l, and-r, upto, _also_}
+use Rattle.session.proofs.Test.{first-all}
 
 -- The first line that holds: it has what its own condition gives.
-picked : (P : FopEvent → Type 0) (c : Bool) {x y : FopEvent} → (c ≡ true → P x) → (c ≡ false → P y) → P (pick c x y)
-picked P true f g = f refl
-picked P false f g = g refl
-
 abbrev Each : (FopEvent → Type 0) → List Line → Type 0
 Each P [] = Unit {0}
 Each P (when c x ∷ more) = (c ≡ true → P x) × Each P more
 
 first-each : (P : FopEvent → Type 0) (lines : List Line) (e : FopEvent) → Each P lines → P e → P (first lines e)
 first-each P [] e each last = last
-first-each P (when c x ∷ more) e each last = picked P c (each .0) (λ t. first-each P more e (each .1) last)
+first-each P (when c x ∷ more) e each last = by-pick P c (each .0) (λ t. first-each P more e (each .1) last)
 
 -- Control words.
 module _ (w : Word) (s : Sender) (octet : w .nr < 256) where
@@ -68,7 +58,7 @@ module _ (w : Word) (s : Sender) (octet : w .nr < 256) where
 
   word-any : (b : Bool) → above ≡ b → WordMeets (first (wordLines (seen w (variablesOf s))) E103)
   unfolding begun
-  word-any true t = picked WordMeets (w .lockout) (λ h. tt) (λ h. picked WordMeets above (λ k. tt) (λ k. absurd (apart (sym k ∙ t))))
+  word-any true t = by-pick WordMeets (w .lockout) (λ h. tt) (λ h. by-pick WordMeets above (λ k. tt) (λ k. absurd (apart (sym k ∙ t))))
   word-any false t = word-in-order t
 
 pub word-meets : (w : Word) (s : Sender) → w .nr < 256 → Meets (wordEvent (seen w (variablesOf s))) [] (w .nr) s
@@ -98,15 +88,6 @@ unfolding directiveEvent
 invalid-is-40 d v s invalid = yes _ _ _ (ap not invalid)
 
 -- Directives that are valid, by their number.
-abbrev Upto : (ℕ → Type 0) → ℕ → Type 0
-Upto P zero = Unit {0}
-Upto P (suc n) = P zero × Upto (λ k. P (suc k)) n
-
-upto : (P : ℕ → Type 0) (n : ℕ) → Upto P n → (k : ℕ) → k < n → P k
-upto P zero each k h = absurd (not-suc-le-zero h)
-upto P (suc n) each zero h = each .0
-upto P (suc n) each (suc k) h = upto (λ j. P (suc j)) n (each .1) k (le-of-suc-le-suc h)
-
 number-below : (d v : ℕ) → T (validDirective d v) → d < 12
 number-below d v h =
     let a : d ≤ 11 = leb→le d 11 (and-r (leb 1 d) (leb d 11) (and-l (leb 1 d && leb d 11) _ h)) in
@@ -127,7 +108,7 @@ module _ (v : ℕ) (s : Sender) (serving : s .variables .«suspend_state» ≡ 0
 
   resumes : ValidMeets 6
   unfolding begun
-  resumes h = picked DirectiveMeets (eqb (s .variables .«suspend_state») 0) (λ t. tt) (λ t. absurd (eqb-false _ _ t serving))
+  resumes h = by-pick DirectiveMeets (eqb (s .variables .«suspend_state») 0) (λ t. tt) (λ t. absurd (eqb-false _ _ t serving))
 
   valid-meets : (d : ℕ) → d < 12 → ValidMeets d
   unfolding begun
@@ -137,8 +118,8 @@ module _ (v : ℕ) (s : Sender) (serving : s .variables .«suspend_state» ≡ 0
       ((λ h. absurd h)
       also (λ h. tt)
       also (λ h. tt)
-      also (λ h. picked DirectiveMeets bc {x = E25} {y = E26} (λ t. tt) (λ t. tt))
-      also (λ h. picked DirectiveMeets bc {x = E27} {y = E28} (λ t. octet-below v h) (λ t. tt))
+      also (λ h. by-pick DirectiveMeets bc {x = E25} {y = E26} (λ t. tt) (λ t. tt))
+      also (λ h. by-pick DirectiveMeets bc {x = E27} {y = E28} (λ t. octet-below v h) (λ t. tt))
       also (λ h. tt)
       also resumes
       also octet-below v

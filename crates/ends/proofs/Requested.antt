@@ -2,7 +2,7 @@
 use Prim.Native.Nat.{ℕ, suc, _+_, _*_, _≤_, _<_}
 use mathlib.Core.Path.{_≡_, refl, sym, ap, subst, _∙_}
 use mathlib.Core.Bool.{Bool, true, false, true≢false}
-use mathlib.Core.List.{List}
+use mathlib.Core.List.{List, [], _∷_}
 use native.Mathlib.Omega.{arith}
 use borrow.Author.Tests.{eqb-true, eqb-false}
 use lib.Dec.{eqb}
@@ -13,12 +13,12 @@ use Rattle.memory.specs.Placed.{placed}
 use Rattle.fop_actions.proofs.SentQueue.{without-none}
 use Rattle.fop.specs.Units.{Own}
 use Rattle.fop.specs.Table.{FopEvent, table78, cell78, E19, E20, E21, E22}
+use Rattle.fop.specs.Events.{when, first}
 use Rattle.fop.specs.Variables as machine
 use Rattle.fop.specs.Machine.{fopDo}
 use Rattle.fop_actions.specs.declared.Handed.{Handed}
 use Rattle.fop_actions.specs.declared.Handed.the-variants as handed
 use Rattle.fop_actions.specs.declared.State.{State}
-use Rattle.fop_actions.specs.declared.State.the-variants as state
 use Rattle.fop_actions.specs.declared.Sender.{Sender}
 use Rattle.fop_actions.specs.declared.Work.{Work}
 use Rattle.fop_actions.specs.Actions as act
@@ -32,6 +32,8 @@ use Rattle.fop_rows.specs.Rows.{inMain, done, doneAll, doneCell, rowOf}
 use Rattle.fop_events.specs.Events.{eventNumber}
 use Rattle.fop_view.specs.State.{Good, held}
 use Rattle.fop_view.specs.Rows.{Meets, Shows, storeAfter}
+use Rattle.fop_view.proofs.Allowed.{in-states}
+use Rattle.session.proofs.Choices.{never}
 use Rattle.fop_view.proofs.Theorem.{row-view, row-lengths, row-few}
 use Rattle.sender.specs.Answers.{stepBy}
 use Rattle.sender.specs.Events.{handedWriting, placeHanded, unitOffered, offeredBy, bypassedBy}
@@ -41,77 +43,37 @@ use Rattle.ends.proofs.Concluding.{Agrees}
 use Rattle.ends.proofs.Bypass.{bypasses, no-bypass}
 use Rattle.ends.proofs.Shown.{held-fits, shown}
 
--- What rows E19 (out of S1 to S3), E20, E21 and E22 hand down and confirm, by computing.
+-- What rows E19 (out of S1 to S3), E20, E21 and E22 hand down and confirm, by computing in each state.
 module _ (n l : ℕ) (s : Sender) where
   abbrev inState : FopEvent → State → Work
   inState e x = doneCell (cell78 (table78 e) (stateOf x)) n l (begun s)
 
+  -- this is handed down, and no unit confirmed
+  abbrev Tells : Handed → Work → Type 0
+  Tells h w = (w .told .handed ≡ h) × (w .told .confirmed .count ≡ 0)
+
   e19-outside : inMain (s .state) ≡ false → rowOf E19 n l (begun s) .told .handed ≡ handed.None
   unfolding rowOf table78 doneCell doneAll done act.respond act.toState withTold begun noneTold
-  e19-outside = by (s .state) where
-    by : (x : State) → inMain x ≡ false → inState E19 x .told .handed ≡ handed.None
-    by state.S1 t = absurd (true≢false t)
-    by state.S2 t = absurd (true≢false t)
-    by state.S3 t = absurd (true≢false t)
-    by state.S4 t = refl
-    by state.S5 t = refl
-    by state.S6 t = refl
+  e19-outside =
+      in-states (λ x. inMain x ≡ false → inState E19 x .told .handed ≡ handed.None) never never never (λ t. refl) (λ t. refl) (λ t. refl) (s .state)
 
-  e20-none : (rowOf E20 n l (begun s) .told .handed ≡ handed.None) × (rowOf E20 n l (begun s) .told .confirmed .count ≡ 0)
+  e20-none : Tells handed.None (rowOf E20 n l (begun s))
   unfolding rowOf table78 doneCell doneAll done act.respond act.toState withTold begun noneTold
-  e20-none = by (s .state) where
-    by : (x : State) → (inState E20 x .told .handed ≡ handed.None) × (inState E20 x .told .confirmed .count ≡ 0)
-    by state.S1 = (refl, refl)
-    by state.S2 = (refl, refl)
-    by state.S3 = (refl, refl)
-    by state.S4 = (refl, refl)
-    by state.S5 = (refl, refl)
-    by state.S6 = (refl, refl)
+  e20-none = in-states (λ x. Tells handed.None (inState E20 x)) (refl, refl) (refl, refl) (refl, refl) (refl, refl) (refl, refl) (refl, refl) (s .state)
 
-  e21-bd : (rowOf E21 n l (begun s) .told .handed ≡ handed.Bd) × (rowOf E21 n l (begun s) .told .confirmed .count ≡ 0)
+  e21-bd : Tells handed.Bd (rowOf E21 n l (begun s))
   unfolding rowOf table78 doneCell doneAll done act.transmitBdFrame act.handDown act.toState withVariables withTold begun noneTold
-  e21-bd = by (s .state) where
-    by : (x : State) → (inState E21 x .told .handed ≡ handed.Bd) × (inState E21 x .told .confirmed .count ≡ 0)
-    by state.S1 = (refl, refl)
-    by state.S2 = (refl, refl)
-    by state.S3 = (refl, refl)
-    by state.S4 = (refl, refl)
-    by state.S5 = (refl, refl)
-    by state.S6 = (refl, refl)
+  e21-bd = in-states (λ x. Tells handed.Bd (inState E21 x)) (refl, refl) (refl, refl) (refl, refl) (refl, refl) (refl, refl) (refl, refl) (s .state)
 
-  e22-none : (rowOf E22 n l (begun s) .told .handed ≡ handed.None) × (rowOf E22 n l (begun s) .told .confirmed .count ≡ 0)
+  e22-none : Tells handed.None (rowOf E22 n l (begun s))
   unfolding rowOf table78 doneCell doneAll done act.respond act.toState withTold begun noneTold
-  e22-none = by (s .state) where
-    by : (x : State) → (inState E22 x .told .handed ≡ handed.None) × (inState E22 x .told .confirmed .count ≡ 0)
-    by state.S1 = (refl, refl)
-    by state.S2 = (refl, refl)
-    by state.S3 = (refl, refl)
-    by state.S4 = (refl, refl)
-    by state.S5 = (refl, refl)
-    by state.S6 = (refl, refl)
+  e22-none = in-states (λ x. Tells handed.None (inState E22 x)) (refl, refl) (refl, refl) (refl, refl) (refl, refl) (refl, refl) (refl, refl) (s .state)
 
 -- the rows of BD requests do not look at a length
-pub lengthless-21 : (n l k : ℕ) (s : Sender) → rowOf E21 n l (begun s) ≡ rowOf E21 n k (begun s)
+pub lengthless : (b : Bool) (n l k : ℕ) (s : Sender) → rowOf (first (when b E21 ∷ []) E22) n l (begun s) ≡ rowOf (first (when b E21 ∷ []) E22) n k (begun s)
 unfolding rowOf table78 doneCell doneAll done begun
-lengthless-21 n l k s = by (s .state) where
-  by : (x : State) → doneCell (cell78 (table78 E21) (stateOf x)) n l (begun s) ≡ doneCell (cell78 (table78 E21) (stateOf x)) n k (begun s)
-  by state.S1 = refl
-  by state.S2 = refl
-  by state.S3 = refl
-  by state.S4 = refl
-  by state.S5 = refl
-  by state.S6 = refl
-
-pub lengthless-22 : (n l k : ℕ) (s : Sender) → rowOf E22 n l (begun s) ≡ rowOf E22 n k (begun s)
-unfolding rowOf table78 doneCell doneAll done begun
-lengthless-22 n l k s = by (s .state) where
-  by : (x : State) → doneCell (cell78 (table78 E22) (stateOf x)) n l (begun s) ≡ doneCell (cell78 (table78 E22) (stateOf x)) n k (begun s)
-  by state.S1 = refl
-  by state.S2 = refl
-  by state.S3 = refl
-  by state.S4 = refl
-  by state.S5 = refl
-  by state.S6 = refl
+lengthless true n l k s = in-states (λ x. inState n l s E21 x ≡ inState n k s E21 x) refl refl refl refl refl refl (s .state)
+lengthless false n l k s = in-states (λ x. inState n l s E22 x ≡ inState n k s E22 x) refl refl refl refl refl refl (s .state)
 
 less-of : (a b : ℕ) → a ≤ b → (a ≡ b → ⊥) → a < b
 less-of a b h n = omega (arith, h, n)

@@ -1,11 +1,11 @@
 -- The test by which a kept state is restored (crate sender, specs/State) holds of every state that a sender can reach, and a state of which it
 -- holds is well-formed: the test is the conjunction of what every event keeps.
 use Prim.Native.Nat.{ℕ, zero, suc, _≤_, _<_}
-use mathlib.Core.Path.{_≡_, refl, sym, subst}
+use mathlib.Core.Path.{_≡_, refl, sym, ap, subst}
 use mathlib.Core.Bool.{Bool, true, false, not, true≢false}
 use mathlib.Core.List.{List, [], _∷_}
 use native.Mathlib.Omega.{arith}
-use borrow.Author.Tests.{leb-true, le-leb, eqb-true, eq-eqb}
+use borrow.Author.Tests.{leb-true, le-leb, eqb-true, eq-eqb, not-true}
 use lib.Dec.{leb, eqb}
 use lib.ListN.{length, getD}
 use Rattle.base.specs.Choice.{both}
@@ -31,14 +31,6 @@ use Rattle.sender.specs.State.{unitsHeld, numbersHold, isEmpty, stateHolds, len
 joined : (a b : Bool) → a ≡ true → b ≡ true → both a b ≡ true
 joined true b p q = q
 joined false b p q = p
-
-is-false : (b : Bool) → not b ≡ true → b ≡ false
-is-false true t = absurd (true≢false (sym t))
-is-false false t = refl
-
-not-true : (b : Bool) → b ≡ false → not b ≡ true
-not-true true t = absurd (true≢false t)
-not-true false t = refl
 
 held-is : (sent : ℕ) (waiting : Bool) → unitsHeld sent waiting ≡ held sent waiting
 held-is sent true = refl
@@ -71,18 +63,18 @@ module _ (v : Variables) (q : Queues) where
   Outside s = inMain s ≡ false → (q .sent ≡ 0) × (q .waiting ≡ false)
 
   empty-test : q .sent ≡ 0 → q .waiting ≡ false → isEmpty q ≡ true
-  empty-test z w = joined _ _ (eq-eqb (q .sent) 0 z) (not-true (q .waiting) w)
+  empty-test z w = joined _ _ (eq-eqb (q .sent) 0 z) (ap not w)
 
   state-test : (s : State) → Outside s → (s ≡ state.S6 → v .timer ≡ 0) → isFrame (q .control) ≡ withFrame s → stateHolds s v q ≡ true
-  state-test state.S1 o t f = not-true _ f
-  state-test state.S2 o t f = not-true _ f
-  state-test state.S3 o t f = not-true _ f
-  state-test state.S4 o t f = joined _ _ (empty-test (o refl .0) (o refl .1)) (not-true _ f)
+  state-test state.S1 o t f = ap not f
+  state-test state.S2 o t f = ap not f
+  state-test state.S3 o t f = ap not f
+  state-test state.S4 o t f = joined _ _ (empty-test (o refl .0) (o refl .1)) (ap not f)
   state-test state.S5 o t f = joined _ _ (empty-test (o refl .0) (o refl .1)) f
-  state-test state.S6 o t f = joined _ _ (empty-test (o refl .0) (o refl .1)) (joined _ _ (not-true _ f) (eq-eqb (v .timer) 0 (t refl)))
+  state-test state.S6 o t f = joined _ _ (empty-test (o refl .0) (o refl .1)) (joined _ _ (ap not f) (eq-eqb (v .timer) 0 (t refl)))
 
   emptied : isEmpty q ≡ true → (q .sent ≡ 0) × (q .waiting ≡ false)
-  emptied t = (eqb-true (q .sent) 0 (left _ _ t), is-false (q .waiting) (right (eqb (q .sent) 0) _ t))
+  emptied t = (eqb-true (q .sent) 0 (left _ _ t), not-true (q .waiting) (right (eqb (q .sent) 0) _ t))
 
   outside : (s : State) → stateHolds s v q ≡ true → Outside s
   outside state.S1 t m = absurd (true≢false m)
@@ -93,12 +85,12 @@ module _ (v : Variables) (q : Queues) where
   outside state.S6 t m = emptied (left _ _ t)
 
   framed : (s : State) → stateHolds s v q ≡ true → isFrame (q .control) ≡ withFrame s
-  framed state.S1 t = is-false _ t
-  framed state.S2 t = is-false _ t
-  framed state.S3 t = is-false _ t
-  framed state.S4 t = is-false _ (right (isEmpty q) _ t)
+  framed state.S1 t = not-true _ t
+  framed state.S2 t = not-true _ t
+  framed state.S3 t = not-true _ t
+  framed state.S4 t = not-true _ (right (isEmpty q) _ t)
   framed state.S5 t = right (isEmpty q) _ t
-  framed state.S6 t = is-false _ (left _ _ (right (isEmpty q) _ t))
+  framed state.S6 t = not-true _ (left _ _ (right (isEmpty q) _ t))
 
   timed : stateHolds state.S6 v q ≡ true → v .timer ≡ 0
   timed t = eqb-true (v .timer) 0 (right (not (isFrame (q .control))) _ (right (isEmpty q) _ t))

@@ -1,6 +1,6 @@
 -- Our own two ends in document 01's session: the sender by the definitions that its public functions equal (crate sender), the receiver by
 -- crate farm's.
-use Prim.Native.Nat.{ℕ}
+use Prim.Native.Nat.{ℕ, _+_, _-_}
 use mathlib.Core.List.{List}
 use mathlib.Core.Option.{Option, none, some}
 use lib.Dec.{eqb}

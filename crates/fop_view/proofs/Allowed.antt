@@ -14,38 +14,27 @@ use Rattle.fop_actions.specs.View.{stateOf}
 use Rattle.fop_view.specs.Rows.{brings, Meets}
 use Rattle.fop_view.proofs.Mode.{same, after, afterAll, allows}
 
+-- a fact in each state
+pub in-states : (P : State → Type 0) → P state.S1 → P state.S2 → P state.S3 → P state.S4 → P state.S5 → P state.S6 → (x : State) → P x
+in-states P a b c d e f state.S1 = a
+in-states P a b c d e f state.S2 = b
+in-states P a b c d e f state.S3 = c
+in-states P a b c d e f state.S4 = d
+in-states P a b c d e f state.S5 = e
+in-states P a b c d e f state.S6 = f
+
 -- a test in every state
-module _ (p : State → Bool) where
-  abbrev two : Bool
-  two = both (p state.S5) (p state.S6)
+abbrev pub every : (State → Bool) → Bool
+every p = both (p state.S1) (both (p state.S2) (both (p state.S3) (both (p state.S4) (both (p state.S5) (p state.S6)))))
 
-  abbrev three : Bool
-  three = both (p state.S4) two
-
-  abbrev four : Bool
-  four = both (p state.S3) three
-
-  abbrev five : Bool
-  five = both (p state.S2) four
-
-  abbrev every : Bool
-  every = both (p state.S1) five
-
-  every-in : every ≡ true → (x : State) → p x ≡ true
-  every-in t =
-      let a : five ≡ true = both-right (p state.S1) five t in
-      let b : four ≡ true = both-right (p state.S2) four a in
-      let c : three ≡ true = both-right (p state.S3) three b in
-      let d : two ≡ true = both-right (p state.S4) two c in
-      by (both-left (p state.S1) five t) (both-left (p state.S2) four a) (both-left (p state.S3) three b)
-      (both-left (p state.S4) two c) (both-left (p state.S5) (p state.S6) d) (both-right (p state.S5) (p state.S6) d) where
-        by : p state.S1 ≡ true → p state.S2 ≡ true → p state.S3 ≡ true → p state.S4 ≡ true → p state.S5 ≡ true → p state.S6 ≡ true → (x : State) → p x ≡ true
-        by a b c d e f state.S1 = a
-        by a b c d e f state.S2 = b
-        by a b c d e f state.S3 = c
-        by a b c d e f state.S4 = d
-        by a b c d e f state.S5 = e
-        by a b c d e f state.S6 = f
+pub every-in : (p : State → Bool) → every p ≡ true → (x : State) → p x ≡ true
+every-in p t =
+    let b = both-right (p state.S1) _ t in
+    let c = both-right (p state.S2) _ b in
+    let d = both-right (p state.S3) _ c in
+    let e = both-right (p state.S4) _ d in
+    in-states (λ x. p x ≡ true) (both-left (p state.S1) _ t) (both-left (p state.S2) _ b) (both-left (p state.S3) _ c) (both-left (p state.S4) _ d)
+    (both-left (p state.S5) _ e) (both-right (p state.S5) _ e)
 
 abbrev cellAllowed : FopEvent → State → Bool
 cellAllowed e x = allows (brings e) x (cell78 (table78 e) (stateOf x))

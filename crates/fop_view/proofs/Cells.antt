@@ -4,10 +4,11 @@ use mathlib.Core.Path.{_≡_, refl, sym, ap, subst, _∙_}
 use mathlib.Core.Bool.{Bool, true, false, not}
 use mathlib.Core.List.{List, []}
 use native.Mathlib.Omega.{arith}
-use borrow.Author.Tests.{eq-eqb, not-true as is-false}
+use borrow.Author.Tests.{eq-eqb, not-true}
 use lib.Dec.{eqb}
 use lib.ListN.{length}
 use Rattle.base.specs.Choice.{pick, both}
+use Rattle.base.proofs.Tests.{apart, both-left, both-right}
 use Rattle.store.proofs.Parts.{slid-none}
 use Rattle.fop_actions.proofs.SentQueue.{without-none}
 use Rattle.fop.specs.Table as table
@@ -29,27 +30,23 @@ use Rattle.fop_rows.specs.Rows.{declared, doneAll, doneCell, inMain}
 use Rattle.fop_view.specs.State.{Good}
 use Rattle.fop_view.specs.Rows.{Brings, nothing, acknowledging, again, offering, numbering, widening, clocking, limiting, timing, suspending, brings, Needed, storeBy, lengthsBy, Shows}
 use Rattle.fop_view.proofs.Mode.{Stored, kept, moved, put, Quiet, Mode, fresh, going, half, over, bad, same, same-is, initial, quietIn, begins, implied, agrees, covers, notPut, putWhere, fits, ends, afterAll, allows}
-use Rattle.base.proofs.Tests.{both-left, both-right}
 use Rattle.fop_view.proofs.Known.{Case, seen, Where, Left, StoreIs, LengthsIs, QuietIs, NoMore, Shut, At, known, where-on, none-below, no-more-first}
 use Rattle.fop_view.proofs.Actions.{steps}
-
-not-true : {A : Type 0} → false ≡ true → A
-not-true t = let z : _≡_ {A = ℕ} 0 1 = cc in absurd (omega arith)
 
 -- The store and the lengths after the event.
 module _ (count : ℕ) (was : List ℕ) (down : ℕ → List ℕ) (added now : List ℕ) where
   slid-left : (p : Stored) → down 0 ≡ was → notPut p ≡ true → Left p count was down added now → now ≡ down count
   slid-left kept none t h = h .0 ∙ sym none ∙ ap down (sym (h .1))
   slid-left moved none t h = h
-  slid-left put none t h = not-true t
+  slid-left put none t h = absurd (apart t)
 
   put-left : (b : Bool) (p : Stored) → putWhere b p ≡ true → Left p count was down added now → now ≡ pick b added was
-  put-left true kept t h = not-true t
-  put-left true moved t h = not-true t
+  put-left true kept t h = absurd (apart t)
+  put-left true moved t h = absurd (apart t)
   put-left true put t h = h
   put-left false kept t h = h .0
-  put-left false moved t h = not-true t
-  put-left false put t h = not-true t
+  put-left false moved t h = absurd (apart t)
+  put-left false put t h = absurd (apart t)
 
 module _ (x : Case) (store : List ℕ) (w : Work) where
   abbrev LeftAfter : Brings → Type 0
@@ -87,7 +84,7 @@ where-implied A false b t h = tt
 
 agrees-is : (a b : Bool) → agrees a b ≡ true → b ≡ a
 agrees-is true b t = t
-agrees-is false b t = is-false b t
+agrees-is false b t = not-true b t
 
 covered : (asked z : Quiet) {timer sent : ℕ} {waiting : Bool} {bc : Control} → covers asked z ≡ true → QuietIs z timer sent waiting bc → QuietIs asked timer sent waiting bc
 covered asked z t q =
@@ -105,11 +102,11 @@ covered asked z t q =
     }
 
 initial-is : (x : State) → initial x ≡ true → x ≡ state.S6
-initial-is state.S1 t = not-true t
-initial-is state.S2 t = not-true t
-initial-is state.S3 t = not-true t
-initial-is state.S4 t = not-true t
-initial-is state.S5 t = not-true t
+initial-is state.S1 t = absurd (apart t)
+initial-is state.S2 t = absurd (apart t)
+initial-is state.S3 t = absurd (apart t)
+initial-is state.S4 t = absurd (apart t)
+initial-is state.S5 t = absurd (apart t)
 initial-is state.S6 t = refl
 
 -- Suspend_State is 0
@@ -177,14 +174,14 @@ module _ (x : Case) (good : Good (x .own) (x .sender) (x .store)) where
 
   ended : (mode : Mode) (t : table.State) (w : Work) (m : machine.Work) → ends (brings (x .event)) (x .sender .state) t mode ≡ true → At x mode w m
       → Shown x (act.toState (declared t) w) (machine.onFop (machine.setState t (m .fop)) m)
-  ended (fresh f z) t w m y h = not-true y
+  ended (fresh f z) t w m y h = absurd (apart y)
   ended (going p f z u l) t w m y h =
       enters p z t w m (both-left _ _ y) (both-right (fits (brings (x .event)) (inMain (x .sender .state)) p) (covers (quietIn (declared t)) z) y)
       (record { store = h .store; c = h .c; d = h .d; is = h .is; formed = h .formed; ended = h .ended })
-  ended (half p z u l) t w m y h = not-true y
+  ended (half p z u l) t w m y h = absurd (apart y)
   ended (over p z) t w m y h =
       enters p z t w m (both-left _ _ y) (both-right (fits (brings (x .event)) (inMain (x .sender .state)) p) (covers (quietIn (declared t)) z) y) h
-  ended bad t w m y h = not-true y
+  ended bad t w m y h = absurd (apart y)
 
   -- Not Applicable: nothing is done
   unchanged : fits (brings (x .event)) (inMain (x .sender .state)) kept ≡ true → Shown x (begun (x .sender)) (seen x [] [] (begun (x .sender)) (x .store))
@@ -207,8 +204,8 @@ module _ (x : Case) (good : Good (x .own) (x .sender) (x .store)) where
   quiet-first =
       let s = x .sender .state in
       record {
-        unsent = where-on (not (inMain s)) (λ t. good .sent-main (is-false (inMain s) t));
-        unasked = where-on (not (inMain s)) (λ t. good .waiting-main (is-false (inMain s) t));
+        unsent = where-on (not (inMain s)) (λ t. good .sent-main (not-true (inMain s) t));
+        unasked = where-on (not (inMain s)) (λ t. good .waiting-main (not-true (inMain s) t));
         stopped = where-on (initial s) (λ t. good .stopped (initial-is s t));
         frame = good .control-s5;
       }

@@ -11,21 +11,20 @@ use lib.ListN.{length}
 use borrow.Author.Tests.{ltb-true, ltb-false}
 use Rattle.base.specs.Choice.{pick}
 use Rattle.base.specs.Modulo.{advanced}
-use Rattle.fop.specs.Units.{Frame, valid, legal, written, wordOctets, readWord}
+use Rattle.fop.specs.Units.{Frame, Word, valid, legal, written, wordOctets, readWord}
 use Rattle.fop.specs.Variables.{Fop, Work}
-use Rattle.fop.specs.Events.{SenderEvent, requestAd, requestBd, lower, directive, wordArrives, work}
+use Rattle.fop.specs.Events.{SenderEvent, requestAd, requestBd, lower, directive, wordArrives, work, fopWord}
 use Rattle.fop.specs.Answers.{Answer, judged, needed, senderRefusal, senderAnswer, refused}
 use Rattle.session.specs.Ends.{Settings, Within, Ends, Tied, tables}
-use Rattle.session.specs.Session.{Linked, History}
+use Rattle.session.specs.Session.{Linked}
 use Rattle.session.specs.Claims.{expected}
 use Rattle.session.specs.Stronger.{Calm, InSession}
 use Rattle.fop.specs.Events as fop
 use Rattle.fop.specs.Table.{Reason}
-use lib.Dec.{T}
 use Rattle.session.specs.Stronger.{Known}
+use Rattle.session.proofs.Choices.{by-pick}
 use Rattle.session.proofs.Alerts.{Hush, ownAlert, ad-hush, bd-hush, tick-hush, lower-hush, terminate-hush}
-use Rattle.session.proofs.Rows.{sound, modeOf}
-use Rattle.session.proofs.Inv.{is-sound, Inv, hears, fine, alerting}
+use Rattle.session.proofs.Inv.{in-mode, Inv, hears, fine, alerting}
 use Rattle.session.proofs.Core.{Session, goes, report, used, isHeld}
 use Rattle.session.proofs.Chan.{Wds}
 use Rattle.session.proofs.Values.{word}
@@ -62,6 +61,10 @@ calm-known : (l : ℕ) (r : Option Reason) → Calm l r → Known l r
 calm-known l r (inl e) = inl e
 calm-known l r (inr e) = inr (inr (inr (inr e)))
 
+by-legal : (b : Bool) → (_≡_ {A = ℕ} (pick b 0 10) 0) ⊎ (_≡_ {A = ℕ} (pick b 0 10) 10)
+by-legal true = inl refl
+by-legal false = inr refl
+
 counter-is : (κ : Session) → κ .farm .counter ≡ length (κ .acceptedBd) % 4 → (report (κ .farm)) .counter ≤ 3
 unfolding report
 counter-is κ e = omega (arith, e)
@@ -72,79 +75,63 @@ number-is κ n a e = omega (arith, e)
 
 module _ (set : Settings) (vw : Within set) (m : Ends) (t : Tied set m) (σ : Linked m) (γ : Linked (tables set)) (κ : Session)
     (R : Rel set vw m t σ κ) (G : Rel set vw (tables set) (tables-tied set) γ κ) (I : Inv set κ) (Q : Tidy (set .n) κ) where
-  pub by : (P : History → Type 0) → P (historyOf κ) → P (σ .history)
-  by P h = subst P (sym (R .history)) h
-
-  pub st-is : γ .sender .state ≡ κ .fop .state
-  st-is = ap (λ (f : Fop). f .state) (G .fop)
-
   pub answer-is : (e : SenderEvent) (lent : ℕ) → m .answer e lent (σ .sender) ≡ senderAnswer (set .own) e lent (κ .fop)
   answer-is e lent = t .answer e lent (σ .sender) (R .good) ∙ ap (λ (f : Fop). senderAnswer (set .own) e lent f) (R .fop)
 
-  pub in-mode : T (sound (modeOf (κ .fop .state)))
-  in-mode = is-sound (modeOf (κ .fop .state)) (set .n) _ _ _ _ _ _ (I .side)
-
-  calm : (e : SenderEvent) (lent : ℕ) → Calm (set .limit) ((work (set .own) e (κ .fop)) .alert)
-      → Calm (set .limit) ((senderAnswer (set .own) e lent (κ .fop)) .alert)
+  -- what holds of the answer where the event goes through, and where it is refused
+  pub answer-ways : (P : Answer → Type 0) (e : SenderEvent) (lent : ℕ)
+      → (goes (set .own) e lent (κ .fop) ≡ true → P (ans.answered (set .own) (work (set .own) e (κ .fop))))
+      → P (refused (senderRefusal (set .own) e lent (κ .fop)) (κ .fop)) → P (m .answer e lent (σ .sender))
   unfolding senderAnswer
-  calm e lent h = go (goes (set .own) e lent (κ .fop))
-    where
-      go : (b : Bool) → Calm (set .limit) ((pick b (ans.answered (set .own) (work (set .own) e (κ .fop)))
-          (refused (senderRefusal (set .own) e lent (κ .fop)) (κ .fop))) .alert)
-      go true = h
-      go false = inl refl
+  answer-ways P e lent h r = subst P (sym (answer-is e lent)) (by-pick P (goes (set .own) e lent (κ .fop)) h (λ b. r))
+
+  -- the oldest word, as it was reported
+  pub oldest-heard : (s : List ℕ) (ws : List (List ℕ)) → σ .words ≡ s ∷ ws
+      → (w : Word) × (more : List Word) × (κ .words ≡ w ∷ more) × (s ≡ wordOctets (set .own) w)
+      × Wds (set .n) (length (κ .confirmed)) (length (κ .accepted)) (w ∷ more)
+      × (work (set .own) (wordArrives s) (κ .fop) ≡ fopWord w (κ .fop)) × (judged (set .own) (wordArrives s) ≡ 0)
+  oldest-heard s ws e =
+      let l = oldest-word set vw _ _ (κ .words) s ws (I .words) (sym e ∙ R .words) in
+      let wd : Wds (set .n) (length (κ .confirmed)) (length (κ .accepted)) (l .0 ∷ l .1) = rw (l .2) at (I .words) in (
+        l .0,
+        l .1,
+        l .2,
+        l .3,
+        wd,
+        ap (λ (x : List ℕ). work (set .own) (wordArrives x) (κ .fop)) (l .3) ∙ hears set vw (l .0) (κ .fop) (wd .3) (omega (arith, wd .1)),
+        ap (λ (x : List ℕ). judged (set .own) (wordArrives x)) (l .3) ∙ fine set vw (l .0) (wd .3) (omega (arith, wd .1)),
+      )
 
   pub quiet : (s : List ℕ) (ws : List (List ℕ)) (lent : ℕ) → σ .words ≡ s ∷ ws → Calm (set .limit) ((m .answer (wordArrives s) lent (σ .sender)) .alert)
   quiet s ws lent e =
-      let l = oldest-word set vw _ _ (κ .words) s ws (I .words) (sym e ∙ R .words) in
-      let wd : Wds (set .n) (length (κ .confirmed)) (length (κ .accepted)) (l .0 ∷ l .1) = rw (l .2) at (I .words) in
-      let h : Calm (set .limit) ((work (set .own) (wordArrives (wordOctets (set .own) (l .0))) (κ .fop)) .alert) =
-      subst (λ (w : Work). Calm (set .limit) (w .alert)) (sym (hears set vw (l .0) (κ .fop) (wd .3) (omega (arith, wd .1))))
-      (word-hush set κ I Q (l .0) (l .1) (l .2)) in
-      subst (λ (a : Answer). Calm (set .limit) (a .alert)) (sym (answer-is (wordArrives s) lent))
-      (calm (wordArrives s) lent (subst (λ (x : List ℕ). Calm (set .limit) ((work (set .own) (wordArrives x) (κ .fop)) .alert)) (sym (l .3)) h))
+      let l = oldest-heard s ws e in
+      answer-ways (λ a. Calm (set .limit) (a .alert)) (wordArrives s) lent
+      (λ g. subst (λ (w : Work). Calm (set .limit) (w .alert)) (sym (l .5)) (word-hush set κ I Q (l .0) (l .1) (l .2))) (inl refl)
 
   -- the alerts
-  known : (e : SenderEvent) (lent : ℕ) → Known (set .limit) ((work (set .own) e (κ .fop)) .alert) → Known (set .limit) ((m .answer e lent (σ .sender)) .alert)
-  unfolding senderAnswer
-  known e lent h = subst (λ (a : Answer). Known (set .limit) (a .alert)) (sym (answer-is e lent)) (go (goes (set .own) e lent (κ .fop)))
-    where
-      go : (b : Bool) → Known (set .limit)
-          ((pick b (ans.answered (set .own) (work (set .own) e (κ .fop))) (refused (senderRefusal (set .own) e lent (κ .fop)) (κ .fop))) .alert)
-      go true = h
-      go false = inl refl
+  known : (e : SenderEvent) (lent : ℕ) → Hush ownAlert ((work (set .own) e (κ .fop)) .alert) → Known (set .limit) ((m .answer e lent (σ .sender)) .alert)
+  known e lent h = answer-ways (λ a. Known (set .limit) (a .alert)) e lent (λ g. own-known (set .limit) _ h) (inl refl)
 
   pub alerts : (e : SenderEvent) (lent : ℕ) → InSession (σ .words) e → Known (set .limit) ((m .answer e lent (σ .sender)) .alert)
   unfolding work
-  alerts (requestAd o) lent h = known (requestAd o) lent (own-known (set .limit) _ (ad-hush (κ .fop) in-mode o))
-  alerts (requestBd o) lent h = known (requestBd o) lent (own-known (set .limit) _ (bd-hush (κ .fop) in-mode o))
-  alerts fop.tick lent h = known fop.tick lent (own-known (set .limit) _ (tick-hush (κ .fop) in-mode (alerting set κ I)))
-  alerts (lower l) lent h = known (lower l) lent (own-known (set .limit) _ (lower-hush (κ .fop) in-mode l))
+  alerts (requestAd o) lent h = known (requestAd o) lent (ad-hush (κ .fop) (in-mode set κ I) o)
+  alerts (requestBd o) lent h = known (requestBd o) lent (bd-hush (κ .fop) (in-mode set κ I) o)
+  alerts fop.tick lent h = known fop.tick lent (tick-hush (κ .fop) (in-mode set κ I) (alerting set κ I))
+  alerts (lower l) lent h = known (lower l) lent (lower-hush (κ .fop) (in-mode set κ I) l)
   alerts (directive d v) lent h =
       subst (λ (x : ℕ). Known (set .limit) ((m .answer (directive x v) lent (σ .sender)) .alert)) (sym (h .0))
       (subst (λ (x : ℕ). Known (set .limit) ((m .answer (directive 5 x) lent (σ .sender)) .alert)) (sym (h .1))
-      (known (directive 5 0) lent (own-known (set .limit) _ (terminate-hush (κ .fop) in-mode))))
+      (known (directive 5 0) lent (terminate-hush (κ .fop) (in-mode set κ I))))
   alerts (wordArrives s) lent h = calm-known (set .limit) _ (quiet s (h .0) lent (h .1))
 
   judge : (e : SenderEvent) → InSession (σ .words) e → (judged (set .own) e ≡ 0) ⊎ (judged (set .own) e ≡ 10)
   unfolding judged
   judge (requestAd o) h = by-legal (legal o)
-    where
-      by-legal : (b : Bool) → (_≡_ {A = ℕ} (pick b 0 10) 0) ⊎ (_≡_ {A = ℕ} (pick b 0 10) 10)
-      by-legal true = inl refl
-      by-legal false = inr refl
   judge (requestBd o) h = by-legal (legal o)
-    where
-      by-legal : (b : Bool) → (_≡_ {A = ℕ} (pick b 0 10) 0) ⊎ (_≡_ {A = ℕ} (pick b 0 10) 10)
-      by-legal true = inl refl
-      by-legal false = inr refl
   judge fop.tick h = inl refl
   judge (lower l) h = inl refl
   judge (directive d v) h = inl (rw (h .0))
-  judge (wordArrives s) h =
-      let l = oldest-word set vw _ _ (κ .words) s (h .0) (I .words) (sym (h .1) ∙ R .words) in
-      let wd : Wds (set .n) (length (κ .confirmed)) (length (κ .accepted)) (l .0 ∷ l .1) = rw (l .2) at (I .words) in
-      inl (subst (λ (x : List ℕ). judged (set .own) (wordArrives x) ≡ 0) (sym (l .3)) (fine set vw (l .0) (wd .3) (omega (arith, wd .1))))
+  judge (wordArrives s) h = inl (oldest-heard s (h .0) (h .1) .6)
 
   pub refusals : (e : SenderEvent) (lent : ℕ) → InSession (σ .words) e → Mild ((m .answer e lent (σ .sender)) .refusal)
   unfolding senderRefusal

@@ -26,6 +26,7 @@ use Rattle.session.proofs.Chan.{Fly}
 use Rattle.session.proofs.Receiver.{ad-cases}
 use Rattle.session.proofs.Next.{historyOf, sender-is}
 use Rattle.base.specs.Choice.{both}
+use Rattle.base.proofs.Tests.{both-left, both-true}
 use Rattle.farm.specs.Table.{table, accepts as acceptsCell}
 use Rattle.farm.specs.Window.{notWait}
 use Rattle.farm.specs.Receiver.{unitOf}
@@ -44,18 +45,9 @@ open-takes : isHanded (unitOf farm.E1 Open) ≡ true
 unfolding table acceptsCell
 open-takes = refl
 
-both-left : (a b : Bool) → both a b ≡ true → a ≡ true
-both-left true b e = refl
-both-left false b e = e
-
+-- an Open receiver that takes no unit has no buffer free
 both-open : (a : Bool) (s : FarmState) → s ≡ Open → both a (notWait s) ≡ false → a ≡ false
-both-open a Open o e = go a e
-  where
-    go : (a : Bool) → both a true ≡ false → a ≡ false
-    go true e = e
-    go false e = refl
-both-open a Wait o e = let z : _≡_ {A = ℕ} 0 1 = cc in absurd (omega arith)
-both-open a Lockout o e = let z : _≡_ {A = ℕ} 0 1 = cc in absurd (omega arith)
+both-open a s o e = sym (both-true a) ∙ ap (λ (x : FarmState). both a (notWait x)) (sym o) ∙ e
 
 -- an AD frame that is handed out
 module _ (set : Settings) (vw : Within set) (σ : Session) (I : Inv set σ) (u : Fdu) (fs : List Frame) (e : σ .frames ≡ AD u ∷ fs) where

@@ -2,7 +2,7 @@
 use mathlib.Core.Logic.{_⊎_, inl, inr}
 use mathlib.Core.Path.{_≡_, refl, ap, _∙_}
 use mathlib.Core.Bool.{true, false, false≢true}
-use mathlib.Core.List.{List, [], _∷_, _++_}
+use mathlib.Core.List.{List, [], _∷_}
 use mathlib.Core.Option.{none, some}
 use Prim.Native.Nat.{ℕ, _≤_, _<_}
 use native.Mathlib.Omega.{arith}
@@ -12,64 +12,42 @@ use Rattle.base.specs.Modulo.{advanced, offset}
 use Rattle.fop.specs.Units.{Fdu, Word, legal, wordOctets}
 use Rattle.fop.specs.Table.{State, S1, S2, S3, S4, S5, S6, FopEvent, table78, cell78, InitiateAdRetransmission}
 use Rattle.fop.specs.Variables.{Fop, Work, Preset, begin}
-use Rattle.fop.specs.Machine.{firstMarked, fopDo, performCell, performAll, perform, lookForFdu, sendNext}
+use Rattle.fop.specs.Machine.{firstMarked, fopDo, performCell, performAll, perform, lookForFdu}
 use Rattle.fop.specs.Variables.{setState, onFop, acceptAdUnit}
 use Rattle.fop.specs.Machine.{sendWaiting, transmitAd}
-use Rattle.fop.specs.Events.{fopAd, fopWord, wordEvent, requestAd}
+use Rattle.fop.specs.Events.{fopWord, wordEvent, requestAd}
 use Rattle.fop.specs.Events.{wordArrives, work}
 use Rattle.fop.specs.Answers.{senderAnswer, judged, needed}
 use Rattle.session.specs.Ends.{Settings, Within}
 use Rattle.session.specs.Session.{adRequest, wordIn, nobody}
 use Rattle.session.specs.Claims.{IsOutstanding, outstanding, Marked}
 use Rattle.session.specs.Stronger.{inService, asking}
-use Rattle.session.proofs.Core.{stepWith, Session, answered, channels, wordCome, step}
-use Rattle.session.proofs.Inv.{Inv, goes-is, hears, fine}
-use Rattle.session.proofs.Chan.{Wds}
-use Rattle.session.proofs.Next.{historyOf, Resent, lv, off-is, out-from, room-is, sender-is, expired, ticked}
+use Rattle.session.proofs.Core.{stepWith, Session, answered, channels, step}
+use Rattle.session.proofs.Inv.{Inv, goes-is}
+use Rattle.session.proofs.Next.{historyOf, Resent, lv, off-is, out-from, room-is, sender-is, word-step, sentAtOnce, ad-is, expired, ticked}
 
--- a unit that is sent at once starts the timer
-look-timer : (w : Work) (o : List ℕ) → w .fop .out .ad ≡ true → firstMarked (w .fop .sentQueue) ≡ none → offset (w .fop .vs) (w .fop .nnr) < w .fop .preset .k
-    → w .fop .waitQueue ≡ some o → (lookForFdu w) .fop .clock .timer ≡ w .fop .preset .t1Initial
-unfolding lookForFdu sendNext sendWaiting transmitAd
-look-timer w o a m k e = rw (a, m, lt-ltb _ _ k, e)
-
-ad-timer : (o : List ℕ) (f : Fop) → f .state ≡ S1 → f .out .ad ≡ true → f .waitQueue ≡ none → firstMarked (f .sentQueue) ≡ none
-    → offset (f .vs) (f .nnr) < f .preset .k
-    → (fopAd o f) .fop .clock .timer ≡ f .preset .t1Initial
-unfolding fopAd fopDo performCell performAll perform table78
-ad-timer o f s a w m k = rw (w, s) (look-timer _ o a m k refl)
-
-look-resp : (w : Work) (o : List ℕ) → w .fop .out .ad ≡ true → firstMarked (w .fop .sentQueue) ≡ none → offset (w .fop .vs) (w .fop .nnr) < w .fop .preset .k
-    → w .fop .waitQueue ≡ some o → (lookForFdu w) .responses ≡ w .responses ++ (acceptAdUnit ∷ [])
-unfolding lookForFdu sendNext sendWaiting transmitAd
-look-resp w o a m k e = rw (a, m, lt-ltb _ _ k, e)
-
-ad-resp : (o : List ℕ) (f : Fop) → f .state ≡ S1 → f .out .ad ≡ true → f .waitQueue ≡ none → firstMarked (f .sentQueue) ≡ none
-    → offset (f .vs) (f .nnr) < f .preset .k
-    → (fopAd o f) .responses ≡ acceptAdUnit ∷ []
-unfolding fopAd fopDo performCell performAll perform table78
-ad-resp o f s a w m k = rw (w, s) (look-resp _ o a m k refl)
-
--- and is accepted
+-- a unit that is sent at once is accepted, and starts the timer
 pub responds : (set : Settings) (σ : Session) → Inv set σ → (o : List ℕ) (lent : ℕ) → legal o ≡ true → needed (set .own) (requestAd o) (σ .fop) ≤ lent
     → σ .fop .state ≡ S1 → σ .fop .out .ad ≡ true → σ .fop .waitQueue ≡ none → firstMarked (σ .fop .sentQueue) ≡ none
     → length (outstanding (historyOf σ)) < set .k
     → (senderAnswer (set .own) (requestAd o) lent (σ .fop)) .responses ≡ acceptAdUnit ∷ []
-unfolding senderAnswer work judged
+unfolding senderAnswer work judged sentAtOnce sendWaiting transmitAd perform
 responds set σ I o lent g r s a w m k =
     let sv : inService (σ .fop .state) ≡ true = rw s in
     let j : judged (set .own) (requestAd o) ≡ 0 = rw g in
-    rw (goes-is (set .own) (requestAd o) lent (σ .fop) j r) (ad-resp o (σ .fop) s a w m (room-is set σ I sv k))
+    rw (goes-is (set .own) (requestAd o) lent (σ .fop) j r)
+    (ap (λ (v : Work). v .responses) (ad-is o (σ .fop) s a w m (room-is set σ I sv k)))
 
 pub starts : (set : Settings) (σ : Session) → Inv set σ → (o : List ℕ) (lent : ℕ) → legal o ≡ true → needed (set .own) (requestAd o) (σ .fop) ≤ lent
     → σ .fop .state ≡ S1 → σ .fop .out .ad ≡ true → σ .fop .waitQueue ≡ none → firstMarked (σ .fop .sentQueue) ≡ none
     → length (outstanding (historyOf σ)) < set .k
     → (step set (adRequest o lent) σ) .fop .clock .timer ≡ set .t1
-unfolding step stepWith work judged answered
+unfolding step stepWith work judged answered sentAtOnce sendWaiting transmitAd perform
 starts set σ I o lent g r s a w m k =
     let sv : inService (σ .fop .state) ≡ true = rw s in
     let j : judged (set .own) (requestAd o) ≡ 0 = rw g in
-    rw (sender-is set (requestAd o) lent σ j r) (ad-timer o (σ .fop) s a w m (room-is set σ I sv k) ∙ ap (λ (p : Preset). p .t1Initial) (I .isSet))
+    rw (sender-is set (requestAd o) lent σ j r)
+    (ap (λ (v : Work). v .fop .clock .timer) (ad-is o (σ .fop) s a w m (room-is set σ I sv k)) ∙ ap (λ (p : Preset). p .t1Initial) (I .isSet))
 
 -- a word that asks for retransmission and reports nothing new
 ask-cell : (v : Work) (s : State) → asking s ≡ true
@@ -110,15 +88,6 @@ ask-is w f s a b c e p l k =
 
 module _ (set : Settings) (vw : Within set) (σ : Session) (I : Inv set σ) (w : Word) (ws : List Word) (i lent : ℕ)
     (comes : σ .words ≡ w ∷ ws) (r : needed (set .own) (wordArrives (wordOctets (set .own) w)) (σ .fop) ≤ lent) where
-  pub word-step : step set (wordIn lent) σ ≡ answered (set .n) (fopWord w (σ .fop)) (channels (σ .frames) ws σ)
-  unfolding step stepWith wordCome judged channels
-  word-step =
-      let wd : Wds (set .n) (length (σ .confirmed)) (length (σ .accepted)) (w ∷ ws) = rw comes at (I .words) in
-      let h = hears set vw w (σ .fop) (wd .3) (omega (arith, wd .1)) in
-      ap (λ (l : List Word). wordCome set lent l σ) comes
-      ∙ sender-is set (wordArrives (wordOctets (set .own) w)) lent (channels (σ .frames) ws σ) (fine set vw w (wd .3) (omega (arith, wd .1))) r
-      ∙ ap (λ (x : Work). answered (set .n) x (channels (σ .frames) ws σ)) h
-
   over : (u : Fdu) → Resent u σ (answered (set .n) (fopWord w (σ .fop)) σ) ⊎ Marked u ((fopWord w (σ .fop)) .fop)
       → Resent u σ (answered (set .n) (fopWord w (σ .fop)) (channels (σ .frames) ws σ))
       ⊎ Marked u ((answered (set .n) (fopWord w (σ .fop)) (channels (σ .frames) ws σ)) .fop)
@@ -137,6 +106,6 @@ module _ (set : Settings) (vw : Within set) (σ : Session) (I : Inv set σ) (w :
       let lv0 = lv set σ I sv in
       let z : offset (w .nr) (σ .fop .nnr) ≡ 0 = omega (arith, nr, lv0, I .base) in
       let e = ask-is w (σ .fop) s a b c z (omega (arith, off-is set σ I sv, from, o .0)) (omega arith) (omega arith) in
-      rw word-step (over (getD (σ .sent) i nobody)
+      rw (word-step set vw σ I w ws lent comes r) (over (getD (σ .sent) i nobody)
       (ticked set σ I sv FopEvent.E10 (w .nr) (σ .fop) refl i (σ .fop .sentQueue) refl (fopWord w (σ .fop)) (ap (λ (x : Work). x .fop .sentQueue) e)
       (ap (λ (x : Work). x .frames) e) o (σ .fop .out .ad) refl))

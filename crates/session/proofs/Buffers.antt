@@ -1,7 +1,7 @@
 -- The single receiver's buffers: those taken are at most those set, and a receiver that waits has none free. The session's invariant
 -- (Inv) does not need this.
-use mathlib.Core.Path.{_≡_, refl}
-use mathlib.Core.Bool.{Bool, true, false, false≢true}
+use mathlib.Core.Path.{_≡_, sym, _∙_}
+use mathlib.Core.Bool.{true, false, false≢true}
 use mathlib.Core.List.{List, [], _∷_}
 use Prim.Native.Nat.{ℕ, _+_, _-_, _≤_}
 use native.Mathlib.Omega.{arith}
@@ -9,6 +9,7 @@ use lib.Dec.{ltb}
 use lib.ListN.{length, length-append}
 use borrow.Author.Tests.{ltb-true, ltb-false}
 use Rattle.base.specs.Choice.{both}
+use Rattle.base.proofs.Tests.{both-left, both-true, both-false}
 use Rattle.fop.specs.Units.{Fdu, Frame, AD, BD, Unlock, SetVR, Refused, Word, wordOctets}
 use Rattle.fop.specs.Events.{SenderEvent, requestAd, requestBd, lower, directive, wordArrives}
 use Rattle.fop.specs.Events as fop
@@ -22,11 +23,12 @@ use Rattle.farm.specs.declared.Event.the-variants.{E1, E2, E3, E4, E6, E10}
 use Rattle.farm.specs.declared.Variables.{Variables}
 use Rattle.session.specs.Ends.{Settings, Within, startReceiver}
 use Rattle.session.specs.Session.{Event, adRequest, bdRequest, ticks, lowerSays, terminate, wordIn, wordLost, wordMade, frameIn, frameLost, release}
+use Rattle.session.proofs.Choices.{by-pick, never}
 use Rattle.session.proofs.Core.{Session, answered, sender, goes, channels, receiver, wordCome, frameCome, frameEvent, isHanded, taken, releases}
 use Rattle.session.proofs.Core.{stepWith, step, free, isHeld}
 use Rattle.session.proofs.Chan.{Fly}
-use Rattle.session.proofs.Inv.{Inv, isLocked, pickS}
-use Rattle.session.proofs.Receiver.{at, ad-cases, locks, begun}
+use Rattle.session.proofs.Inv.{Inv, isLocked}
+use Rattle.session.proofs.Receiver.{at, ad-cases, begun}
 
 -- a receiver that waits has every buffer taken: A units accepted are B, the buffers set and the releases done
 abbrev pub Full : FarmState → ℕ → ℕ → Type 0
@@ -52,63 +54,51 @@ module _ (set : Settings) (a : List Fdu) (u : Fdu) (R : ℕ) (v : Variables) whe
     e1-stock : (s : FarmState) → both (ltb (length a - R) (set .buffers)) (notWait s) ≡ true → isLocked s ≡ false → After E1 s
     unfolding table stepOf performAll perform accepts
     e1-stock Open p l =
-        let k : ltb (length a - R) (set .buffers) ≡ true = left (ltb (length a - R) (set .buffers)) true p in
+        let k : ltb (length a - R) (set .buffers) ≡ true = both-left (ltb (length a - R) (set .buffers)) true p in
         record {
           below = omega (arith, length-append a (u ∷ []));
           most = omega (arith, length-append a (u ∷ []), ltb-true (length a - R) (set .buffers) k);
           full = tt;
         }
-      where
-        left : (b c : Bool) → both b c ≡ true → b ≡ true
-        left true c e = refl
-        left false c e = e
-    e1-stock Wait p l = absurd (right (ltb (length a - R) (set .buffers)) p)
-      where
-        right : (b : Bool) → both b false ≡ true → ⊥
-        right true e = false≢true e
-        right false e = false≢true e
-    e1-stock Lockout p l = locks l
+    e1-stock Wait p l = absurd (false≢true (sym (both-false (ltb (length a - R) (set .buffers))) ∙ p))
+    e1-stock Lockout p l = never l
 
     e2-stock : (s : FarmState) → both (ltb (length a - R) (set .buffers)) (notWait s) ≡ false → isLocked s ≡ false
         → Full s (length a) (set .buffers + R) → After E2 s
     unfolding table stepOf performAll perform accepts
     e2-stock Open p l f =
-        let k : ltb (length a - R) (set .buffers) ≡ false = left (ltb (length a - R) (set .buffers)) p in
+        let k : ltb (length a - R) (set .buffers) ≡ false = sym (both-true (ltb (length a - R) (set .buffers))) ∙ p in
         record { below = below; most = most; full = omega (arith, ltb-false (length a - R) (set .buffers) k) }
-      where
-        left : (b : Bool) → both b true ≡ false → b ≡ false
-        left true e = e
-        left false e = refl
     e2-stock Wait p l f = record { below = below; most = most; full = f }
-    e2-stock Lockout p l f = locks l
+    e2-stock Lockout p l f = never l
 
     e3-stock : (s : FarmState) → isLocked s ≡ false → Full s (length a) (set .buffers + R) → After E3 s
     unfolding table stepOf performAll perform accepts
     e3-stock Open l f = record { below = below; most = most; full = tt }
     e3-stock Wait l f = record { below = below; most = most; full = f }
-    e3-stock Lockout l f = locks l
+    e3-stock Lockout l f = never l
 
     e4-stock : (s : FarmState) → isLocked s ≡ false → Full s (length a) (set .buffers + R) → After E4 s
     unfolding table stepOf performAll perform accepts
     e4-stock Open l f = record { below = below; most = most; full = tt }
     e4-stock Wait l f = record { below = below; most = most; full = f }
-    e4-stock Lockout l f = locks l
+    e4-stock Lockout l f = never l
 
     e6-stock : (s : FarmState) → isLocked s ≡ false → Full s (length a) (set .buffers + R) → Stock set (length a) R (stepOf E6 0 (at s v) .state)
     unfolding table stepOf performAll perform accepts
     e6-stock Open l f = record { below = below; most = most; full = tt }
     e6-stock Wait l f = record { below = below; most = most; full = f }
-    e6-stock Lockout l f = locks l
+    e6-stock Lockout l f = never l
 
     e10-stock : (s : FarmState) → isLocked s ≡ false → ltb 0 (length a - R) ≡ true → Stock set (length a) (R + 1) (stepOf E10 0 (at s v) .state)
     unfolding table stepOf performAll perform
     e10-stock Open l p = record { below = omega (arith, ltb-true 0 (length a - R) p); most = omega arith; full = tt }
     e10-stock Wait l p = record { below = omega (arith, ltb-true 0 (length a - R) p); most = omega arith; full = tt }
-    e10-stock Lockout l p = locks l
+    e10-stock Lockout l p = never l
 
 sender-stock : (set : Settings) (e : SenderEvent) (lent : ℕ) (σ : Session) → Stocked set σ → Stocked set (sender set e lent σ)
 unfolding sender answered
-sender-stock set e lent σ h = pickS (Stocked set) (goes (set .own) e lent (σ .fop)) (λ t. h) (λ t. h)
+sender-stock set e lent σ h = by-pick (Stocked set) (goes (set .own) e lent (σ .fop)) (λ t. h) (λ t. h)
 
 word-stock : (set : Settings) (lent : ℕ) (ws : List Word) (σ : Session) → Stocked set σ → Stocked set (wordCome set lent ws σ)
 unfolding wordCome channels
@@ -145,7 +135,7 @@ stock-keeps set vw wordMade σ I h = h
 stock-keeps set vw frameIn σ I h = frame-stock set vw σ (σ .frames) I (I .base .fly) h
 stock-keeps set vw frameLost σ I h = h
 stock-keeps set vw release σ I h =
-    pickS (Stocked set) (isHeld σ)
+    by-pick (Stocked set) (isHeld σ)
     (λ t. e10-stock set (σ .accepted) (record { ns = 0; octets = [] }) (σ .released) (σ .farm) (h .below) (h .most) (σ .farm .state)
     (I .receiver .unlocked) t) (λ t. h)
 

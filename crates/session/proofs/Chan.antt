@@ -19,6 +19,7 @@ Fly K s A H (Unlock ∷ fs) = ⊥
 Fly K s A H (SetVR v ∷ fs) = ⊥
 Fly K s A H (Refused r ∷ fs) = ⊥
 
+-- more is accepted
 pub fly-mono : (K : ℕ) (s : List Fdu) (A B G H : ℕ) (fs : List Frame) → A ≤ B → G ≤ H → Fly K s A H fs → Fly K s B G fs
 fly-mono K s A B G H [] a g h = tt
 fly-mono K s A B G H (AD u ∷ fs) a g h =
@@ -55,6 +56,7 @@ fly-add K s A H (Unlock ∷ fs) u i e b g r k h = h
 fly-add K s A H (SetVR v ∷ fs) u i e b g r k h = h
 fly-add K s A H (Refused x ∷ fs) u i e b g r k h = h
 
+-- a BD frame enters
 pub fly-bd : (K : ℕ) (s : List Fdu) (A H : ℕ) (fs : List Frame) (o : List ℕ) → legal o ≡ true → Fly K s A H fs → Fly K s A H (fs ++ (BD o ∷ []))
 fly-bd K s A H [] o l h = (l, tt)
 fly-bd K s A H (AD v ∷ fs) o l h = (h .0, h .1, h .2, h .3, h .4, fly-bd K s A (max H (suc (h .0))) fs o l (h .5))
@@ -68,10 +70,12 @@ abbrev pub Wds : ℕ → ℕ → ℕ → List Word → Type 0
 Wds n lo hi [] = lo ≤ hi
 Wds n lo hi (w ∷ ws) = (a : ℕ) × (w .nr ≡ advanced n a) × (lo ≤ a) × (w .counter ≤ 3) × Wds n a hi ws
 
+-- the bounds are in order
 pub wds-le : (n lo hi : ℕ) (ws : List Word) → Wds n lo hi ws → lo ≤ hi
 wds-le n lo hi [] h = h
 wds-le n lo hi (w ∷ ws) h = omega (arith, wds-le n (h .0) hi ws (h .4))
 
+-- a lower first bound, and a higher last one
 pub wds-lower : (n lo lo' hi : ℕ) (ws : List Word) → lo' ≤ lo → Wds n lo hi ws → Wds n lo' hi ws
 wds-lower n lo lo' hi [] g h = omega arith
 wds-lower n lo lo' hi (w ∷ ws) g h = (h .0, h .1, omega arith, h .3, h .4)
@@ -80,6 +84,7 @@ pub wds-higher : (n lo hi hi' : ℕ) (ws : List Word) → hi ≤ hi' → Wds n l
 wds-higher n lo hi hi' [] g h = omega arith
 wds-higher n lo hi hi' (w ∷ ws) g h = (h .0, h .1, h .2, h .3, wds-higher n (h .0) hi hi' ws g (h .4))
 
+-- one more word, which reports the last bound
 pub wds-add : (n lo hi : ℕ) (ws : List Word) (w : Word) → w .nr ≡ advanced n hi → w .counter ≤ 3 → Wds n lo hi ws → Wds n lo hi (ws ++ (w ∷ []))
 wds-add n lo hi [] w e c h = (hi, e, h, c, omega arith)
 wds-add n lo hi (v ∷ ws) w e c h = (h .0, h .1, h .2, h .3, wds-add n (h .0) hi ws w e c (h .4))

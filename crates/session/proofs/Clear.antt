@@ -1,17 +1,15 @@
 -- Demand 3 of the table machines: a clear control word that reports the next number to send.
 use mathlib.Core.Path.{_≡_, refl, sym, ap, _∙_}
-use mathlib.Core.Bool.{Bool, true, false, false≢true}
+use mathlib.Core.Bool.{true, false}
 use mathlib.Core.List.{List, [], _∷_}
-use mathlib.Core.Option.{Option, none, some}
+use mathlib.Core.Option.{none, some}
 use Prim.Native.Nat.{ℕ, zero, suc, _+_, _-_, _≤_, _<_}
 use native.Mathlib.Omega.{arith}
-use lib.Dec.{ltb}
 use lib.ListN.{length, take, drop, length-append, length-take, length-drop}
 use borrow.Author.Tests.{le-ltb, eq-eqb, ne-eqb}
-use Rattle.base.specs.Choice.{pick}
 use Rattle.base.specs.Modulo.{advanced, offset}
 use Rattle.fop.specs.Units.{Fdu, AD, Word, wordOctets}
-use Rattle.fop.specs.Table.{State, S1, S2, S3, S4, S5, S6, FopEvent, table78, cell78}
+use Rattle.fop.specs.Table.{State, S1, FopEvent, table78, cell78}
 use Rattle.fop.specs.Table.{RemoveAcknowledgedFrames, CancelTimer}
 use Rattle.fop.specs.Variables.{Fop, Work, Entry, Preset, begin}
 use Rattle.fop.specs.Machine.{fdus, firstMarked, fopDo, performCell, performAll, perform, lookForFdu, sendNext}
@@ -19,38 +17,29 @@ use Rattle.fop.specs.Variables.{setState, onFop}
 use Rattle.fop.specs.Machine.{sendWaiting, transmitAd, removeAcknowledged, acknowledged, unacknowledged}
 use Rattle.fop.specs.Events.{fopWord, wordEvent}
 use Rattle.fop.specs.Events.{wordArrives}
-use Rattle.fop.specs.Answers.{judged, needed}
+use Rattle.fop.specs.Answers.{needed}
 use Rattle.session.specs.Ends.{Settings, Within}
 use Rattle.session.specs.Session.{wordIn, places}
 use Rattle.session.specs.Claims.{IsOutstanding, outstanding, member, nextNumber, nextUnit, serves}
-use Rattle.session.proofs.Core.{stepWith, Session, answered, channels, wordCome, step}
+use Rattle.session.proofs.Ways.{look-ways}
+use Rattle.session.proofs.Core.{Session, answered, channels, step}
 use Rattle.session.proofs.Lists.{member-in}
-use Rattle.session.proofs.Values.{live, word, queue-length}
-use Rattle.session.proofs.Sender.{acks}
-use Rattle.session.proofs.Inv.{Inv, presetOf, hears, fine, enter}
+use Rattle.session.proofs.Values.{queue-length}
+use Rattle.session.proofs.Inv.{Inv}
 use Rattle.session.proofs.Chan.{Wds, wds-le}
 use Rattle.session.proofs.Receiver.{step-keeps}
-use Rattle.session.proofs.Next.{historyOf, Sent, served, lv, out-count, off-is, out-from, next-sends, sender-is, look-new}
+use Rattle.session.proofs.Next.{historyOf, Sent, in-serving, served, acked, word-step, lv, out-count, off-is, out-from, next-sends, look-new}
 
--- a clear word that reports the next number to send
+-- Look for FDU confirms nothing
 pub look-conf : (w : Work) → (lookForFdu w) .confirmed ≡ w .confirmed
-unfolding lookForFdu sendNext sendWaiting transmitAd
-look-conf w = go (w .fop .out .ad) (firstMarked (w .fop .sentQueue))
-  where
-    last : (b : Bool) (o : Option (List ℕ)) → (pick b (sendWaiting o w) w) .confirmed ≡ w .confirmed
-    last false o = refl
-    last true none = refl
-    last true (some o) = refl
-
-    go : (b : Bool) (o : Option Fdu) → (pick b (sendNext o w) w) .confirmed ≡ w .confirmed
-    go false o = refl
-    go true (some u) = refl
-    go true none = last (ltb (offset (w .fop .vs) (w .fop .nnr)) (w .fop .preset .k)) (w .fop .waitQueue)
+unfolding sendNext sendWaiting transmitAd
+look-conf w = look-ways (λ v. v .confirmed ≡ w .confirmed) w refl (λ u e. refl) (λ o r e. refl)
 
 pub length-places : (s : List Fdu) (x c : ℕ) → length (places s x c) ≡ c
 length-places s x zero = refl
 length-places s x (suc c) = ap suc (length-places s (advanced x 1) c)
 
+-- a clear word that reports the next number to send
 began : Word → Fop → Work
 began w f = begin (some FopEvent.E2) [] (w .nr) f
 
@@ -62,12 +51,10 @@ clear-cell : (v : Work) (s : State) → serves s ≡ true
     ≡ onFop (setState S1 ((lookForFdu (perform CancelTimer (perform RemoveAcknowledgedFrames v))) .fop))
     (lookForFdu (perform CancelTimer (perform RemoveAcknowledgedFrames v)))
 unfolding performCell performAll perform table78
-clear-cell w S1 e = refl
-clear-cell w S2 e = refl
-clear-cell w S3 e = absurd (false≢true e)
-clear-cell w S4 e = absurd (false≢true e)
-clear-cell w S5 e = absurd (false≢true e)
-clear-cell w S6 e = absurd (false≢true e)
+clear-cell v =
+    in-serving (λ s. performCell (cell78 (table78 FopEvent.E2) s) v
+    ≡ onFop (setState S1 ((lookForFdu (perform CancelTimer (perform RemoveAcknowledgedFrames v))) .fop))
+    (lookForFdu (perform CancelTimer (perform RemoveAcknowledgedFrames v)))) refl refl
 
 clear-is : (w : Word) (f : Fop) → serves (f .state) ≡ true → w .lockout ≡ false → w .wait ≡ false → w .retransmit ≡ false
     → offset (w .nr) (f .nnr) ≡ offset (f .vs) (f .nnr) → 0 < offset (f .vs) (f .nnr)
@@ -84,10 +71,6 @@ clear-is w f s a b c e p =
       ne-eqb (offset (f .vs) (f .nnr)) 0 (omega arith),
     )
     (clear-cell (begin (some FopEvent.E2) [] (w .nr) f) (f .state) s)
-
-length-fdus : (q : List Entry) → length (fdus q) ≡ length q
-length-fdus [] = refl
-length-fdus (e ∷ q) = ap suc (length-fdus q)
 
 cleared-conf : (w : Word) (f : Fop) → (cleared w f) .confirmed ≡ acknowledged (f .nnr) (w .nr) (f .sentQueue)
 unfolding cleared perform removeAcknowledged began
@@ -110,12 +93,7 @@ module _ (set : Settings) (vw : Within set) (σ : Session) (I : Inv set σ) (sv 
   wd = rw comes at (I .words)
 
   come-is : step set (wordIn lent) σ ≡ answered (set .n) (fopWord w (σ .fop)) (channels (σ .frames) ws σ)
-  unfolding step stepWith wordCome judged channels
-  come-is =
-      let h = hears set vw w (σ .fop) (wd .3) (omega (arith, wd .1)) in
-      ap (λ (l : List Word). wordCome set lent l σ) comes
-      ∙ sender-is set (wordArrives (wordOctets (set .own) w)) lent (channels (σ .frames) ws σ) (fine set vw w (wd .3) (omega (arith, wd .1))) r
-      ∙ ap (λ (x : Work). answered (set .n) x (channels (σ .frames) ws σ)) h
+  come-is = word-step set vw σ I w ws lent comes r
 
   new-is : offset (w .nr) (σ .fop .nnr) ≡ offset (σ .fop .vs) (σ .fop .nnr)
   new-is = ap (λ (v : ℕ). offset v (σ .fop .nnr)) (nr ∙ sym (lv set σ I (served (σ .fop .state) sv) .isVs))
@@ -127,12 +105,7 @@ module _ (set : Settings) (vw : Within set) (σ : Session) (I : Inv set σ) (sv 
   acked-is : (acknowledged (σ .fop .nnr) (w .nr) (σ .fop .sentQueue) ≡ take (offset (w .nr) (σ .fop .nnr)) (fdus (σ .fop .sentQueue)))
       × (fdus (unacknowledged (σ .fop .nnr) (w .nr) (σ .fop .sentQueue)) ≡ drop (offset (w .nr) (σ .fop .nnr)) (fdus (σ .fop .sentQueue)))
   acked-is =
-      acks (set .n) (presetOf set) (length (σ .confirmed)) (σ .denied) (σ .accepted) (σ .sent) (σ .frames) (wd .0)
-      (begin (some FopEvent.E2) [] (w .nr) (σ .fop))
-      (enter live (set .n) (presetOf set) (length (σ .confirmed)) (σ .accepted) (σ .sent) (σ .frames) (σ .denied) (fdus (σ .fop .sentQueue))
-      (σ .fop .vs) (σ .fop .nnr) (σ .fop .preset)
-      word (wd .0) (w .nr) (σ .fop .waitQueue) [] (I .base) (lv set σ I (served (σ .fop .state) sv)) (wd .2)
-      (wd .1, wds-le (set .n) (wd .0) (length (σ .accepted)) ws (wd .4)) (I .isSet) (I .waiting))
+      acked set σ I (served (σ .fop .state) sv) (wd .0) (w .nr) (wd .2) (wd .1) (wds-le (set .n) (wd .0) (length (σ .accepted)) ws (wd .4))
 
   conf-all : 0 < length (σ .sent) - length (σ .confirmed) → length ((step set (wordIn lent) σ) .confirmed) ≡ length (σ .sent)
   unfolding answered channels

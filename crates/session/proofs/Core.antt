@@ -24,6 +24,7 @@ use Rattle.farm.specs.declared.Unit.the-variants.{None, AdUnit, BdUnit}
 use Rattle.session.specs.Ends.{Settings}
 use Rattle.session.specs.Session.{Event, adRequest, bdRequest, ticks, lowerSays, terminate, wordIn, wordLost, wordMade, frameIn, frameLost, release, addSent, addBd, places, rest}
 
+-- the sender and FARM-1's variables as the tables have them, the channels, and the histories
 pub record Session : Type 0 where
   pub fop : Fop
   pub farm : Variables
@@ -37,10 +38,12 @@ pub record Session : Type 0 where
   pub sentBd : List (List ℕ)
   pub acceptedBd : List (List ℕ)
 
+-- Sent, after frames are handed down
 abbrev pub addAll : ℕ → List Fdu → List Frame → List Fdu
 addAll n s [] = s
 addAll n s (f ∷ fs) = addAll n (addSent n s f) fs
 
+-- and so the units of BD frames
 abbrev pub addBds : List (List ℕ) → List Frame → List (List ℕ)
 addBds b [] = b
 addBds b (f ∷ fs) = addBds (addBd b f) fs
@@ -50,6 +53,7 @@ abbrev pub firstOf : List Fdu → ℕ
 firstOf [] = 0
 firstOf (u ∷ us) = u .ns
 
+-- the sender's work is taken over: its frames enter the channel, and its runs the histories
 unfoldable pub answered : ℕ → Work → Session → Session
 answered n w σ =
     let s : List Fdu = addAll n (σ .sent) (w .frames) in
@@ -67,6 +71,7 @@ answered n w σ =
       acceptedBd = σ .acceptedBd;
     }
 
+-- the event is not refused
 abbrev pub goes : Own → SenderEvent → ℕ → Fop → Bool
 goes own e lent f = eqb (senderRefusal own e lent f) 0
 
@@ -74,6 +79,7 @@ goes own e lent f = eqb (senderRefusal own e lent f) 0
 unfoldable pub sender : Settings → SenderEvent → ℕ → Session → Session
 sender set e lent σ = pick (goes (set .own) e lent (σ .fop)) (answered (set .n) (work (set .own) e (σ .fop)) σ) σ
 
+-- other channels
 unfoldable pub channels : List Frame → List Word → Session → Session
 channels f w σ = record {
   fop = σ .fop;
@@ -97,6 +103,7 @@ taken Unlock t a = a
 taken (SetVR v) t a = a
 taken (Refused r) t a = a
 
+-- and so of BD units
 abbrev pub takenBd : Frame → Bool → List (List ℕ) → List (List ℕ)
 takenBd (AD u) t a = a
 takenBd (BD o) t a = pick t (a ++ (o ∷ [])) a
@@ -104,6 +111,7 @@ takenBd Unlock t a = a
 takenBd (SetVR v) t a = a
 takenBd (Refused r) t a = a
 
+-- the receiver's part, and the frames left
 unfoldable pub receiver : Variables → List Fdu → List (List ℕ) → ℕ → List Frame → Session → Session
 receiver v a b r f σ = record {
   fop = σ .fop;
@@ -119,6 +127,7 @@ receiver v a b r f σ = record {
   acceptedBd = b;
 }
 
+-- the oldest word to the sender
 unfoldable pub wordCome : Settings → ℕ → List Word → Session → Session
 wordCome set lent [] σ = σ
 wordCome set lent (w ∷ ws) σ = sender set (wordArrives (wordOctets (set .own) w)) lent (channels (σ .frames) ws σ)
@@ -131,6 +140,7 @@ frameEvent w room Unlock v = farm.E7
 frameEvent w room (SetVR x) v = farm.E8
 frameEvent w room (Refused r) v = farm.E9
 
+-- V*(R)
 abbrev pub star : Frame → ℕ
 star (AD u) = 0
 star (BD o) = 0
@@ -144,9 +154,11 @@ isHanded None = false
 isHanded AdUnit = true
 isHanded BdUnit = true
 
+-- the frame is handed out
 abbrev pub handed : ℕ → Bool → Frame → Variables → Bool
 handed w room f v = isHanded (unitOf (frameEvent w room f v) (v .state))
 
+-- the oldest frame to the receiver
 unfoldable pub frameCome : Settings → Bool → List Frame → Session → Session
 frameCome set room [] σ = σ
 frameCome set room (f ∷ fs) σ =
@@ -179,11 +191,14 @@ stepWith set room held release σ = releases held σ
 abbrev pub used : Session → ℕ
 used σ = length (σ .accepted) - σ .released
 
+-- a buffer is free
 abbrev pub free : Settings → Session → Bool
 free set σ = ltb (used σ) (set .buffers)
 
+-- a buffer is taken
 abbrev pub isHeld : Session → Bool
 isHeld σ = ltb 0 (used σ)
 
+-- an event, with the buffers as they are
 unfoldable pub step : Settings → Event → Session → Session
 step set e σ = stepWith set (free set σ) (isHeld σ) e σ

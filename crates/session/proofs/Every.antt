@@ -1,9 +1,10 @@
--- A test of every kind of control word, computed.
+-- A test of every kind of control word, computed: a `Seen` is eight tests, so there are 256 of them, and a test that passes at all of them
+-- passes at any.
 use mathlib.Core.Path.{_≡_}
 use mathlib.Core.Bool.{Bool, true, false, _&&_, false≢true}
 use lib.Dec.{T}
 use Rattle.fop.specs.Events.{Seen}
-use Rattle.session.proofs.Rows.{and-l, and-r}
+use Rattle.session.proofs.Choices.{and-l, and-r}
 
 abbrev pub implies : Bool → Bool → Bool
 implies true b = b
@@ -30,7 +31,6 @@ everySeen t =
 
 pub seen-at : (t : Seen → Bool) (x : Seen) → T (everySeen t) → T (t x)
 seen-at t x h =
-    let y = x in
     every-at (λ s. t (made (x .lockout) (x .retransmit) (x .wait) (x .invalid) (x .all) (x .new) (x .once) s)) (x .short)
     (every-at (λ g. every (λ s. t (made (x .lockout) (x .retransmit) (x .wait) (x .invalid) (x .all) (x .new) g s))) (x .once)
     (every-at (λ f. every (λ g. every (λ s. t (made (x .lockout) (x .retransmit) (x .wait) (x .invalid) (x .all) f g s)))) (x .new)

@@ -1,56 +1,41 @@
--- A control word that reaches a sender in service makes the count of confirmed units what it reports.
+-- A control word that reaches a sender in service makes the count of confirmed units what it reports: no more is confirmed (Inv); no less,
+-- since by a computed test the cell that it meets first removes acknowledged frames, and no action takes a confirmed unit back.
 use mathlib.Core.Path.{_≡_, refl, ap, _∙_}
-use mathlib.Core.Bool.{Bool, true, false, not, _&&_, false≢true, true≢false}
+use mathlib.Core.Bool.{Bool, true, false, not, false≢true}
 use mathlib.Core.List.{List, [], _∷_}
 use mathlib.Core.Option.{Option, none, some}
-use Prim.Native.Nat.{ℕ, _+_, _-_, _≤_}
+use Prim.Native.Nat.{_+_, _-_, _≤_}
 use native.Mathlib.Omega.{arith}
 use lib.Dec.{eqb, T}
 use lib.ListN.{length, length-take, length-append}
-use borrow.Author.Tests.{eqb-true}
+use borrow.Author.Tests.{eqb-true, not-false}
 use Rattle.base.specs.Modulo.{advanced, offset}
 use Rattle.fop.specs.Units.{Word}
-use Rattle.fop.specs.Table.{State, S1, S2, S3, S4, S5, S6, Action, Cell, cell, ifNotSuspended, NotApplicable, FopEvent, table78, cell78, Ignore, Accept, Reject, Confirm}
+use Rattle.fop.specs.Table.{State, S1, S2, S3, S4, S5, S6, Action, Cell, cell, ifNotSuspended, NotApplicable, table78, cell78, Ignore, Accept, Reject, Confirm}
 use Rattle.fop.specs.Table.{RejectAd, AcceptBd, RejectBd, AddToWaitQueue, LookForFdu, LookForDirective, RemoveAcknowledgedFrames, InitiateAdRetransmission}
 use Rattle.fop.specs.Table.{InitiateBcRetransmission, ReleaseBcFrame, CancelTimer, StartTimer, Alert, Initialise, TransmitUnlock, TransmitSetVr, TransmitBd, SetSuspendState}
 use Rattle.fop.specs.Table.{Suspend, Resume, SetVs, SetNnr, SetK, SetT1Initial, SetTransmissionLimit, SetTimeoutType, AdOutReady, BcOutReady, BdOutReady}
-use Rattle.fop.specs.Variables.{Work, BcEntry, begin}
-use Rattle.fop.specs.Machine.{perform, performAll, performCell, lookForDirective, removeAcknowledged, acknowledged, transmitBc, purge, denyBc, rejectWaiting, fdus, fopDo}
+use Rattle.fop.specs.Variables.{Work, begin}
+use Rattle.fop.specs.Machine.{perform, performAll, performCell, removeAcknowledged, acknowledged, transmitBc, purge, fdus, fopDo}
 use Rattle.fop.specs.Events.{Seen, seen, wordEvent, fopWord}
 use Rattle.session.specs.Ends.{Settings}
 use Rattle.session.specs.Stronger.{inService}
+use Rattle.session.proofs.Ways.{directive-ways, purge-ways}
+use Rattle.session.proofs.Test.{isThere}
 use Rattle.session.proofs.Core.{Session}
 use Rattle.session.proofs.Chan.{Wds, wds-le}
-use Rattle.session.proofs.Values.{live, word, queue-length}
-use Rattle.session.proofs.Queue.{pickC}
+use Rattle.session.proofs.Values.{word, queue-length}
 use Rattle.session.proofs.Rows.{word-ok}
-use Rattle.session.proofs.Sender.{acks}
-use Rattle.session.proofs.Inv.{Inv, presetOf, enter, row-bound}
-use Rattle.session.proofs.Next.{lv}
+use Rattle.session.proofs.Inv.{Inv, row-bound}
+use Rattle.session.proofs.Next.{lv, acked}
 use Rattle.session.proofs.Clear.{look-conf}
 use Rattle.session.proofs.Keys.{Tidy}
 use Rattle.session.proofs.Every.{implies, implied, everySeen, seen-at}
 use Rattle.session.proofs.Quiet.{fitting, live-fits}
 
 -- no action takes a confirmed unit back
-directive-conf : (o : Option BcEntry) (w : Work) → (lookForDirective o w) .confirmed ≡ w .confirmed
-unfolding lookForDirective
-directive-conf none w = refl
-directive-conf (some b) w = pickC (λ (v : Work). v .confirmed ≡ w .confirmed) (b .marked && w .fop .out .bc) (λ t. refl) (λ t. refl)
-
-reject-conf : (o : Option (List ℕ)) (w : Work) → (rejectWaiting o w) .confirmed ≡ w .confirmed
-unfolding rejectWaiting
-reject-conf none w = refl
-reject-conf (some o) w = refl
-
-deny-conf : (o : Option BcEntry) (w : Work) → (denyBc o w) .confirmed ≡ w .confirmed
-unfolding denyBc
-deny-conf none w = refl
-deny-conf (some o) w = refl
-
 purge-conf : (w : Work) → (purge w) .confirmed ≡ w .confirmed
-unfolding purge
-purge-conf w = reject-conf (w .fop .waitQueue) _ ∙ deny-conf (w .fop .bcFrame) _
+purge-conf w = purge-ways (λ v. v .confirmed ≡ w .confirmed) w refl (λ r v k. k)
 
 act-grows : (x : Action) (w : Work) → length (w .confirmed) ≤ length ((perform x w) .confirmed)
 unfolding perform removeAcknowledged transmitBc
@@ -63,7 +48,7 @@ act-grows AcceptBd w = omega arith
 act-grows RejectBd w = omega arith
 act-grows AddToWaitQueue w = omega arith
 act-grows LookForFdu w = omega (arith, ap length (look-conf w))
-act-grows LookForDirective w = omega (arith, ap length (directive-conf (w .fop .bcFrame) w))
+act-grows LookForDirective w = directive-ways (λ v. length (w .confirmed) ≤ length (v .confirmed)) w (omega arith) (λ b. omega arith) (w .fop .bcFrame)
 act-grows RemoveAcknowledgedFrames w = omega (arith, length-append (w .confirmed) (acknowledged (w .fop .nnr) (w .value) (w .fop .sentQueue)))
 act-grows InitiateAdRetransmission w = omega arith
 act-grows InitiateBcRetransmission w = omega arith
@@ -93,89 +78,59 @@ unfolding performAll
 all-grow [] w = omega arith
 all-grow (x ∷ xs) w = omega (arith, act-grows x w, all-grow xs (perform x w))
 
+-- the action is Remove acknowledged frames, with the proof where it is
+abbrev isRemove : (x : Action) → Option (x ≡ RemoveAcknowledgedFrames)
+isRemove Ignore = none
+isRemove Accept = none
+isRemove Reject = none
+isRemove Confirm = none
+isRemove RejectAd = none
+isRemove AcceptBd = none
+isRemove RejectBd = none
+isRemove AddToWaitQueue = none
+isRemove LookForFdu = none
+isRemove LookForDirective = none
+isRemove RemoveAcknowledgedFrames = some refl
+isRemove InitiateAdRetransmission = none
+isRemove InitiateBcRetransmission = none
+isRemove ReleaseBcFrame = none
+isRemove CancelTimer = none
+isRemove StartTimer = none
+isRemove (Alert r) = none
+isRemove Initialise = none
+isRemove TransmitUnlock = none
+isRemove TransmitSetVr = none
+isRemove TransmitBd = none
+isRemove (SetSuspendState n) = none
+isRemove Suspend = none
+isRemove Resume = none
+isRemove SetVs = none
+isRemove SetNnr = none
+isRemove SetK = none
+isRemove SetT1Initial = none
+isRemove SetTransmissionLimit = none
+isRemove SetTimeoutType = none
+isRemove AdOutReady = none
+isRemove BcOutReady = none
+isRemove BdOutReady = none
+
 -- the cell removes acknowledged frames first
-abbrev isRemove : Action → Bool
-isRemove Ignore = false
-isRemove Accept = false
-isRemove Reject = false
-isRemove Confirm = false
-isRemove RejectAd = false
-isRemove AcceptBd = false
-isRemove RejectBd = false
-isRemove AddToWaitQueue = false
-isRemove LookForFdu = false
-isRemove LookForDirective = false
-isRemove RemoveAcknowledgedFrames = true
-isRemove InitiateAdRetransmission = false
-isRemove InitiateBcRetransmission = false
-isRemove ReleaseBcFrame = false
-isRemove CancelTimer = false
-isRemove StartTimer = false
-isRemove (Alert r) = false
-isRemove Initialise = false
-isRemove TransmitUnlock = false
-isRemove TransmitSetVr = false
-isRemove TransmitBd = false
-isRemove (SetSuspendState n) = false
-isRemove Suspend = false
-isRemove Resume = false
-isRemove SetVs = false
-isRemove SetNnr = false
-isRemove SetK = false
-isRemove SetT1Initial = false
-isRemove SetTransmissionLimit = false
-isRemove SetTimeoutType = false
-isRemove AdOutReady = false
-isRemove BcOutReady = false
-isRemove BdOutReady = false
-
-first-removes : (x : Action) (w : Work) → T (isRemove x) → perform x w ≡ removeAcknowledged w
-unfolding perform
-first-removes Ignore w t = absurd t
-first-removes Accept w t = absurd t
-first-removes Reject w t = absurd t
-first-removes Confirm w t = absurd t
-first-removes RejectAd w t = absurd t
-first-removes AcceptBd w t = absurd t
-first-removes RejectBd w t = absurd t
-first-removes AddToWaitQueue w t = absurd t
-first-removes LookForFdu w t = absurd t
-first-removes LookForDirective w t = absurd t
-first-removes RemoveAcknowledgedFrames w t = refl
-first-removes InitiateAdRetransmission w t = absurd t
-first-removes InitiateBcRetransmission w t = absurd t
-first-removes ReleaseBcFrame w t = absurd t
-first-removes CancelTimer w t = absurd t
-first-removes StartTimer w t = absurd t
-first-removes (Alert r) w t = absurd t
-first-removes Initialise w t = absurd t
-first-removes TransmitUnlock w t = absurd t
-first-removes TransmitSetVr w t = absurd t
-first-removes TransmitBd w t = absurd t
-first-removes (SetSuspendState n) w t = absurd t
-first-removes Suspend w t = absurd t
-first-removes Resume w t = absurd t
-first-removes SetVs w t = absurd t
-first-removes SetNnr w t = absurd t
-first-removes SetK w t = absurd t
-first-removes SetT1Initial w t = absurd t
-first-removes SetTransmissionLimit w t = absurd t
-first-removes SetTimeoutType w t = absurd t
-first-removes AdOutReady w t = absurd t
-first-removes BcOutReady w t = absurd t
-first-removes BdOutReady w t = absurd t
-
 abbrev removes : Cell → Bool
 removes NotApplicable = false
 removes (cell [] u) = false
-removes (cell (x ∷ xs) u) = isRemove x
+removes (cell (x ∷ xs) u) = isThere (isRemove x)
 removes (ifNotSuspended xs ys u) = false
 
 cell-removes : (c : Cell) (w : Work) → T (removes c) → length ((removeAcknowledged w) .confirmed) ≤ length ((performCell c w) .confirmed)
-unfolding performCell performAll
+unfolding performCell performAll perform
 cell-removes NotApplicable w t = absurd t
 cell-removes (cell [] u) w t = absurd t
-cell-removes (cell (x ∷ xs) u) w t = omega (arith, all-grow xs (perform x w), ap (λ (v : Work). length (v .confirmed)) (first-removes x w t))
+cell-removes (cell (x ∷ xs) u) w t = go (isRemove x) t
+  where
+    go : (o : Option (x ≡ RemoveAcknowledgedFrames)) → T (isThere o)
+        → length ((removeAcknowledged w) .confirmed) ≤ length ((performAll xs (perform x w)) .confirmed)
+    go none t = absurd t
+    go (some e) t = omega (arith, all-grow xs (perform x w), ap (λ (y : Action). length ((perform y w) .confirmed)) e)
 cell-removes (ifNotSuspended xs ys u) w t = absurd t
 
 -- the test: in service, a word that fits and reports something new meets such a cell
@@ -190,10 +145,6 @@ removes-all S3 e = tt
 removes-all S4 e = absurd (false≢true e)
 removes-all S5 e = absurd (false≢true e)
 removes-all S6 e = absurd (false≢true e)
-
-not-true : (b : Bool) → not b ≡ false → b ≡ true
-not-true true e = refl
-not-true false e = absurd (true≢false e)
 
 module _ (set : Settings) (σ : Session) (I : Inv set σ) (Q : Tidy (set .n) σ) (sv : inService (σ .fop .state) ≡ true) (w : Word) (ws : List Word)
     (comes : σ .words ≡ w ∷ ws) where
@@ -212,20 +163,14 @@ module _ (set : Settings) (σ : Session) (I : Inv set σ) (Q : Tidy (set .n) σ)
 
   removed : length (acknowledged (σ .fop .nnr) (w .nr) (σ .fop .sentQueue)) ≡ offset (w .nr) (σ .fop .nnr)
   removed =
-      let l = lv set σ I sv in
-      let ln = queue-length (length (σ .confirmed)) (σ .sent) [] (fdus (σ .fop .sentQueue)) (l .cut) in
-      let a = acks (set .n) (presetOf set) (length (σ .confirmed)) (σ .denied) (σ .accepted) (σ .sent) (σ .frames) (reports .0)
-      (begin (some FopEvent.E2) [] (w .nr) (σ .fop))
-      (enter live (set .n) (presetOf set) (length (σ .confirmed)) (σ .accepted) (σ .sent) (σ .frames) (σ .denied) (fdus (σ .fop .sentQueue))
-      (σ .fop .vs) (σ .fop .nnr) (σ .fop .preset)
-      word (reports .0) (w .nr) (σ .fop .waitQueue) [] (I .base) l (reports .2)
-      (reports .1, wds-le (set .n) (reports .0) (length (σ .accepted)) ws (reports .4)) (I .isSet) (I .waiting)) in
+      let ln = queue-length (length (σ .confirmed)) (σ .sent) [] (fdus (σ .fop .sentQueue)) (lv set σ I sv .cut) in
+      let a = acked set σ I sv (reports .0) (w .nr) (reports .2) (reports .1) (wds-le (set .n) (reports .0) (length (σ .accepted)) ws (reports .4)) in
       ap length (a .0) ∙ length-take (offset (w .nr) (σ .fop .nnr)) (fdus (σ .fop .sentQueue))
       ∙ omega (arith, new-is, ln, I .base, wds-le (set .n) (reports .0) _ ws (reports .4))
 
   least : (b : Bool) → not (eqb (offset (w .nr) (σ .fop .nnr)) 0) ≡ b → offset (w .nr) (σ .fop .nnr) ≤ length ((fopWord w (σ .fop)) .confirmed)
   unfolding fopWord fopDo removeAcknowledged
-  least false e = omega (arith, eqb-true (offset (w .nr) (σ .fop .nnr)) 0 (not-true _ e))
+  least false e = omega (arith, eqb-true (offset (w .nr) (σ .fop .nnr)) 0 (not-false _ e))
   least true e =
       let f = live-fits set σ I w ws (σ .fop .state) (lv set σ I sv) (rw comes at (Q .keys)) in
       let t = implied (fitting (σ .fop .state) (seen w (σ .fop))) _ (seen-at (removesAt (σ .fop .state)) (seen w (σ .fop))

@@ -1,67 +1,28 @@
--- An event hands down at most one frame.
-use mathlib.Core.Path.{_≡_, refl, ap, _∙_}
+-- An event hands down at most one frame: each action has a count with its proof, and a computed test shows that the counts of every cell of
+-- table 7-8 add up to 1 at most.
+use mathlib.Core.Path.{_≡_, refl, ap}
 use mathlib.Core.Bool.{Bool, true, _&&_}
 use mathlib.Core.List.{List, [], _∷_, _++_}
-use mathlib.Core.Option.{Option, none, some}
+use mathlib.Core.Option.{some}
 use Prim.Native.Nat.{ℕ, _+_, _≤_}
 use native.Mathlib.Omega.{arith}
 use lib.Dec.{leb, ltb, eqb, T, leb→le}
 use lib.ListN.{length, length-append}
-use Rattle.base.specs.Modulo.{offset}
-use Rattle.fop.specs.Units.{Fdu, Frame, AD, Heard, valid, invalid, other, Own, readWord}
-use Rattle.fop.specs.Table.{Ignore, SetSuspendState, Suspend, Resume, State, S1, S2, S3, S4, S5, S6, Action, Cell, cell, ifNotSuspended, NotApplicable, Row, row, FopEvent, table78, cell78, Accept, Reject, Confirm}
+use Rattle.fop.specs.Units.{Frame, AD, Heard, valid, invalid, other, Own, readWord}
+use Rattle.fop.specs.Table.{Ignore, SetSuspendState, Suspend, Resume, Action, Cell, cell, ifNotSuspended, NotApplicable, FopEvent, table78, cell78, Accept, Reject, Confirm}
 use Rattle.fop.specs.Table.{RejectAd, AcceptBd, RejectBd, AddToWaitQueue, LookForFdu, LookForDirective, RemoveAcknowledgedFrames, InitiateAdRetransmission}
 use Rattle.fop.specs.Table.{InitiateBcRetransmission, ReleaseBcFrame, CancelTimer, StartTimer, Alert, Initialise, TransmitUnlock, TransmitSetVr, TransmitBd}
 use Rattle.fop.specs.Table.{SetVs, SetNnr, SetK, SetT1Initial, SetTransmissionLimit, SetTimeoutType, AdOutReady, BcOutReady, BdOutReady}
-use Rattle.fop.specs.Variables.{Fop, Work, BcEntry}
-use Rattle.fop.specs.Machine.{firstMarked, perform, performAll, performCell, lookForFdu, sendNext, sendWaiting, transmitAd, lookForDirective, transmitBc}
+use Rattle.fop.specs.Variables.{Fop, Work}
+use Rattle.fop.specs.Machine.{perform, performAll, performCell, lookForFdu, sendNext, sendWaiting, transmitAd, transmitBc}
 use Rattle.fop.specs.Variables.{begin}
-use Rattle.fop.specs.Machine.{purge, denyBc, rejectWaiting, removeAcknowledged, fopDo}
+use Rattle.fop.specs.Machine.{purge, removeAcknowledged, fopDo}
 use Rattle.fop.specs.Events.{when, expiryLines, wordLines, wordEvent, seen, fopWord, fopAd, fopBd, fopExpiry, fopTick, fopLower, Lower, fopDirective, directiveLines}
 use Rattle.fop.specs.Events.{directiveEvent, isEmpty, fopHeard, SenderEvent, requestAd, requestBd, lower, directive, wordArrives, work}
 use Rattle.fop.specs.Events as fop
-use Rattle.session.proofs.Rows.{and-l, and-r, first-all}
-use Rattle.session.proofs.Queue.{pickC}
-
--- the frames that an action can hand down
-abbrev sends : Action → ℕ
-sends Accept = 0
-sends Reject = 0
-sends Confirm = 0
-sends RejectAd = 0
-sends AcceptBd = 0
-sends RejectBd = 0
-sends Ignore = 0
-sends (SetSuspendState s) = 0
-sends Suspend = 0
-sends Resume = 0
-sends AddToWaitQueue = 0
-sends LookForFdu = 1
-sends LookForDirective = 1
-sends RemoveAcknowledgedFrames = 0
-sends InitiateAdRetransmission = 0
-sends InitiateBcRetransmission = 0
-sends ReleaseBcFrame = 0
-sends CancelTimer = 0
-sends StartTimer = 0
-sends (Alert r) = 0
-sends Initialise = 0
-sends TransmitUnlock = 1
-sends TransmitSetVr = 1
-sends TransmitBd = 1
-sends SetVs = 0
-sends SetNnr = 0
-sends SetK = 0
-sends SetT1Initial = 0
-sends SetTransmissionLimit = 0
-sends SetTimeoutType = 0
-sends AdOutReady = 0
-sends BcOutReady = 0
-sends BdOutReady = 0
-
-abbrev sendsAll : List Action → ℕ
-sendsAll [] = 0
-sendsAll (x ∷ xs) = sends x + sendsAll xs
+use Rattle.session.proofs.Choices.{by-pick, and-l, and-r}
+use Rattle.session.proofs.Ways.{look-ways, directive-ways, purge-ways}
+use Rattle.session.proofs.Test.{everyCell, every-cell, first-all, lower-all}
 
 abbrev Most : ℕ → Work → Type 0
 Most k w = length (w .frames) ≤ k
@@ -69,80 +30,58 @@ Most k w = length (w .frames) ≤ k
 one-more : (w : Work) (x : Frame) → length (w .frames ++ (x ∷ [])) ≤ length (w .frames) + 1
 one-more w x = omega (arith, length-append (w .frames) (x ∷ []))
 
-waiting-few : (o : Option (List ℕ)) (w : Work) → Most (length (w .frames) + 1) (sendWaiting o w)
-unfolding sendWaiting transmitAd
-waiting-few none w = omega arith
-waiting-few (some o) w = one-more w _
-
-next-few : (o : Option Fdu) (w : Work) → Most (length (w .frames) + 1) (sendNext o w)
-unfolding sendNext
-next-few none w = pickC (Most (length (w .frames) + 1)) (ltb (offset (w .fop .vs) (w .fop .nnr)) (w .fop .preset .k))
-    (λ t. waiting-few (w .fop .waitQueue) w) (λ t. omega arith)
-next-few (some u) w = one-more w (AD u)
-
 look-few : (w : Work) → Most (length (w .frames) + 1) (lookForFdu w)
-unfolding lookForFdu
-look-few w = pickC (Most (length (w .frames) + 1)) (w .fop .out .ad) (λ t. next-few (firstMarked (w .fop .sentQueue)) w) (λ t. omega arith)
-
-lookBc-few : (o : Option BcEntry) (w : Work) → Most (length (w .frames) + 1) (lookForDirective o w)
-unfolding lookForDirective
-lookBc-few none w = omega arith
-lookBc-few (some b) w = pickC (Most (length (w .frames) + 1)) (b .marked && w .fop .out .bc) (λ t. one-more w (b .frame)) (λ t. omega arith)
-
-reject-few : (o : Option (List ℕ)) (w : Work) → (rejectWaiting o w) .frames ≡ w .frames
-unfolding rejectWaiting
-reject-few none w = refl
-reject-few (some o) w = refl
-
-deny-few : (o : Option BcEntry) (w : Work) → (denyBc o w) .frames ≡ w .frames
-unfolding denyBc
-deny-few none w = refl
-deny-few (some o) w = refl
+unfolding sendNext sendWaiting transmitAd
+look-few w = look-ways (Most (length (w .frames) + 1)) w (omega arith) (λ u e. one-more w (AD u)) (λ o r e. one-more w _)
 
 pub purge-few : (w : Work) → (purge w) .frames ≡ w .frames
-unfolding purge
-purge-few w = reject-few (w .fop .waitQueue) _ ∙ deny-few (w .fop .bcFrame) _
+purge-few w = purge-ways (λ v. v .frames ≡ w .frames) w refl (λ r v k. k)
 
-act-few : (x : Action) (w : Work) → Most (length (w .frames) + sends x) (perform x w)
+-- the frames that an action can hand down, at most, with the proof
+unfoldable sends : (x : Action) → (k : ℕ) × ((w : Work) → Most (length (w .frames) + k) (perform x w))
 unfolding perform removeAcknowledged transmitBc
-act-few Accept w = omega arith
-act-few Reject w = omega arith
-act-few Confirm w = omega arith
-act-few RejectAd w = omega arith
-act-few AcceptBd w = omega arith
-act-few RejectBd w = omega arith
-act-few Ignore w = omega arith
-act-few (SetSuspendState s) w = omega arith
-act-few Suspend w = omega arith
-act-few Resume w = omega arith
-act-few AddToWaitQueue w = omega arith
-act-few LookForFdu w = look-few w
-act-few LookForDirective w = lookBc-few (w .fop .bcFrame) w
-act-few RemoveAcknowledgedFrames w = omega arith
-act-few InitiateAdRetransmission w = omega arith
-act-few InitiateBcRetransmission w = omega arith
-act-few ReleaseBcFrame w = omega arith
-act-few CancelTimer w = omega arith
-act-few StartTimer w = omega arith
-act-few (Alert r) w = omega (arith, ap length (purge-few w))
-act-few Initialise w = omega (arith, ap length (purge-few w))
-act-few TransmitUnlock w = one-more w _
-act-few TransmitSetVr w = one-more w _
-act-few TransmitBd w = one-more w _
-act-few SetVs w = omega arith
-act-few SetNnr w = omega arith
-act-few SetK w = omega arith
-act-few SetT1Initial w = omega arith
-act-few SetTransmissionLimit w = omega arith
-act-few SetTimeoutType w = omega arith
-act-few AdOutReady w = omega arith
-act-few BcOutReady w = omega arith
-act-few BdOutReady w = omega arith
+sends Accept = (0, λ w. omega arith)
+sends Reject = (0, λ w. omega arith)
+sends Confirm = (0, λ w. omega arith)
+sends RejectAd = (0, λ w. omega arith)
+sends AcceptBd = (0, λ w. omega arith)
+sends RejectBd = (0, λ w. omega arith)
+sends Ignore = (0, λ w. omega arith)
+sends (SetSuspendState s) = (0, λ w. omega arith)
+sends Suspend = (0, λ w. omega arith)
+sends Resume = (0, λ w. omega arith)
+sends AddToWaitQueue = (0, λ w. omega arith)
+sends LookForFdu = (1, look-few)
+sends LookForDirective = (1, λ w. directive-ways (Most (length (w .frames) + 1)) w (omega arith) (λ b. one-more w (b .frame)) (w .fop .bcFrame))
+sends RemoveAcknowledgedFrames = (0, λ w. omega arith)
+sends InitiateAdRetransmission = (0, λ w. omega arith)
+sends InitiateBcRetransmission = (0, λ w. omega arith)
+sends ReleaseBcFrame = (0, λ w. omega arith)
+sends CancelTimer = (0, λ w. omega arith)
+sends StartTimer = (0, λ w. omega arith)
+sends (Alert r) = (0, λ w. omega (arith, ap length (purge-few w)))
+sends Initialise = (0, λ w. omega (arith, ap length (purge-few w)))
+sends TransmitUnlock = (1, λ w. one-more w _)
+sends TransmitSetVr = (1, λ w. one-more w _)
+sends TransmitBd = (1, λ w. one-more w _)
+sends SetVs = (0, λ w. omega arith)
+sends SetNnr = (0, λ w. omega arith)
+sends SetK = (0, λ w. omega arith)
+sends SetT1Initial = (0, λ w. omega arith)
+sends SetTransmissionLimit = (0, λ w. omega arith)
+sends SetTimeoutType = (0, λ w. omega arith)
+sends AdOutReady = (0, λ w. omega arith)
+sends BcOutReady = (0, λ w. omega arith)
+sends BdOutReady = (0, λ w. omega arith)
+
+abbrev sendsAll : List Action → ℕ
+sendsAll [] = 0
+sendsAll (x ∷ xs) = sends x .0 + sendsAll xs
 
 all-few : (xs : List Action) (w : Work) → Most (length (w .frames) + sendsAll xs) (performAll xs w)
 unfolding performAll
 all-few [] w = omega arith
-all-few (x ∷ xs) w = omega (arith, act-few x w, all-few xs (perform x w))
+all-few (x ∷ xs) w = omega (arith, sends x .1 w, all-few xs (perform x w))
 
 -- no cell of the table hands down more than one
 abbrev cellFew : Cell → Bool
@@ -150,66 +89,50 @@ cellFew NotApplicable = true
 cellFew (cell xs s) = leb (sendsAll xs) 1
 cellFew (ifNotSuspended xs ys s) = leb (sendsAll xs) 1 && leb (sendsAll ys) 1
 
-abbrev inRow : Row → Bool
-inRow (row a b c d e f) = cellFew a && (cellFew b && (cellFew c && (cellFew d && (cellFew e && cellFew f))))
-
 abbrev rowFew : FopEvent → Bool
-rowFew e = inRow (table78 e)
-
-cell-few : (r : Row) (s : State) → T (inRow r) → T (cellFew (cell78 r s))
-cell-few (row a b c d e f) S1 t = and-l (cellFew a) _ t
-cell-few (row a b c d e f) S2 t = and-l (cellFew b) _ (and-r (cellFew a) _ t)
-cell-few (row a b c d e f) S3 t = and-l (cellFew c) _ (and-r (cellFew b) _ (and-r (cellFew a) _ t))
-cell-few (row a b c d e f) S4 t = and-l (cellFew d) _ (and-r (cellFew c) _ (and-r (cellFew b) _ (and-r (cellFew a) _ t)))
-cell-few (row a b c d e f) S5 t = and-l (cellFew e) _ (and-r (cellFew d) _ (and-r (cellFew c) _ (and-r (cellFew b) _ (and-r (cellFew a) _ t))))
-cell-few (row a b c d e f) S6 t = and-r (cellFew e) _ (and-r (cellFew d) _ (and-r (cellFew c) _ (and-r (cellFew b) _ (and-r (cellFew a) _ t))))
+rowFew e = everyCell cellFew (table78 e)
 
 done-few : (c : Cell) (w : Work) → T (cellFew c) → length (w .frames) ≡ 0 → Most 1 (performCell c w)
 unfolding performCell
 done-few NotApplicable w t z = omega arith
 done-few (ifNotSuspended xs ys s) w t z =
-    pickC (Most 1) (eqb (w .fop .suspendState) 0)
+    by-pick (Most 1) (eqb (w .fop .suspendState) 0)
     (λ e. omega (arith, leb→le (sendsAll xs) 1 (and-l (leb (sendsAll xs) 1) _ t), all-few xs w))
     (λ e. omega (arith, leb→le (sendsAll ys) 1 (and-r (leb (sendsAll xs) 1) _ t), all-few ys w))
 done-few (cell xs s) w t z = omega (arith, leb→le (sendsAll xs) 1 t, all-few xs w)
 
 do-few : (e : FopEvent) (o : List ℕ) (v : ℕ) (f : Fop) → T (rowFew e) → Most 1 (fopDo e o v f)
 unfolding fopDo
-do-few e o v f t = done-few (cell78 (table78 e) (f .state)) (begin (some e) o v f) (cell-few (table78 e) (f .state) t) refl
+do-few e o v f t = done-few (cell78 (table78 e) (f .state)) (begin (some e) o v f) (every-cell cellFew (table78 e) (f .state) t) refl
 
 tick-few : (f : Fop) → Most 1 (fopTick f)
-unfolding fopTick fopExpiry table78
+unfolding fopTick fopExpiry table78 sends
 tick-few f =
-    pickC (Most 1) (eqb (f .clock .timer) 1)
+    by-pick (Most 1) (eqb (f .clock .timer) 1)
     (λ t. do-few _ [] 0 _ (first-all rowFew (expiryLines (ltb (f .clock .transmissionCount) (f .preset .transmissionLimit))
     (eqb (f .preset .timeoutType) 0)) FopEvent.E18 tt))
     (λ t. omega arith)
 
 lower-few : (l : Lower) (f : Fop) → Most 1 (fopLower l f)
-unfolding fopLower table78
-lower-few Lower.adAccept f = do-few _ [] 0 f tt
-lower-few Lower.adReject f = do-few _ [] 0 f tt
-lower-few Lower.bcAccept f = do-few _ [] 0 f tt
-lower-few Lower.bcReject f = do-few _ [] 0 f tt
-lower-few Lower.bdAccept f = do-few _ [] 0 f tt
-lower-few Lower.bdReject f = do-few _ [] 0 f tt
+unfolding fopLower table78 sends
+lower-few l f = do-few _ [] 0 f (lower-all rowFew tt l)
 
 heard-few : (h : Heard) (f : Fop) → Most 1 (fopHeard h f)
-unfolding fopHeard fopWord wordEvent table78
+unfolding fopHeard fopWord wordEvent table78 sends
 heard-few (valid w) f = do-few _ [] (w .nr) f (first-all rowFew (wordLines (seen w f)) FopEvent.E103 tt)
 heard-few invalid f = do-few _ [] 0 f tt
 heard-few (other r) f = omega arith
 
 ad-few : (o : List ℕ) (f : Fop) → Most 1 (fopAd o f)
-unfolding fopAd table78
+unfolding fopAd table78 sends
 ad-few o f = do-few _ o 0 f (first-all rowFew (when (isEmpty (f .waitQueue)) FopEvent.E19 ∷ []) FopEvent.E20 tt)
 
 bd-few : (o : List ℕ) (f : Fop) → Most 1 (fopBd o f)
-unfolding fopBd table78
+unfolding fopBd table78 sends
 bd-few o f = do-few _ o 0 f (first-all rowFew (when (f .out .bd) FopEvent.E21 ∷ []) FopEvent.E22 tt)
 
 directive-few : (d v : ℕ) (f : Fop) → Most 1 (fopDirective d v f)
-unfolding fopDirective directiveEvent table78
+unfolding fopDirective directiveEvent table78 sends
 directive-few d v f = do-few _ [] v f (first-all rowFew (directiveLines d v f) FopEvent.E39 tt)
 
 pub work-few : (own : Own) (e : SenderEvent) (f : Fop) → length ((work own e f) .frames) ≤ 1

@@ -3,10 +3,10 @@ use mathlib.Core.Logic.{_⊎_, inl, inr}
 use mathlib.Core.Path.{_≡_, refl, sym, ap, _∙_, subst}
 use mathlib.Core.Bool.{Bool, true, false}
 use mathlib.Core.List.{List, [], _∷_, _++_}
-use mathlib.Core.Option.{Option, none, some}
+use mathlib.Core.Option.{Option, some}
 use Prim.Native.Nat.{ℕ, _+_, _≤_, _<_}
 use native.Mathlib.Omega.{arith}
-use lib.Dec.{ltb, eqb, T}
+use lib.Dec.{eqb, T}
 use lib.ListN.{length, getD, length-append, List·getD-append}
 use lib.Seq.{getD-append-seam}
 use borrow.Author.Tests.{eqb-true}
@@ -25,14 +25,15 @@ use Rattle.session.specs.Session.{nobody}
 use Rattle.session.specs.Claims.{IsOutstanding, member}
 use Rattle.fop.specs.Machine.{purge}
 use Rattle.fop.specs.Table.{ifNotSuspended, Ignore, SetSuspendState, Suspend, Resume}
+use Rattle.session.proofs.Ways.{look-ways}
 use Rattle.session.proofs.Core.{Session, addAll}
 use Rattle.session.proofs.Lists.{addAll-append, member-out}
 use Rattle.session.proofs.Values.{Mode, live, dead, bad, Given, word, unit, nothing, Reports, same-sent, new-sent, queue-length, queue-at}
 use Rattle.session.proofs.Rows.{after, afterAll, modeOf, matched, sound, cellOk, rowOk, do-sound, at-cell}
 use Rattle.session.proofs.Sender.{WInv, keeps}
-use Rattle.session.proofs.Queue.{found, pickC}
+use Rattle.session.proofs.Queue.{found}
 use Rattle.session.proofs.Few.{purge-few}
-use Rattle.session.proofs.Inv.{Inv, Side, presetOf, is-sound, enter}
+use Rattle.session.proofs.Inv.{Inv, Side, presetOf, in-mode, row-begins}
 use Rattle.session.proofs.Next.{historyOf}
 
 -- each AD frame of the list is a unit sent, at a place from C on; and there is one only where m is live
@@ -74,49 +75,35 @@ module _ (n : ℕ) (P : Preset) (C : ℕ) (gone : List (Option ℕ)) (acc sent0 
   abbrev I : Mode → Work → Type 0
   I m w = WInv n P C gone acc sent0 fr0 given a m w
 
-  waiting-from : (o : Option (List ℕ)) (w : Work) → I live w → D live w → D live (sendWaiting o w)
-  unfolding sendWaiting transmitAd
-  waiting-from none w h d = d
-  waiting-from (some o) w h d =
-      let u : Fdu = record { ns = w .fop .vs; octets = o } in
-      let s : List Fdu = addAll n sent0 (w .frames) in
-      let ns : addAll n (addAll n sent0 (w .frames)) (AD u ∷ []) ≡ addAll n sent0 (w .frames) ++ (u ∷ []) = new-sent n (addAll n sent0 (w .frames)) u
-      (h .1 .isVs) in (
-        d .0,
-        rw (addAll-append n sent0 (w .frames) (AD u ∷ []), ns)
-            (from-append m0 C (s ++ (u ∷ [])) (w .frames) (AD u ∷ []) (from-more m0 C s (u ∷ []) (w .frames) (d .1)) (
-              (
-                d .0,
-                length (addAll n sent0 (w .frames)),
-                omega (arith, h .0),
-                omega (arith, length-append (addAll n sent0 (w .frames)) (u ∷ [])),
-                sym (getD-append-seam s u [] nobody),
-              ),
-              tt,
-            )),
-      )
-
-  next-from : (o : Option Fdu) (w : Work) → firstMarked (w .fop .sentQueue) ≡ o → I live w → D live w → D live (sendNext o w)
-  unfolding sendNext
-  next-from none w e h d = pickC (D live) (ltb (offset (w .fop .vs) (w .fop .nnr)) (w .fop .preset .k)) (λ t. waiting-from (w .fop .waitQueue) w h d) (λ t. d)
-  next-from (some u) w e h d =
-      let i = found (w .fop .sentQueue) u e in
-      let s : List Fdu = addAll n sent0 (w .frames) in
-      let ln = queue-length C (addAll n sent0 (w .frames)) (w .confirmed) (fdus (w .fop .sentQueue)) (h .1 .cut) in
-      let j : ℕ = C + (length (w .confirmed) + i .0) in
-      let b : C + (length (w .confirmed) + i .0) < length (addAll n sent0 (w .frames)) = omega (arith, ln, i .1) in
-      let eu : u ≡ getD (addAll n sent0 (w .frames)) (C + (length (w .confirmed) + i .0)) nobody =
-      i .2 ∙ queue-at C (addAll n sent0 (w .frames)) (w .confirmed) (fdus (w .fop .sentQueue)) (h .1 .cut) (i .0) in
-      let ss : addAll n (addAll n sent0 (w .frames)) (AD u ∷ []) ≡ addAll n sent0 (w .frames) =
-      same-sent n (addAll n sent0 (w .frames)) u (C + (length (w .confirmed) + i .0)) (h .0 .num) b (omega (arith, h .0)) eu in (
-        d .0,
-        rw (addAll-append n sent0 (w .frames) (AD u ∷ []), ss)
-            (from-append m0 C s (w .frames) (AD u ∷ []) (d .1) ((d .0, C + (length (w .confirmed) + i .0), omega arith, b, eu), tt)),
-      )
-
   look-from : (w : Work) → I live w → D live w → D live (lookForFdu w)
-  unfolding lookForFdu
-  look-from w h d = pickC (D live) (w .fop .out .ad) (λ t. next-from (firstMarked (w .fop .sentQueue)) w refl h d) (λ t. d)
+  unfolding sendNext sendWaiting transmitAd
+  look-from w h d = look-ways (D live) w d again new
+    where
+      s : List Fdu
+      s = addAll n sent0 (w .frames)
+
+      again : (u : Fdu) → firstMarked (w .fop .sentQueue) ≡ some u → D live (sendNext (some u) w)
+      again u e =
+          let i = found (w .fop .sentQueue) u e in
+          let ln = queue-length C s (w .confirmed) (fdus (w .fop .sentQueue)) (h .1 .cut) in
+          let j : ℕ = C + (length (w .confirmed) + i .0) in
+          let b : j < length s = omega (arith, ln, i .1) in
+          let eu : u ≡ getD s j nobody = i .2 ∙ queue-at C s (w .confirmed) (fdus (w .fop .sentQueue)) (h .1 .cut) (i .0) in
+          let same : addAll n s (AD u ∷ []) ≡ s = same-sent n s u j (h .0 .num) b (omega (arith, h .0)) eu in (
+            d .0,
+            rw (addAll-append n sent0 (w .frames) (AD u ∷ []), same)
+                (from-append m0 C s (w .frames) (AD u ∷ []) (d .1) ((d .0, j, omega arith, b, eu), tt)),
+          )
+
+      new : (o : List ℕ) → offset (w .fop .vs) (w .fop .nnr) < w .fop .preset .k → w .fop .waitQueue ≡ some o → D live (sendWaiting (some o) w)
+      new o r e =
+          let u : Fdu = record { ns = w .fop .vs; octets = o } in
+          let more : addAll n s (AD u ∷ []) ≡ s ++ (u ∷ []) = new-sent n s u (h .1 .isVs) in (
+            d .0,
+            rw (addAll-append n sent0 (w .frames) (AD u ∷ []), more)
+                (from-append m0 C (s ++ (u ∷ [])) (w .frames) (AD u ∷ []) (from-more m0 C s (u ∷ []) (w .frames) (d .1))
+                ((d .0, length s, omega (arith, h .0), omega (arith, length-append s (u ∷ [])), sym (getD-append-seam s u [] nobody)), tt)),
+          )
 
   bd-from : (m : Mode) (w : Work) → D m w → D m (perform TransmitBd w)
   unfolding perform
@@ -128,9 +115,10 @@ module _ (n : ℕ) (P : Preset) (C : ℕ) (gone : List (Option ℕ)) (acc sent0 
   purged : (w : Work) → From m0 C (addAll n sent0 (w .frames)) (w .frames) → From m0 C (addAll n sent0 ((purge w) .frames)) ((purge w) .frames)
   purged w d = rw (purge-few w) d
 
-  by-given : (x : Action) (m m' : Mode) (w v : Work) → D m v → (m' ≡ m) ⊎ (m' ≡ bad) → D m' v
-  by-given x m m' w v d (inl e) = subst (λ (y : Mode). D y v) (sym e) d
-  by-given x m m' w v d (inr e) = subst (λ (y : Mode). D y v) (sym e) tt
+  -- an action that keeps the mode, or is not covered
+  by-given : (m m' : Mode) (v : Work) → D m v → (m' ≡ m) ⊎ (m' ≡ bad) → D m' v
+  by-given m m' v d (inl e) = subst (λ (y : Mode). D y v) (sym e) d
+  by-given m m' v d (inr e) = subst (λ (y : Mode). D y v) (sym e) tt
 
   wait-mode : (g : Given) (m : Mode) → (after g AddToWaitQueue m ≡ m) ⊎ (after g AddToWaitQueue m ≡ bad)
   wait-mode word m = inr refl
@@ -161,13 +149,12 @@ module _ (n : ℕ) (P : Preset) (C : ℕ) (gone : List (Option ℕ)) (acc sent0 
   from (SetSuspendState s) m w h d = d
   from Suspend m w h d = d
   from Resume m w h d = d
-  from AddToWaitQueue m w h d = by-given AddToWaitQueue m (after given AddToWaitQueue m) w (perform AddToWaitQueue w) d (wait-mode given m)
+  from AddToWaitQueue m w h d = by-given m (after given AddToWaitQueue m) (perform AddToWaitQueue w) d (wait-mode given m)
   from LookForFdu live w h d = look-from w h d
   from LookForFdu dead w h d = tt
   from LookForFdu bad w h d = tt
   from LookForDirective m w h d = tt
-  from RemoveAcknowledgedFrames m w h d = by-given RemoveAcknowledgedFrames m (after given RemoveAcknowledgedFrames m) w
-      (perform RemoveAcknowledgedFrames w) d (remove-mode given m)
+  from RemoveAcknowledgedFrames m w h d = by-given m (after given RemoveAcknowledgedFrames m) (perform RemoveAcknowledgedFrames w) d (remove-mode given m)
   from InitiateAdRetransmission m w h d = d
   from InitiateBcRetransmission m w h d = d
   from ReleaseBcFrame m w h d = d
@@ -179,7 +166,7 @@ module _ (n : ℕ) (P : Preset) (C : ℕ) (gone : List (Option ℕ)) (acc sent0 
   from Initialise m w h d = tt
   from TransmitUnlock m w h d = tt
   from TransmitSetVr m w h d = tt
-  from TransmitBd m w h d = by-given TransmitBd m (after given TransmitBd m) w (perform TransmitBd w) (bd-from m w d) (bd-mode given m)
+  from TransmitBd m w h d = by-given m (after given TransmitBd m) (perform TransmitBd w) (bd-from m w d) (bd-mode given m)
   from SetVs m w h d = tt
   from SetNnr m w h d = tt
   from SetK m w h d = tt
@@ -223,16 +210,13 @@ module _ (set : Settings) (σ : Session) (I : Inv set σ) where
       → From (modeOf (σ .fop .state)) (length (σ .confirmed)) (addAll (set .n) (σ .sent) ((fopDo e o v (σ .fop)) .frames)) ((fopDo e o v (σ .fop)) .frames)
   unfolding fopDo
   row-from given a e o v t l r =
-      let g : T (sound (modeOf (σ .fop .state))) = is-sound (modeOf (σ .fop .state)) (set .n) _ _ _ _ _ _ (I .side) in
+      let g : T (sound (modeOf (σ .fop .state))) = in-mode set σ I in
       end-from (set .n) (length (σ .confirmed)) (presetOf set) (σ .denied) (σ .accepted) (σ .sent) (σ .frames) given a (modeOf (σ .fop .state))
       (modeOf ((fopDo e o v (σ .fop)) .fop .state)) (fopDo e o v (σ .fop))
       (do-sound given e o v (σ .fop) t g)
       (cell-from (set .n) (presetOf set) (length (σ .confirmed)) (σ .denied) (σ .accepted) (σ .sent) (σ .frames) given a (modeOf (σ .fop .state))
       (cell78 (table78 e) (σ .fop .state)) (begin (some e) o v (σ .fop))
-      (at-cell (cellOk given) (table78 e) (σ .fop .state) t g)
-      (enter (modeOf (σ .fop .state)) (set .n) (presetOf set) (length (σ .confirmed)) (σ .accepted) (σ .sent) (σ .frames) (σ .denied)
-      (fdus (σ .fop .sentQueue)) (σ .fop .vs) (σ .fop .nnr) (σ .fop .preset) given a v (σ .fop .waitQueue) o
-      (I .base) (I .side) l r (I .isSet) (I .waiting))
+      (at-cell (cellOk given) (table78 e) (σ .fop .state) t g) (row-begins set σ I given a o v l r (some e))
       (start-from (set .n) (length (σ .confirmed)) (presetOf set) (σ .denied) (σ .accepted) (σ .sent) (σ .frames) given a (modeOf (σ .fop .state))
       (begin (some e) o v (σ .fop)) refl))
 

@@ -2,11 +2,11 @@
 use mathlib.Core.Path.{_≡_, refl, sym, ap, _∙_}
 use mathlib.Core.Bool.{Bool, true, false, false≢true}
 use mathlib.Core.List.{List, [], _∷_, _++_, append-nil}
-use mathlib.Core.Option.{Option, none}
-use Prim.Native.Nat.{ℕ, _+_, _-_, _%_, _≤_, _<_}
+use mathlib.Core.Option.{Option, none, some}
+use Prim.Native.Nat.{ℕ, _+_, _%_, _≤_, _<_}
 use native.Mathlib.Nat.{zero-add}
 use native.Mathlib.Omega.{arith}
-use lib.Dec.{leb, ltb, eqb, T}
+use lib.Dec.{leb, eqb, T}
 use lib.ListN.{length, drop, length-append}
 use lib.Seq.{drop-drop, drop-append-seam}
 use borrow.Author.Tests.{eq-eqb, eqb-true, leb-true, le-leb}
@@ -16,17 +16,19 @@ use Rattle.fop.specs.Units.{Fdu, Frame, Word, Own, legal, wordOctets}
 use Rattle.fop.specs.Table.{FopEvent}
 use Rattle.fop.specs.Variables.{Fop, Work, Preset, begin, setClock}
 use Rattle.fop.specs.Machine.{fdus, fopDo}
-use Rattle.fop.specs.Events.{fopWord, fopAd, fopBd, fopTick, fopExpiry, fopLower, fopDirective, directiveEvent, fopHeard, isEmpty, SenderEvent, requestAd}
+use Rattle.fop.specs.Events.{fopWord, fopAd, fopBd, fopTick, fopLower, fopDirective, directiveEvent, fopHeard, isEmpty, SenderEvent, requestAd}
 use Rattle.fop.specs.Events.{requestBd, lower, directive, wordArrives, work, Lower, seen}
 use Rattle.fop.specs.Answers.{judged, senderRefusal, needed}
 use Rattle.farm.specs.declared.State.{State as FarmState}
 use Rattle.farm.specs.declared.State.the-variants.{Open, Wait, Lockout}
 use Rattle.farm.specs.declared.Variables.{Variables}
-use Rattle.fop.specs.Events.{first, expiryLines}
+use Rattle.fop.specs.Events.{first}
 use Rattle.session.specs.Ends.{Settings, Within}
 use Rattle.session.specs.Session.{places}
 use Rattle.session.specs.Stronger.{Sub}
 use Rattle.fop.specs.Events as fop
+use Rattle.session.proofs.Choices.{by-pick, unrefused}
+use Rattle.session.proofs.Test.{lowered, tick-ways}
 use Rattle.session.proofs.Core.{Session, addAll, firstOf, answered, sender, goes, channels, wordCome}
 use Rattle.session.proofs.Lists.{iota, iota-append, length-iota}
 use Rattle.session.proofs.Chan.{Wds, wds-le, wds-lower}
@@ -36,14 +38,7 @@ use Rattle.session.proofs.Sender.{do-keeps, WInv}
 use Rattle.session.proofs.Octets.{word-back}
 use Rattle.session.proofs.Bds.{bdsOf, bd-handed}
 
-pub pickS : (P : Session → Type 0) (b : Bool) {x y : Session} → (b ≡ true → P x) → (b ≡ false → P y) → P (pick b x y)
-pickS P true f g = f refl
-pickS P false f g = g refl
-
-pub pickW : (P : Work → Type 0) (b : Bool) {x y : Work} → P x → P y → P (pick b x y)
-pickW P true f g = f
-pickW P false f g = g
-
+-- the sender's part of the settings
 abbrev pub presetOf : Settings → Preset
 presetOf s = record { k = s .k; transmissionLimit = s .limit; t1Initial = s .t1; timeoutType = 0 }
 
@@ -53,6 +48,7 @@ Side live n C sent gone q vs nn = Live n C gone sent [] [] q vs nn
 Side dead n C sent gone q vs nn = Dead C gone sent [] [] q
 Side bad n C sent gone q vs nn = ⊥
 
+-- the receiver is in Lockout
 abbrev pub isLocked : FarmState → Bool
 isLocked Open = false
 isLocked Wait = false
@@ -76,6 +72,7 @@ pub record Inv (set : Settings) (σ : Session) : Type 0 where
   pub receiver : Rcv set (σ .farm) (length (σ .accepted)) (length (σ .acceptedBd))
   pub bd : Sub (σ .acceptedBd ++ bdsOf (σ .frames)) (σ .sentBd)
 
+-- more places confirmed, in order
 conf-iota : (l m : List (Option ℕ)) (c : ℕ) → l ≡ iota 0 (length l) → m ≡ iota (length l) c → l ++ m ≡ iota 0 (length (l ++ m))
 conf-iota l m c e f =
     let k : length (l ++ m) ≡ length l + c = length-append l m ∙ ap (λ (x : ℕ). length l + x) (ap length f ∙ length-iota (length l) c) in
@@ -87,6 +84,7 @@ rebase : (n K C D : ℕ) (acc sent : List Fdu) (fr : List Frame) (conf : List Fd
 rebase n K C D acc sent fr conf e b =
     record { num = b .num; order = b .order; behind = b .behind; truly = omega arith; room = omega arith; small = b .small; fly = b .fly }
 
+-- what is left of Sent behind what is confirmed
 recut : (C D : ℕ) (sent conf q : List Fdu) → D ≡ C + length conf → conf ++ q ≡ drop C sent → q ≡ drop D sent
 recut C D sent conf q e c =
     sym (drop-append-seam conf q) ∙ ap (λ (l : List Fdu). drop (length conf) l) c ∙ drop-drop (length conf) C sent ∙ ap (λ (i : ℕ). drop i sent) (sym e)
@@ -100,12 +98,13 @@ enter live n P C acc sent fr gone q vs nn p given a v wt o b s l r e k = rw (app
 enter dead n P C acc sent fr gone q vs nn p given a v wt o b s l r e k = rw (append-nil fr) (b, s, omega arith, r, e, k)
 enter bad n P C acc sent fr gone q vs nn p given a v wt o b s l r e k = tt
 
+-- the mode is not bad
 pub is-sound : (m : Mode) (n C : ℕ) (sent : List Fdu) (gone : List (Option ℕ)) (q : List Fdu) (vs nn : ℕ) → Side m n C sent gone q vs nn → T (sound m)
 is-sound live n C sent gone q vs nn s = tt
 is-sound dead n C sent gone q vs nn s = tt
 is-sound bad n C sent gone q vs nn s = s
 
--- and after it
+-- what an event leaves
 pub record Left (n : ℕ) (P : Preset) (C : ℕ) (acc : List Fdu) (a : ℕ) (sent : List Fdu) (fr : List Frame) (conf : List Fdu) (p : Preset)
     (wt : Option (List ℕ)) : Type 0 where
   pub base : Base n (P .k) C acc sent fr conf
@@ -115,6 +114,7 @@ pub record Left (n : ℕ) (P : Preset) (C : ℕ) (acc : List Fdu) (a : ℕ) (sen
   pub isSet : p ≡ P
   pub waiting : WaitOk wt
 
+-- which the invariant of either mode gives
 pub base-of : (m : Mode) (n : ℕ) (P : Preset) (C : ℕ) (gone : List (Option ℕ)) (acc : List Fdu) (given : Given) (a : ℕ) (sent : List Fdu) (fr : List Frame)
     (conf den q : List Fdu) (vs nn : ℕ) (p : Preset) (v : ℕ) (wt : Option (List ℕ)) (o : List ℕ)
     → T (sound m) → WI n P C gone acc given a m sent fr conf den q vs nn p v wt o → Left n P C acc a sent fr conf p wt
@@ -124,6 +124,7 @@ base-of dead n P C gone acc given a sent fr conf den q vs nn p v wt o g h =
     record { base = h .0; most = h .2; more = h .1 .after; cut = h .1 .cut; isSet = h .4; waiting = h .5 }
 base-of bad n P C gone acc given a sent fr conf den q vs nn p v wt o g h = absurd g
 
+-- and the sender's part after it
 leave : (m : Mode) (n : ℕ) (P : Preset) (C D : ℕ) (gone : List (Option ℕ)) (acc : List Fdu) (given : Given) (a : ℕ) (sent : List Fdu) (fr : List Frame)
     (conf den q : List Fdu) (vs nn : ℕ) (p : Preset) (v : ℕ) (wt : Option (List ℕ)) (o : List ℕ) → D ≡ C + length conf → T (sound m)
     → WI n P C gone acc given a m sent fr conf den q vs nn p v wt o
@@ -182,35 +183,46 @@ answered-keeps set σ ws given a w I g h ww =
       bd = bd-handed (σ .acceptedBd) (σ .sentBd) (σ .frames) (w .frames) (I .bd);
     }
 
+-- the sender's mode is one of the session
+pub in-mode : (set : Settings) (σ : Session) → Inv set σ → T (sound (modeOf (σ .fop .state)))
+in-mode set σ I = is-sound (modeOf (σ .fop .state)) (set .n) _ _ _ _ _ _ (I .side)
+
+-- the work on an event, as it begins and after its row; a is what the word in hand reports, or the count confirmed
+module _ (set : Settings) (σ : Session) (I : Inv set σ) (given : Given) (a : ℕ) (o : List ℕ) (v : ℕ) (l : length (σ .confirmed) ≤ a)
+    (rp : Reports given (set .n) a (length (σ .accepted)) v o) where
+  abbrev W : Mode → Work → Type 0
+  W m w = WInv (set .n) (presetOf set) (length (σ .confirmed)) (σ .denied) (σ .accepted) (σ .sent) (σ .frames) given a m w
+
+  pub row-begins : (e : Option FopEvent) → W (modeOf (σ .fop .state)) (begin e o v (σ .fop))
+  row-begins e =
+      enter (modeOf (σ .fop .state)) (set .n) (presetOf set) _ (σ .accepted) (σ .sent) (σ .frames) (σ .denied) _ _ _ (σ .fop .preset) given a v
+      (σ .fop .waitQueue) o (I .base) (I .side) l rp (I .isSet) (I .waiting)
+
+  row-does : (e : FopEvent) → T (rowOk given e) → W (modeOf ((fopDo e o v (σ .fop)) .fop .state)) (fopDo e o v (σ .fop))
+  row-does e t =
+      do-keeps (set .n) (presetOf set) (length (σ .confirmed)) (σ .denied) (σ .accepted) (σ .sent) (σ .frames) given a e o v (σ .fop) t
+      (in-mode set σ I) (row-begins (some e))
+
+-- a row of the table keeps the invariant
 row-keeps : (set : Settings) (σ : Session) (ws : List Word) (given : Given) (a : ℕ) (e : FopEvent) (o : List ℕ) (v : ℕ) → Inv set σ
     → T (rowOk given e) → length (σ .confirmed) ≤ a → Reports given (set .n) a (length (σ .accepted)) v o → Wds (set .n) a (length (σ .accepted)) ws
     → Inv set (answered (set .n) (fopDo e o v (σ .fop)) (channels (σ .frames) ws σ))
 row-keeps set σ ws given a e o v I t l rp ww =
-    let g : T (sound (modeOf (σ .fop .state))) = is-sound (modeOf (σ .fop .state)) (set .n) _ _ _ _ _ _ (I .side) in
-    answered-keeps set σ ws given a (fopDo e o v (σ .fop)) I (do-sound given e o v (σ .fop) t g)
-    (do-keeps (set .n) (presetOf set) (length (σ .confirmed)) (σ .denied) (σ .accepted) (σ .sent) (σ .frames) given a e o v (σ .fop) t g
-    (enter (modeOf (σ .fop .state)) (set .n) (presetOf set) _ (σ .accepted) (σ .sent) (σ .frames) (σ .denied) _ _ _ (σ .fop .preset) given a v
-    (σ .fop .waitQueue) o
-    (I .base) (I .side) l rp (I .isSet) (I .waiting)))
-    ww
+    answered-keeps set σ ws given a (fopDo e o v (σ .fop)) I (do-sound given e o v (σ .fop) t (in-mode set σ I)) (row-does set σ I given a o v l rp e t) ww
 
 -- no more is confirmed than what is reported
 pub row-bound : (set : Settings) (σ : Session) (given : Given) (a : ℕ) (e : FopEvent) (o : List ℕ) (v : ℕ) → Inv set σ → T (rowOk given e)
     → length (σ .confirmed) ≤ a → Reports given (set .n) a (length (σ .accepted)) v o
     → length (σ .confirmed) + length ((fopDo e o v (σ .fop)) .confirmed) ≤ a
 row-bound set σ given a e o v I t l rp =
-    let g : T (sound (modeOf (σ .fop .state))) = is-sound (modeOf (σ .fop .state)) (set .n) _ _ _ _ _ _ (I .side) in
-    base-of (modeOf ((fopDo e o v (σ .fop)) .fop .state)) (set .n) (presetOf set) (length (σ .confirmed)) (σ .denied) (σ .accepted) given a _ _ _ _ _ _ _
-    ((fopDo e o v (σ .fop)) .fop .preset) ((fopDo e o v (σ .fop)) .value) ((fopDo e o v (σ .fop)) .fop .waitQueue) ((fopDo e o v (σ .fop)) .octets)
-    (do-sound given e o v (σ .fop) t g)
-    (do-keeps (set .n) (presetOf set) (length (σ .confirmed)) (σ .denied) (σ .accepted) (σ .sent) (σ .frames) given a e o v (σ .fop) t g
-    (enter (modeOf (σ .fop .state)) (set .n) (presetOf set) _ (σ .accepted) (σ .sent) (σ .frames) (σ .denied) _ _ _ (σ .fop .preset) given a v
-    (σ .fop .waitQueue) o
-    (I .base) (I .side) l rp (I .isSet) (I .waiting)))
+    let w : Work = fopDo e o v (σ .fop) in
+    base-of (modeOf (w .fop .state)) (set .n) (presetOf set) (length (σ .confirmed)) (σ .denied) (σ .accepted) given a _ _ _ _ _ _ _
+    (w .fop .preset) (w .value) (w .fop .waitQueue) (w .octets) (do-sound given e o v (σ .fop) t (in-mode set σ I)) (row-does set σ I given a o v l rp e t)
     .most
 
 -- The events of the sender, each by its rows. `work` is what the table does, whether or not the event is then refused.
 
+-- another sender
 abbrev pub withFop : Fop → Session → Session
 withFop f σ =
     record {
@@ -227,10 +239,12 @@ withFop f σ =
       acceptedBd = σ .acceptedBd;
     }
 
+-- another timer and Transmission_Count
 pub timed : (set : Settings) (t c : ℕ) (σ : Session) → Inv set σ → Inv set (withFop (setClock t c (σ .fop)) σ)
 timed set t c σ I =
     record { base = I .base; side = I .side; isSet = I .isSet; waiting = I .waiting; places = I .places; words = I .words; receiver = I .receiver; bd = I .bd }
 
+-- other words under way
 pub words-are : (set : Settings) (σ : Session) (ws : List Word) → Inv set σ → Wds (set .n) (length (σ .confirmed)) (length (σ .accepted)) ws
     → Inv set (channels (σ .frames) ws σ)
 unfolding channels
@@ -249,21 +263,14 @@ pub alerting : (set : Settings) (σ : Session) → Inv set σ → eqb (σ .fop .
 alerting set σ I = eq-eqb (σ .fop .preset .timeoutType) 0 (ap (λ (p : Preset). p .timeoutType) (I .isSet))
 
 tick-keeps : (set : Settings) (σ : Session) → Inv set σ → Inv set (answered (set .n) (fopTick (σ .fop)) σ)
-unfolding fopTick fopExpiry answered channels
+unfolding answered channels
 tick-keeps set σ I =
-    let τ : Session = withFop (setClock (σ .fop .clock .timer - 1) (σ .fop .clock .transmissionCount) (σ .fop)) σ in
+    let τ : Session = withFop (lowered (σ .fop)) σ in
     let J : Inv set τ = timed set _ _ σ I in
-    let g : T (sound (modeOf (σ .fop .state))) = is-sound (modeOf (σ .fop .state)) (set .n) _ _ _ _ _ _ (I .side) in
-    pickW (λ (w : Work). Inv set (answered (set .n) w σ)) (eqb (σ .fop .clock .timer) 1) {x = fopExpiry (τ .fop)} {y = begin none [] 0 (τ .fop)}
-    (row-keeps set τ (σ .words) nothing (length (σ .confirmed)) (first (expiryLines
-    (ltb (σ .fop .clock .transmissionCount) (σ .fop .preset .transmissionLimit)) (eqb (σ .fop .preset .timeoutType) 0)) FopEvent.E18) [] 0 J
-    (timer-ok (ltb (σ .fop .clock .transmissionCount) (σ .fop .preset .transmissionLimit)) (eqb (σ .fop .preset .timeoutType) 0) (alerting set σ I))
-    (omega arith) tt (I .words))
-    (answered-keeps set τ (σ .words) nothing (length (σ .confirmed)) (begin none [] 0 (τ .fop)) J g
-    (enter (modeOf (σ .fop .state)) (set .n) (presetOf set) _ (σ .accepted) (σ .sent) (σ .frames) (σ .denied) _ _ _ (σ .fop .preset) nothing
-    (length (σ .confirmed)) 0 (σ .fop .waitQueue) []
-    (I .base) (I .side) (omega arith) tt (I .isSet) (I .waiting))
-    (I .words))
+    tick-ways (rowOk nothing) timer-ok (λ w. Inv set (answered (set .n) w σ)) (σ .fop) (alerting set σ I)
+    (λ e t. row-keeps set τ (σ .words) nothing (length (σ .confirmed)) e [] 0 J t (omega arith) tt (I .words))
+    (answered-keeps set τ (σ .words) nothing (length (σ .confirmed)) (begin none [] 0 (τ .fop)) J (in-mode set σ I)
+    (row-begins set σ I nothing (length (σ .confirmed)) [] 0 (omega arith) tt none) (I .words))
 
 -- an event that goes through was judged fit, and had its room
 judge : (j need lent : ℕ) → eqb (pick (eqb j 0) (pick (leb need lent) 0 11) j) 0 ≡ true → (j ≡ 0) × (need ≤ lent)
@@ -277,26 +284,26 @@ judge j need lent = first (eqb j 0) refl
     first true z t = second (leb need lent) refl z t
     first false z t = absurd (false≢true (sym z ∙ t))
 
+-- so a sender's event that goes through
 pub fit : (own : Own) (e : SenderEvent) (lent : ℕ) (f : Fop) → goes own e lent f ≡ true → (judged own e ≡ 0) × (needed own e f ≤ lent)
 unfolding senderRefusal
 fit own e lent f t = judge (judged own e) (needed own e f) lent t
 
+-- and the other way
 pub goes-is : (own : Own) (e : SenderEvent) (lent : ℕ) (f : Fop) → judged own e ≡ 0 → needed own e f ≤ lent → goes own e lent f ≡ true
 unfolding senderRefusal
 goes-is own e lent f j l = rw (j, le-leb (needed own e f) lent l)
 
+-- a request that is not refused by 10 is legal
 pub legal-of : (o : List ℕ) → _≡_ {A = ℕ} (pick (legal o) 0 10) 0 → legal o ≡ true
-legal-of o = go (legal o)
-  where
-    go : (b : Bool) → _≡_ {A = ℕ} (pick b 0 10) 0 → b ≡ true
-    go true e = refl
-    go false e = absurd (omega arith)
+legal-of o = unrefused (legal o) 9
 
+-- an event keeps the invariant where its work does
 sender-keeps : (set : Settings) (e : SenderEvent) (lent : ℕ) (σ : Session) → Inv set σ
     → (judged (set .own) e ≡ 0 → Inv set (answered (set .n) (work (set .own) e (σ .fop)) σ)) → Inv set (sender set e lent σ)
 unfolding sender
 sender-keeps set e lent σ I h =
-    pickS (Inv set) (goes (set .own) e lent (σ .fop)) (λ t. h (fit (set .own) e lent (σ .fop) t .0)) (λ t. I)
+    by-pick (Inv set) (goes (set .own) e lent (σ .fop)) (λ t. h (fit (set .own) e lent (σ .fop) t .0)) (λ t. I)
 
 pub ad-keeps : (set : Settings) (lent : ℕ) (o : List ℕ) (σ : Session) → Inv set σ → Inv set (sender set (requestAd o) lent σ)
 unfolding fopAd judged work
@@ -324,6 +331,7 @@ pub hears : (set : Settings) → Within set → (w : Word) (f : Fop) → w .coun
 unfolding work fopHeard
 hears set vw w f c b = rw (word-back (set .own) (vw .spacecraft) (vw .channel) w c b)
 
+-- and is judged fit
 pub fine : (set : Settings) → Within set → (w : Word) → w .counter ≤ 3 → w .nr < 256 → judged (set .own) (wordArrives (wordOctets (set .own) w)) ≡ 0
 unfolding judged
 fine set vw w c b = rw (word-back (set .own) (vw .spacecraft) (vw .channel) w c b)

@@ -1,3 +1,6 @@
+pub mod Choices
+pub mod Ways
+pub mod Test
 pub mod Core
 pub mod Lists
 pub mod Chan

@@ -6,12 +6,11 @@ use mathlib.Core.Option.{some}
 use Prim.Native.Nat.{_-_, ℕ, suc, _+_, _≤_, max}
 use native.Mathlib.Omega.{arith}
 use lib.ListN.{length}
-use Rattle.base.specs.Choice.{pick}
+use Rattle.base.specs.Choice.{pick, must}
 use Rattle.fop.specs.Units.{Fdu, Frame, AD, BD, Unlock, SetVR, Refused, Word, legal, written, wordOctets}
 use Rattle.fop.specs.Variables.{Fop, Work}
 use Rattle.fop.specs.Events.{SenderEvent, requestAd, requestBd, directive, wordArrives, work}
 use Rattle.fop.specs.Answers.{runOf, octetsDown, senderAnswer, senderNext, senderRefusal, refused}
-use Rattle.base.specs.Choice.{must}
 use Rattle.fop.specs.Answers as ans
 use Rattle.farm.specs.Table.{stepOf}
 use Rattle.farm.specs.Receiver as farm
@@ -23,7 +22,6 @@ use Rattle.farm.specs.declared.Released.{Released}
 use Rattle.farm.specs.declared.Released.the-variants.{Done, NoneTaken}
 use Rattle.session.specs.Receiver as rcv
 use Rattle.session.specs.Receiver.{frameArrives, releaseBuffer, ReceiverAnswer, receiverNext, releaseAnswer, receiverAnswer, receiverWord}
-use Rattle.session.specs.Frames.{read}
 use Rattle.session.specs.Frames.{read}
 use Rattle.session.specs.Ends.{Settings, Within, Ends, Tied, tables, startReceiver}
 use Rattle.session.specs.Session.{Linked, History, Event, adRequest, bdRequest, ticks, lowerSays, terminate, wordIn, wordLost, wordMade, frameIn, frameLost, release}
@@ -43,10 +41,12 @@ use Rattle.session.proofs.Receiver.{step-keeps, ad-cases, begun}
 use Rattle.session.proofs.Next.{historyOf}
 use Rattle.session.proofs.Few.{work-few}
 
+-- each frame reads back
 abbrev pub Reads : List Frame → Type 0
 Reads [] = Unit {0}
 Reads (x ∷ xs) = Readable x × Reads xs
 
+-- so do the frames under way
 pub fly-reads : (n K : ℕ) (s : List Fdu) → Numbered n s → (A H : ℕ) (fs : List Frame) → Fly K s A H fs → Reads fs
 fly-reads n K s h A H [] f = tt
 fly-reads n K s h A H (AD u ∷ fs) f = (
@@ -58,10 +58,12 @@ fly-reads n K s h A H (Unlock ∷ fs) f = absurd f
 fly-reads n K s h A H (SetVR v ∷ fs) f = absurd f
 fly-reads n K s h A H (Refused r ∷ fs) f = absurd f
 
+-- and the last of them
 reads-last : (fs gs : List Frame) → Reads (fs ++ gs) → Reads gs
 reads-last [] gs h = h
 reads-last (x ∷ fs) gs h = reads-last fs gs (h .1)
 
+-- a frame that is written reads as it was
 pub reads : (set : Settings) → Within set → (x : Frame) → Readable x → read (set .own) (written (set .own) x) ≡ x
 reads set vw (AD u) h = ad-back (set .own) (vw .spacecraft) (vw .channel) u (h .0) (h .1)
 reads set vw (BD o) h = bd-back (set .own) (vw .spacecraft) (vw .channel) o h
@@ -69,6 +71,7 @@ reads set vw Unlock h = absurd h
 reads set vw (SetVR v) h = absurd h
 reads set vw (Refused r) h = absurd h
 
+-- an answer's run
 run-is : (l : List Fdu) → runOf l ≡ record { number = firstOf l; count = length l }
 run-is [] = refl
 run-is (u ∷ us) = refl
@@ -76,6 +79,16 @@ run-is (u ∷ us) = refl
 map-rest : {A B : Type 0} (f : A → B) (l : List A) → rest (map f l) ≡ map f (rest l)
 map-rest f [] = refl
 map-rest f (x ∷ l) = refl
+
+-- the frames that an event hands down read back
+pub reads-of : (set : Settings) (e : SenderEvent) (lent : ℕ) (κ : Session) → goes (set .own) e lent (κ .fop) ≡ true → Inv set (core.sender set e lent κ)
+    → Reads ((work (set .own) e (κ .fop)) .frames)
+unfolding core.sender core.answered
+reads-of set e lent κ b J =
+    let τ : Session = core.answered (set .n) (work (set .own) e (κ .fop)) κ in
+    let K : Inv set (core.answered (set .n) (work (set .own) e (κ .fop)) κ) = rw b at J in
+    reads-last (κ .frames) ((work (set .own) e (κ .fop)) .frames)
+    (fly-reads (set .n) (set .k) (τ .sent) (K .base .num) (length (τ .accepted)) (length (τ .accepted)) (τ .frames) (K .base .fly))
 
 -- what the answer's octets say of Sent, and of the channel
 module _ (set : Settings) (vw : Within set) where
@@ -121,6 +134,7 @@ module _ (set : Settings) (vw : Within set) where
       pub words : σ .words ≡ map (wordOctets (set .own)) (κ .words)
       pub history : σ .history ≡ historyOf κ
 
+    -- the start
     pub at-start : Rel (begins m) (begun set)
     unfolding begins startReceiver
     at-start =
@@ -167,24 +181,16 @@ module _ (set : Settings) (vw : Within set) where
           history = rw (a, R .history) (refusal-through r (κ .fop) κ);
         }
 
+    -- an event of the sender
     to-sender : (σ : Linked m) (κ : Session) (e : SenderEvent) (lent : ℕ) (ws : List Word) → Rel σ κ
         → Inv set (core.sender set e lent (core.channels (κ .frames) ws κ))
         → Rel (toSender set m e lent (map (wordOctets (set .own)) ws) σ) (core.sender set e lent (core.channels (κ .frames) ws κ))
     unfolding core.sender core.channels senderAnswer senderNext core.answered
     to-sender σ κ e lent ws R J =
-        let w : Work = work (set .own) e (κ .fop) in
         chosen (goes (set .own) e lent (κ .fop)) (work (set .own) e (κ .fop)) (senderRefusal (set .own) e lent (κ .fop)) σ κ e lent ws R
-        (λ b. (work-few (set .own) e (κ .fop), through b J))
+        (λ b. (work-few (set .own) e (κ .fop), reads-of set e lent (core.channels (κ .frames) ws κ) b J))
         (t .next e lent (σ .sender) (R .good) ∙ ap (λ (f : Fop). senderNext (set .own) e lent f) (R .fop))
         (t .answer e lent (σ .sender) (R .good) ∙ ap (λ (f : Fop). senderAnswer (set .own) e lent f) (R .fop))
-      where
-        through : goes (set .own) e lent (κ .fop) ≡ true → Inv set (core.sender set e lent (core.channels (κ .frames) ws κ))
-            → Reads ((work (set .own) e (κ .fop)) .frames)
-        through b J =
-            let τ : Session = core.answered (set .n) (work (set .own) e (κ .fop)) (core.channels (κ .frames) ws κ) in
-            let K : Inv set (core.answered (set .n) (work (set .own) e (κ .fop)) (core.channels (κ .frames) ws κ)) = rw b at J in
-            reads-last (κ .frames) ((work (set .own) e (κ .fop)) .frames)
-            (fly-reads (set .n) (set .k) (τ .sent) (K .base .num) (length (τ .accepted)) (length (τ .accepted)) (τ .frames) (K .base .fly))
 
     -- the oldest word to the sender
     heard : (σ : Linked m) (κ : Session) (lent : ℕ) (ws : List Word) → Rel σ κ → Inv set (core.wordCome set lent ws κ)
@@ -203,12 +209,13 @@ module _ (set : Settings) (vw : Within set) where
     unlocks κ (SetVR v) fs I h = absurd h
     unlocks κ (Refused r) fs I h = absurd h
 
-    -- the oldest frame to the receiver
+    -- the histories after the receiver's answer
     said : (κ : Session) (x : Frame) (fs : List Frame) → Inv set κ → Fly (set .k) (κ .sent) (length (κ .accepted)) (length (κ .accepted)) (x ∷ fs)
         → afterFrame x (answerTo κ x) (historyOf κ) ≡ historyOf (core.frameCome set (free set κ) (x ∷ fs) κ)
     unfolding core.frameCome core.receiver afterFrame
     said κ x fs I h = rw (unlocks κ x fs I h, accepted-is set vw κ I x fs h, acceptedBd-is set vw κ I x)
 
+    -- a frame arrives
     arrives : (σ : Linked m) (κ : Session) (x : Frame) (fs : List Frame) → Rel σ κ → Inv set κ
         → Fly (set .k) (κ .sent) (length (κ .accepted)) (length (κ .accepted)) (x ∷ fs)
         → Readable x → Stocked set (core.frameCome set (free set κ) (x ∷ fs) κ)
@@ -238,6 +245,7 @@ module _ (set : Settings) (vw : Within set) where
               ∙ said κ x fs I h;
         }
 
+    -- the oldest frame to the receiver
     got : (σ : Linked m) (κ : Session) (fs : List Frame) → Rel σ κ → Inv set κ → Fly (set .k) (κ .sent) (length (κ .accepted)) (length (κ .accepted)) fs
         → Stocked set (core.frameCome set (free set κ) fs κ)
         → Rel (ses.frameCome set m (map (written (set .own)) fs) σ) (core.frameCome set (free set κ) fs κ)
@@ -284,16 +292,19 @@ module _ (set : Settings) (vw : Within set) where
     unfolding core.channels toSender core.sender
     plain σ κ e lent R J = rw (R .words) (to-sender σ κ e lent (κ .words) R J)
 
+    -- other channels
     relink : (σ : Linked m) (κ : Session) (fs : List Frame) (ws : List Word) (fs' ws' : List (List ℕ)) → Rel σ κ → fs' ≡ map (written (set .own)) fs
         → ws' ≡ map (wordOctets (set .own)) ws → Rel (ses.channels m fs' ws' σ) (core.channels fs ws κ)
     unfolding core.channels
     relink σ κ fs ws fs' ws' R f w =
         record { good = R .good; goodReceiver = R .goodReceiver; fop = R .fop; farm = R .farm; stock = R .stock; frames = f; words = w; history = R .history }
 
+    -- the receiver's control word
     pub word-is : (σ : Linked m) (κ : Session) → Rel σ κ → m .word (σ .receiver) ≡ wordOctets (set .own) (core.report (κ .farm))
     unfolding receiverWord core.report wordOctets wordOf
     word-is σ κ R = t .word (σ .receiver) (R .goodReceiver) ∙ ap (λ (f : Receiver). receiverWord f) (R .farm)
 
+    -- every event
     pub same-step : (e : Event) (σ : Linked m) (κ : Session) → Rel σ κ → Inv set κ → Rel (ses.step set m e σ) (core.step set e κ)
     unfolding ses.step core.step core.stepWith receiverNext receiverAnswer
     same-step (adRequest o lent) σ κ R I = plain σ κ (requestAd o) lent R (step-keeps set vw (adRequest o lent) κ I)
@@ -320,16 +331,6 @@ module _ (set : Settings) (vw : Within set) where
         ∙ ap (λ (y : Released). rcv.afterRelease y (receiverOf set (used κ) (κ .farm))) (released-is set vw (used κ) (κ .farm)))
         (t .answerReceiver releaseBuffer (σ .receiver) (R .goodReceiver) ∙ ap (λ (f : Receiver). receiverAnswer releaseBuffer f) (R .farm)
         ∙ ap releaseAnswer (released-is set vw (used κ) (κ .farm)))
-
--- the frames that an event hands down read back
-pub reads-of : (set : Settings) (e : SenderEvent) (lent : ℕ) (κ : Session) → goes (set .own) e lent (κ .fop) ≡ true → Inv set (core.sender set e lent κ)
-    → Reads ((work (set .own) e (κ .fop)) .frames)
-unfolding core.sender core.answered
-reads-of set e lent κ b J =
-    let τ : Session = core.answered (set .n) (work (set .own) e (κ .fop)) κ in
-    let K : Inv set (core.answered (set .n) (work (set .own) e (κ .fop)) κ) = rw b at J in
-    reads-last (κ .frames) ((work (set .own) e (κ .fop)) .frames)
-    (fly-reads (set .n) (set .k) (τ .sent) (K .base .num) (length (τ .accepted)) (length (τ .accepted)) (τ .frames) (K .base .fly))
 
 -- the table machines are ends of this kind
 abbrev pub tables-tied : (set : Settings) → Tied set (tables set)

@@ -115,10 +115,6 @@ pub member-out : (i j c : ℕ) → j + c ≤ i → member i (iota j c) ≡ false
 member-out i j zero a = refl
 member-out i j (suc c) a = rw (ne-eqb i j (omega arith)) (member-out i (suc j) c (omega arith))
 
-pub member-below : (i j c : ℕ) → i < j → member i (iota j c) ≡ false
-member-below i j zero a = refl
-member-below i j (suc c) a = rw (ne-eqb i j (omega arith)) (member-below i (suc j) c (omega arith))
-
 -- with the first C confirmed and d more denied, what is left of c places from j on, up to C + d
 pub left-iota : (C j c : ℕ) → remaining (iota 0 C) [] j c ≡ nums (j + (C - j)) (c - (C - j))
 left-iota C j zero = let z : 0 - (C - j) ≡ 0 = omega arith in rw z

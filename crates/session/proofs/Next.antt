@@ -7,29 +7,32 @@ use mathlib.Core.Option.{Option, none, some}
 use Prim.Native.Nat.{ℕ, zero, suc, _+_, _-_, _≤_, _<_}
 use native.Mathlib.Omega.{arith}
 use lib.Dec.{ltb, eqb}
-use lib.ListN.{length, getD}
+use lib.ListN.{length, take, drop, getD}
 use borrow.Author.Tests.{lt-ltb, eq-eqb, ltb-true, ltb-false, eqb-true, eqb-false}
-use Rattle.base.specs.Modulo.{offset}
-use Rattle.fop.specs.Units.{Fdu, AD, legal}
-use Rattle.fop.specs.Table.{State, S1, S2, S3, S4, S5, S6, FopEvent, table78, cell78, AdOutReady, InitiateAdRetransmission}
+use Rattle.base.specs.Modulo.{advanced, offset}
+use Rattle.fop.specs.Units.{Fdu, AD, Word, legal, wordOctets}
+use Rattle.fop.specs.Table.{State, S1, S2, S3, S4, S5, S6, FopEvent, table78, cell78, AddToWaitQueue, AdOutReady, InitiateAdRetransmission}
 use Rattle.fop.specs.Variables.{Fop, Work, Entry, Preset, begin}
-use Rattle.fop.specs.Machine.{fdus, firstMarked, markAll, fopDo, performCell, performAll, perform, lookForFdu, sendNext}
-use Rattle.fop.specs.Variables.{setClock, setState, onFop}
+use Rattle.fop.specs.Machine.{fdus, firstMarked, acknowledged, unacknowledged, markAll, fopDo, performCell, performAll, perform, lookForFdu, sendNext}
+use Rattle.fop.specs.Variables.{setState, onFop}
 use Rattle.fop.specs.Machine.{sendWaiting, transmitAd}
 use Rattle.fop.specs.Events.{fopAd, fopLower, fopTick, fopExpiry, adAccept, SenderEvent, requestAd}
-use Rattle.fop.specs.Events.{lower, work}
+use Rattle.fop.specs.Events.{lower, wordArrives, work, fopWord}
 use Rattle.fop.specs.Answers.{judged, needed}
-use Rattle.session.specs.Ends.{Settings}
-use Rattle.session.specs.Session.{History, adRequest, ticks, lowerSays, nobody, places}
+use Rattle.session.specs.Ends.{Settings, Within}
+use Rattle.session.specs.Session.{History, adRequest, ticks, lowerSays, wordIn, nobody, places}
 use Rattle.session.specs.Claims.{IsOutstanding, outstanding, remaining, member, nextUnit, serves, Marked}
 use Rattle.session.specs.Stronger.{inService}
 use Rattle.fop.specs.Events as fop
-use Rattle.session.proofs.Core.{stepWith, Session, answered, sender, step}
+use Rattle.session.proofs.Test.{lowered}
+use Rattle.session.proofs.Core.{stepWith, Session, answered, channels, wordCome, sender, step}
 use Rattle.session.proofs.Lists.{nums, length-nums, left-iota, member-in, member-out}
-use Rattle.session.proofs.Values.{Live, same-sent, new-sent, queue-length, queue-at}
+use Rattle.session.proofs.Chan.{Wds}
+use Rattle.session.proofs.Values.{Live, live, word, same-sent, new-sent, queue-length, queue-at}
 use Rattle.session.proofs.Rows.{modeOf}
 use Rattle.session.proofs.Queue.{found}
-use Rattle.session.proofs.Inv.{Inv, Side, alerting, goes-is}
+use Rattle.session.proofs.Sender.{acks}
+use Rattle.session.proofs.Inv.{Inv, Side, presetOf, enter, alerting, goes-is, hears, fine}
 
 -- the histories; the invariant says that the receiver never locks out
 abbrev pub historyOf : Session → History
@@ -58,13 +61,18 @@ pub record Resent (u : Fdu) (σ τ : Session) : Type 0 where
   pub out : IsOutstanding (historyOf σ) place
   pub is : u ≡ getD (σ .sent) place nobody
 
+-- a fact in the states that serve: S1 and S2
+pub in-serving : (P : State → Type 0) → P S1 → P S2 → (s : State) → serves s ≡ true → P s
+in-serving P a b S1 e = a
+in-serving P a b S2 e = b
+in-serving P a b S3 e = absurd (false≢true e)
+in-serving P a b S4 e = absurd (false≢true e)
+in-serving P a b S5 e = absurd (false≢true e)
+in-serving P a b S6 e = absurd (false≢true e)
+
+-- they are in service
 pub served : (s : State) → serves s ≡ true → inService s ≡ true
-served S1 e = refl
-served S2 e = refl
-served S3 e = refl
-served S4 e = e
-served S5 e = e
-served S6 e = e
+served = in-serving (λ s. inService s ≡ true) refl refl
 
 -- a sender in service is live
 pub live-of : (s : State) (n C : ℕ) (sent : List Fdu) (gone : List (Option ℕ)) (q : List Fdu) (vs nn : ℕ) → inService s ≡ true
@@ -86,15 +94,19 @@ out-is set σ I f =
     rw f (ap (λ (l : List (Option ℕ)). remaining l [] 0 (length (σ .sent))) (I .places) ∙ left-iota (length (σ .confirmed)) 0 (length (σ .sent)) ∙ rw (a, b))
 
 module _ (set : Settings) (σ : Session) (I : Inv set σ) (sv : inService (σ .fop .state) ≡ true) where
+  -- the sender is live
   pub lv : Live (set .n) (length (σ .confirmed)) (σ .denied) (σ .sent) [] [] (fdus (σ .fop .sentQueue)) (σ .fop .vs) (σ .fop .nnr)
   lv = live-of (σ .fop .state) (set .n) _ _ _ _ _ _ sv (I .side)
 
+  -- how many are outstanding
   pub out-count : length (outstanding (historyOf σ)) ≡ length (σ .sent) - length (σ .confirmed)
   out-count = ap length (out-is set σ I (lv .fresh)) ∙ length-nums _ _
 
+  -- and by the sequence numbers
   pub off-is : offset (σ .fop .vs) (σ .fop .nnr) ≡ length (σ .sent) - length (σ .confirmed)
   off-is = omega (arith, lv, I .base)
 
+  -- an outstanding unit is behind those confirmed
   pub out-from : (i : ℕ) → IsOutstanding (historyOf σ) i → length (σ .confirmed) ≤ i
   out-from i o = go (ltb i (length (σ .confirmed))) refl
     where
@@ -113,6 +125,7 @@ module _ (set : Settings) (σ : Session) (I : Inv set σ) (sv : inService (σ .f
         rw (lv .fresh),
       )
 
+  -- a unit of the queue by its place in Sent
   queue-unit : (j : ℕ) → getD (fdus (σ .fop .sentQueue)) j nobody ≡ getD (σ .sent) (length (σ .confirmed) + j) nobody
   queue-unit j =
       queue-at (length (σ .confirmed)) (σ .sent) [] (fdus (σ .fop .sentQueue)) (lv .cut) j ∙ ap (λ (k : ℕ). getD (σ .sent) k nobody) (omega arith)
@@ -151,6 +164,16 @@ module _ (set : Settings) (σ : Session) (I : Inv set σ) (sv : inService (σ .f
       let f : w .frames ≡ AD (nextUnit set (historyOf σ) o) ∷ [] = e ∙ ap (λ (v : ℕ). AD (record { ns = v; octets = o }) ∷ []) (lv .isVs) in
       record { down = rw f; counted = rw f (new-sent (set .n) (σ .sent) (nextUnit set (historyOf σ) o) refl) }
 
+  -- what a word that reports the count a acknowledges
+  pub acked : (a v : ℕ) → length (σ .confirmed) ≤ a → v ≡ advanced (set .n) a → a ≤ length (σ .accepted)
+      → (acknowledged (σ .fop .nnr) v (σ .fop .sentQueue) ≡ take (offset v (σ .fop .nnr)) (fdus (σ .fop .sentQueue)))
+      × (fdus (unacknowledged (σ .fop .nnr) v (σ .fop .sentQueue)) ≡ drop (offset v (σ .fop .nnr)) (fdus (σ .fop .sentQueue)))
+  acked a v l e m =
+      acks (set .n) (presetOf set) (length (σ .confirmed)) (σ .denied) (σ .accepted) (σ .sent) (σ .frames) a (begin none [] v (σ .fop))
+      (enter live (set .n) (presetOf set) (length (σ .confirmed)) (σ .accepted) (σ .sent) (σ .frames) (σ .denied) (fdus (σ .fop .sentQueue))
+      (σ .fop .vs) (σ .fop .nnr) (σ .fop .preset) word a v (σ .fop .waitQueue) [] (I .base) lv l (e, m) (I .isSet) (I .waiting))
+
+  -- the window has room
   pub room-is : length (outstanding (historyOf σ)) < set .k → offset (σ .fop .vs) (σ .fop .nnr) < σ .fop .preset .k
   room-is h = omega (arith, h, out-count, off-is, ap (λ (p : Preset). p .k) (I .isSet))
 
@@ -160,46 +183,59 @@ pub sender-is : (set : Settings) (e : SenderEvent) (lent : ℕ) (σ : Session) �
 unfolding sender
 sender-is set e lent σ j l = rw (goes-is (set .own) e lent (σ .fop) j l)
 
--- look for FDU
+-- the oldest word, as it was reported, and its answer
+pub word-step : (set : Settings) → Within set → (σ : Session) → Inv set σ → (w : Word) (ws : List Word) (lent : ℕ) → σ .words ≡ w ∷ ws
+    → needed (set .own) (wordArrives (wordOctets (set .own) w)) (σ .fop) ≤ lent
+    → step set (wordIn lent) σ ≡ answered (set .n) (fopWord w (σ .fop)) (channels (σ .frames) ws σ)
+unfolding step stepWith wordCome judged channels
+word-step set vw σ I w ws lent comes r =
+    let wd : Wds (set .n) (length (σ .confirmed)) (length (σ .accepted)) (w ∷ ws) = rw comes at (I .words) in
+    ap (λ (l : List Word). wordCome set lent l σ) comes
+    ∙ sender-is set (wordArrives (wordOctets (set .own) w)) lent (channels (σ .frames) ws σ) (fine set vw w (wd .3) (omega (arith, wd .1))) r
+    ∙ ap (λ (x : Work). answered (set .n) x (channels (σ .frames) ws σ)) (hears set vw w (σ .fop) (wd .3) (omega (arith, wd .1)))
+
+-- Look for FDU sends the unit waiting, where none is marked and the window has room
+look-is : (w : Work) (o : List ℕ) → w .fop .out .ad ≡ true → firstMarked (w .fop .sentQueue) ≡ none → offset (w .fop .vs) (w .fop .nnr) < w .fop .preset .k
+    → w .fop .waitQueue ≡ some o → lookForFdu w ≡ sendWaiting (some o) w
+unfolding lookForFdu sendNext
+look-is w o a m k e = rw (a, m, lt-ltb _ _ k, e)
+
 pub look-new : (w : Work) (o : List ℕ) → w .fop .out .ad ≡ true → firstMarked (w .fop .sentQueue) ≡ none → offset (w .fop .vs) (w .fop .nnr) < w .fop .preset .k
     → w .fop .waitQueue ≡ some o → (lookForFdu w) .frames ≡ w .frames ++ (AD (record { ns = w .fop .vs; octets = o }) ∷ [])
-unfolding lookForFdu sendNext sendWaiting transmitAd
-look-new w o a m k e = rw (a, m, lt-ltb _ _ k, e)
+unfolding sendWaiting transmitAd
+look-new w o a m k e = ap (λ (v : Work). v .frames) (look-is w o a m k e)
 
+-- and where a unit is marked
 pub look-again : (w : Work) (u : Fdu) → w .fop .out .ad ≡ true → firstMarked (w .fop .sentQueue) ≡ some u → (lookForFdu w) .frames ≡ w .frames ++ (AD u ∷ [])
 unfolding lookForFdu sendNext
 look-again w u a m = rw (a, m)
 
--- an AD unit is offered
-ad-frames : (o : List ℕ) (f : Fop) → f .state ≡ S1 → f .out .ad ≡ true → f .waitQueue ≡ none → firstMarked (f .sentQueue) ≡ none
-    → offset (f .vs) (f .nnr) < f .preset .k
-    → (fopAd o f) .frames ≡ AD (record { ns = f .vs; octets = o }) ∷ []
-unfolding fopAd fopDo performCell performAll perform table78
-ad-frames o f s a w m k = rw (w, s) (look-new _ o a m k refl)
+-- an AD unit is offered, and sent at once
+unfoldable pub sentAtOnce : List ℕ → Fop → Work
+sentAtOnce o f = sendWaiting (some o) (perform AddToWaitQueue (begin (some FopEvent.E19) o 0 f))
+
+pub ad-is : (o : List ℕ) (f : Fop) → f .state ≡ S1 → f .out .ad ≡ true → f .waitQueue ≡ none → firstMarked (f .sentQueue) ≡ none
+    → offset (f .vs) (f .nnr) < f .preset .k → fopAd o f ≡ onFop (setState S1 ((sentAtOnce o f) .fop)) (sentAtOnce o f)
+unfolding fopAd fopDo performCell performAll perform table78 sentAtOnce
+ad-is o f s a w m k = rw (w, s) (ap (λ (v : Work). onFop (setState S1 (v .fop)) v) (look-is _ o a m k refl))
 
 pub offers : (set : Settings) (σ : Session) → Inv set σ → (o : List ℕ) (lent : ℕ) → legal o ≡ true → needed (set .own) (requestAd o) (σ .fop) ≤ lent
     → σ .fop .state ≡ S1 → σ .fop .out .ad ≡ true → σ .fop .waitQueue ≡ none → firstMarked (σ .fop .sentQueue) ≡ none
     → length (outstanding (historyOf σ)) < set .k
     → Sent (nextUnit set (historyOf σ) o) σ (step set (adRequest o lent) σ)
-unfolding step stepWith work judged
+unfolding step stepWith work judged sentAtOnce sendWaiting transmitAd perform
 offers set σ I o lent g r s a w m k =
     let sv : inService (σ .fop .state) ≡ true = rw s in
     let j : judged (set .own) (requestAd o) ≡ 0 = rw g in
-    rw (sender-is set (requestAd o) lent σ j r) (next-sends set σ I sv _ o (ad-frames o (σ .fop) s a w m (room-is set σ I sv k)))
+    rw (sender-is set (requestAd o) lent σ j r)
+    (next-sends set σ I sv _ o (ap (λ (v : Work). v .frames) (ad-is o (σ .fop) s a w m (room-is set σ I sv k))))
 
 -- the lower layer comes ready
 low-frames : (f : Fop) → serves (f .state) ≡ true → (fopLower adAccept f) .frames ≡ (lookForFdu (perform AdOutReady (begin (some FopEvent.E41) [] 0 f))) .frames
 unfolding fopLower fopDo performCell performAll table78 perform
-low-frames f s = go (f .state) s
-  where
-    go : (s : State) → serves s ≡ true → (performCell (cell78 (table78 FopEvent.E41) s) (begin (some FopEvent.E41) [] 0 f)) .frames
-        ≡ (lookForFdu (perform AdOutReady (begin (some FopEvent.E41) [] 0 f))) .frames
-    go S1 e = refl
-    go S2 e = refl
-    go S3 e = absurd (false≢true e)
-    go S4 e = absurd (false≢true e)
-    go S5 e = absurd (false≢true e)
-    go S6 e = absurd (false≢true e)
+low-frames f =
+    in-serving (λ s. (performCell (cell78 (table78 FopEvent.E41) s) (begin (some FopEvent.E41) [] 0 f)) .frames
+    ≡ (lookForFdu (perform AdOutReady (begin (some FopEvent.E41) [] 0 f))) .frames) refl refl (f .state)
 
 pub ready-again : (set : Settings) (σ : Session) → Inv set σ → (u : Fdu) (lent : ℕ) → needed (set .own) (lower adAccept) (σ .fop) ≤ lent
     → serves (σ .fop .state) ≡ true → firstMarked (σ .fop .sentQueue) ≡ some u → Resent u σ (step set (lowerSays adAccept lent) σ)
@@ -233,24 +269,18 @@ length-mark (e ∷ q) = ap suc (length-mark q)
 unfoldable pub expired : FopEvent → ℕ → Fop → Work
 expired e v f = lookForFdu (perform InitiateAdRetransmission (begin (some e) [] v f))
 
-down-one : Fop → Fop
-down-one f = setClock (f .clock .timer - 1) (f .clock .transmissionCount) f
-
 tick-cell : (w : Work) (s : State) → serves s ≡ true
     → performCell (cell78 (table78 FopEvent.E16) s) w ≡ onFop (setState s ((lookForFdu (perform InitiateAdRetransmission w)) .fop))
     (lookForFdu (perform InitiateAdRetransmission w))
 unfolding performCell performAll perform table78
-tick-cell w S1 e = refl
-tick-cell w S2 e = refl
-tick-cell w S3 e = absurd (false≢true e)
-tick-cell w S4 e = absurd (false≢true e)
-tick-cell w S5 e = absurd (false≢true e)
-tick-cell w S6 e = absurd (false≢true e)
+tick-cell w =
+    in-serving (λ s. performCell (cell78 (table78 FopEvent.E16) s) w ≡ onFop (setState s ((lookForFdu (perform InitiateAdRetransmission w)) .fop))
+    (lookForFdu (perform InitiateAdRetransmission w))) refl refl
 
 tick-is : (f : Fop) → serves (f .state) ≡ true → f .clock .timer ≡ 1 → f .clock .transmissionCount < f .preset .transmissionLimit
     → eqb (f .preset .timeoutType) 0 ≡ true
-    → fopTick f ≡ onFop (setState (f .state) ((expired FopEvent.E16 0 (down-one f)) .fop)) (expired FopEvent.E16 0 (down-one f))
-unfolding fopTick fopExpiry fopDo expired down-one
+    → fopTick f ≡ onFop (setState (f .state) ((expired FopEvent.E16 0 (lowered f)) .fop)) (expired FopEvent.E16 0 (lowered f))
+unfolding fopTick fopExpiry fopDo expired
 tick-is f s t c z = rw (eq-eqb (f .clock .timer) 1 t, lt-ltb (f .clock .transmissionCount) (f .preset .transmissionLimit) c, z) (tick-cell _ (f .state) s)
 
 expired-off : (x : FopEvent) (v : ℕ) (f : Fop) → f .out .ad ≡ false → ((expired x v f) .fop .sentQueue ≡ markAll (f .sentQueue))
@@ -313,9 +343,9 @@ module _ (set : Settings) (σ : Session) (I : Inv set σ) (sv : inService (σ .f
 pub expires : (set : Settings) (σ : Session) → Inv set σ → (i lent : ℕ) → needed (set .own) fop.tick (σ .fop) ≤ lent → serves (σ .fop .state) ≡ true
     → σ .fop .clock .timer ≡ 1 → σ .fop .clock .transmissionCount < set .limit → IsOutstanding (historyOf σ) i
     → Resent (getD (σ .sent) i nobody) σ (step set (ticks lent) σ) ⊎ Marked (getD (σ .sent) i nobody) ((step set (ticks lent) σ) .fop)
-unfolding step stepWith work judged answered down-one
+unfolding step stepWith work judged answered
 expires set σ I i lent r sv t c o =
     let e = tick-is (σ .fop) sv t (omega (arith, c, ap (λ (p : Preset). p .transmissionLimit) (I .isSet))) (alerting set σ I) in
     rw (sender-is set fop.tick lent σ refl r)
-    (ticked set σ I (served (σ .fop .state) sv) FopEvent.E16 0 (down-one (σ .fop)) refl i (σ .fop .sentQueue) refl (fopTick (σ .fop))
+    (ticked set σ I (served (σ .fop .state) sv) FopEvent.E16 0 (lowered (σ .fop)) refl i (σ .fop .sentQueue) refl (fopTick (σ .fop))
     (ap (λ (w : Work). w .fop .sentQueue) e) (ap (λ (w : Work). w .frames) e) o (σ .fop .out .ad) refl)

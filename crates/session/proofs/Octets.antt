@@ -1,7 +1,7 @@
 -- What is written reads back: frames of legal units (by crate frame's `frame-back` and `data-back`) and control words (by crate clcw's
 -- `word-back`).
-use mathlib.Core.Path.{_≡_, refl, ap, _∙_}
-use mathlib.Core.Bool.{Bool, true, false, _&&_, false≢true}
+use mathlib.Core.Path.{_≡_, ap, _∙_}
+use mathlib.Core.Bool.{Bool, true, false, _&&_}
 use mathlib.Core.List.{List, [], _∷_, append-nil}
 use Prim.Native.Nat.{ℕ, _+_, _*_, _≤_, _<_}
 use native.Mathlib.Omega.{arith}
@@ -25,10 +25,7 @@ use Rattle.clcw.specs.declared.Reading.the-variants as clcwReading
 use Rattle.clcw.proofs.Word as word
 use Rattle.clcw.proofs.Back as cback
 use Rattle.session.specs.Frames.{read}
-
-pub and-both : (a b : Bool) → (a && b) ≡ true → (a ≡ true) × (b ≡ true)
-and-both true b e = (refl, e)
-and-both false b e = absurd (false≢true e)
+use Rattle.session.proofs.Choices.{and-both}
 
 pub octets-are : (o : List ℕ) → areOctets o ≡ true → Octets o
 octets-are [] e = tt

@@ -6,26 +6,9 @@ use mathlib.Core.Option.{none, some}
 use Prim.Native.Nat.{ℕ, _<_}
 use lib.Dec.{leb→le}
 use lib.ListN.{length}
-use Rattle.base.specs.Octets as octets
-use Rattle.base.specs.Fields as fields
-use Rattle.base.specs.Register as register
-use Rattle.fecf.specs.Fecf as fecf
-use Rattle.frame.specs.Header as header
-use Rattle.frame.specs.Frame as frame
-use Rattle.frame.specs.Answers as frameAnswers
-use Rattle.clcw.specs.Clcw as clcw
-use Rattle.clcw.specs.Answers as clcwAnswers
-use Rattle.farm.specs.Table as t79
-use Rattle.farm.specs.Window as window
-use Rattle.farm.specs.Receiver as receiver
 use Rattle.fop.specs.Units as units
-use Rattle.fop.specs.Table as table
-use Rattle.fop.specs.Machine as machine
 use Rattle.fop.specs.Events as events
-use Rattle.fop.specs.Answers as answers
 use Rattle.session.specs.Frames as frames
-use Rattle.session.specs.Receiver as rcv
-use Rattle.session.specs.Ends as ends
 use Rattle.session.specs.Session as ses
 use Rattle.fop.specs.Units.{Fdu, AD, Word, valid, legal}
 use Rattle.fop.specs.Table.{S1, S2}
@@ -35,13 +18,14 @@ use Rattle.farm.specs.declared.State.the-variants.{Open}
 use Rattle.session.specs.Ends.{Settings, tables}
 use Rattle.session.specs.Session.{Event, Linked, adRequest, ticks, lowerSays, wordMade, frameIn, frameLost, wordIn}
 use Rattle.session.specs.Claims.{IsOutstanding, outstanding, expected, BufferFree, serves, Lent, nextNumber}
+use Rattle.session.proofs.Trace.{computing, settings}
 
+-- a window of 1, and a wider one
 abbrev set : Settings
-set = record { n = 254; k = 1; w = 10; buffers = 2; t1 = 2; limit = 3; own = record { spacecraft = 5; channel = 9 } }
+set = settings 1 2 2 3
 
--- a wider window
 abbrev wide : Settings
-wide = record { n = 254; k = 3; w = 10; buffers = 2; t1 = 2; limit = 3; own = record { spacecraft = 5; channel = 9 } }
+wide = settings 3 2 2 3
 
 abbrev after : (s : Settings) → List Event → Linked (tables s)
 after s es = ses.run s (tables s) es (ses.begins (tables s))
@@ -121,19 +105,7 @@ Clears =
     × ((after set clears-list) .sender .out .ad ≡ true) × ((after set clears-list) .sender .waitQueue ≡ some (34 ∷ 35 ∷ []))
 
 pub premises : Accepts × Offered × ReadyAgain × Resending × ReadyNew × Expires × Clears
-unfolding outstanding ses.run ses.begins ses.step ses.toSender ses.wordCome ses.frameCome ses.releases ses.afterSender ses.afterFrame ses.afterRelease
-    ends.startSender ends.startReceiver rcv.receiverNext rcv.receiverAnswer rcv.receiverWord frames.read units.legal units.written
-    units.wordOctets units.readWord table.table78 machine.transmitAd machine.sendWaiting machine.sendNext machine.lookForFdu machine.lookForDirective
-    machine.transmitBc machine.denyBc machine.rejectWaiting machine.purge machine.removeAcknowledged machine.perform machine.performAll machine.performCell
-    machine.fopDo events.wordEvent events.fopWord events.fopAd events.fopBd events.fopExpiry events.fopTick events.fopLower
-    events.directiveEvent events.fopDirective events.fopHeard events.work answers.needed answers.judged answers.senderRefusal
-    answers.senderAnswer answers.senderNext t79.table t79.perform t79.performAll t79.stepOf t79.accepts window.adEvent receiver.eventOf
-    receiver.answered receiver.arrived receiver.byReading receiver.receiveOf receiver.unitPart receiver.releaseOf receiver.wordOf frame.bodyOf
-    frame.rawFrame frame.totalOf
-    frame.dataField frame.isCommand frame.commandHeld frame.headerRefusal frame.contentRefusal frame.refusalOf frame.kindOf
-    frameAnswers.fieldsOf frameAnswers.readingOf frameAnswers.partOf header.headerFields header.headerOf clcw.wordFields clcw.clcwOf
-    clcw.isValid clcw.wordOf clcwAnswers.receivedOf clcwAnswers.readingOf fecf.fecfOf fecf.syndromeOf register.shiftBit register.shiftBits
-    register.register fields.digitsOf fields.valueOf fields.packed fields.octetsOf fields.fieldAt octets.bitsOf octets.octetBits
+unfolding computing
 premises = (
   (0 ∷ 5 ∷ 36 ∷ 7 ∷ 254 ∷ 17 ∷ 103 ∷ 182 ∷ [], [], refl, refl, refl, refl, leb→le 1 2 tt),
   (refl, leb→le 8 8 tt, refl, refl, refl, refl, leb→le 1 1 tt),

@@ -11,7 +11,7 @@ use borrow.Author.Tests.{ltb-true, ltb-false}
 use Rattle.base.specs.Choice.{pick}
 use Rattle.base.specs.Modulo.{advanced, offset}
 use Rattle.fop.specs.Units.{Fdu}
-use Rattle.fop.specs.Variables.{Work, Entry}
+use Rattle.fop.specs.Variables.{Entry}
 use Rattle.fop.specs.Machine.{fdus, markAll, firstMarked, unmark, acknowledged, unacknowledged}
 use Rattle.session.specs.Session.{nobody}
 
@@ -32,6 +32,7 @@ pub fdus-append : (q r : List Entry) → fdus (q ++ r) ≡ fdus q ++ fdus r
 fdus-append [] r = refl
 fdus-append (e ∷ q) r = ap (_∷_ (e .fdu)) (fdus-append q r)
 
+-- the oldest marked unit stands on the queue
 pub found : (q : List Entry) (u : Fdu) → firstMarked q ≡ some u → (i : ℕ) × (i < length (fdus q)) × (u ≡ getD (fdus q) i nobody)
 found [] u h = let z : _≡_ {A = ℕ} 0 1 = cc in absurd (omega arith)
 found (e ∷ q) u h = go (found q u) (e .marked) h
@@ -71,7 +72,3 @@ ack n c nn nr e (x ∷ q) j h b =
         let z : offset nr nn - j ≡ 0 = omega arith in
         let z' : offset nr nn - suc j ≡ 0 = omega arith in
         (rw (isJ, t, z) (rw z' at (f .0)), rw (isJ, t, z) (ap (_∷_ (x .fdu)) (rw z' at (f .1))))
-
-pub pickC : (P : Work → Type 0) (b : Bool) {x y : Work} → (b ≡ true → P x) → (b ≡ false → P y) → P (pick b x y)
-pickC P true f g = f refl
-pickC P false f g = g refl

@@ -4,11 +4,12 @@ use mathlib.Core.Path.{_≡_, refl, sym, ap, _∙_}
 use mathlib.Core.Bool.{Bool, true, false, not, _&&_, _||_, true≢false, false≢true}
 use mathlib.Core.List.{List, [], _∷_}
 use mathlib.Core.Option.{none, some}
-use Prim.Native.Nat.{ℕ, _+_, _-_, _*_, _≤_}
+use Prim.Native.Nat.{_+_, _-_, _*_, _≤_}
 use native.Mathlib.Omega.{arith}
 use lib.Dec.{leb, ltb, eqb, T}
 use lib.ListN.{length}
-use borrow.Author.Tests.{eqb-true, le-ltb}
+use borrow.Author.Tests.{eqb-true, le-ltb, not-false}
+use Rattle.base.proofs.Computed.{is-true}
 use Rattle.base.specs.Modulo.{offset}
 use Rattle.fop.specs.Units.{Word}
 use Rattle.fop.specs.Table.{State, S1, S2, S3, S4, S5, S6, Reason, table78, cell78}
@@ -25,7 +26,7 @@ use Rattle.session.proofs.Inv.{Inv, Side}
 use Rattle.session.proofs.Receiver.{at}
 use Rattle.session.proofs.Keys.{bit, bit-le, rank, floor, Keys, Tidy}
 use Rattle.session.proofs.Every.{implies, implied, everySeen, seen-at}
-use Rattle.session.proofs.Alerts.{calm, Hush, cell-hush}
+use Rattle.session.proofs.Alerts.{hushes, calm, Hush, cell-hush}
 
 -- that of the limit, where it is 1
 abbrev limitAlert : Bool → Reason → Bool
@@ -38,10 +39,6 @@ limitAlert once Reason.t1 = false
 limitAlert once Reason.term = false
 limitAlert once Reason.llif = false
 
-is-true : (b : Bool) → T b → b ≡ true
-is-true true t = refl
-is-true false t = absurd t
-
 -- what holds of a word of the session, and of the state that it finds
 abbrev pub fitting : State → Seen → Bool
 fitting s x = not (x .lockout) && (not (x .invalid) && (not (x .all && x .retransmit) &&
@@ -52,7 +49,7 @@ abbrev calmAt : State → Seen → Bool
 calmAt s x = implies (fitting s x) (calm (limitAlert (x .once)) (cell78 (table78 (wordEvent x)) s))
 
 calm-all : (s : State) → T (sound (modeOf s)) → T (everySeen (calmAt s))
-unfolding table78 wordEvent
+unfolding table78 wordEvent hushes
 calm-all S1 g = tt
 calm-all S2 g = tt
 calm-all S3 g = tt
@@ -65,7 +62,7 @@ abbrev calm6 : Seen → Bool
 calm6 x = calm (limitAlert (x .once)) (cell78 (table78 (wordEvent x)) S6)
 
 calm-six : T (everySeen calm6)
-unfolding table78 wordEvent
+unfolding table78 wordEvent hushes
 calm-six = tt
 
 -- what is said of a word of the session makes it fit
@@ -80,10 +77,6 @@ fits false false true false false true K l v a w n = refl
 fits false false false false false true K l v a w n = refl
 fits false false true false false false K l v a w n = n refl refl
 fits false false false false false false K l v a w n = n refl refl
-
-not-true : (b : Bool) → not b ≡ false → b ≡ true
-not-true true e = refl
-not-true false e = absurd (true≢false e)
 
 bit-true : (b : Bool) → 1 ≤ bit b → b ≡ true
 bit-true true h = refl
@@ -108,8 +101,6 @@ module _ (set : Settings) (σ : Session) (I : Inv set σ) (w : Word) (ws : List 
       → Keys (set .n) (length (σ .sent)) (floor s (length (σ .confirmed))) (2 * length (σ .accepted) + bit (σ .farm .retransmit)) (w ∷ ws)
       → fitting s (seen w (σ .fop)) ≡ true
   live-fits s h k =
-      let C : ℕ = length (σ .confirmed) in
-      let S : ℕ = length (σ .sent) in
       let b1 = bit-le (w .retransmit) in
       let ca : length (σ .confirmed) ≤ k .0 = omega (arith, k .2, b1) in
       let new : offset (w .nr) (σ .fop .nnr) ≡ k .0 - length (σ .confirmed) = omega (arith, k .1, ca, k .5, h, I .base) in
@@ -120,7 +111,7 @@ module _ (set : Settings) (σ : Session) (I : Inv set σ) (w : Word) (ws : List 
       λ q. bit-false (w .retransmit) (omega (arith, eqb-true (offset (w .nr) (σ .fop .nnr)) (offset (σ .fop .vs) (σ .fop .nnr)) q, new, out, ca, k .5)) in
       let z : w .wait ≡ true → w .retransmit ≡ true = λ q. bit-true (w .retransmit) (omega (arith, k .4, ap bit q)) in
       let m : w .retransmit ≡ false → not (eqb (offset (w .nr) (σ .fop .nnr)) 0) ≡ false → leb (rank s) 0 ≡ true =
-      λ r q. rank-zero s (omega (arith, k .2, ap bit r, eqb-true (offset (w .nr) (σ .fop .nnr)) 0 (not-true _ q), new, ca)) in
+      λ r q. rank-zero s (omega (arith, k .2, ap bit r, eqb-true (offset (w .nr) (σ .fop .nnr)) 0 (not-false _ q), new, ca)) in
       fits (w .lockout) _ _ (w .retransmit) (w .wait) _ _ (k .3) v a z m
 
   live-calm : (s : State) → T (sound (modeOf s))

@@ -1,7 +1,7 @@
 -- The receiver's events, and the channels', keep the session's invariant, whether or not a buffer is free.
 use mathlib.Core.Logic.{_≢_}
 use mathlib.Core.Path.{_≡_, refl, ap, _∙_}
-use mathlib.Core.Bool.{Bool, true, false, true≢false}
+use mathlib.Core.Bool.{Bool, true, false}
 use mathlib.Core.List.{List, [], _∷_, _++_}
 use Prim.Native.Nat.{ℕ, suc, _+_, _-_, _/_, _%_, _≤_, _<_, max}
 use native.Mathlib.Omega.{arith}
@@ -24,17 +24,14 @@ use Rattle.farm.specs.declared.Variables.{Variables}
 use Rattle.session.specs.Ends.{Settings, Within, startSender, startReceiver}
 use Rattle.session.specs.Session.{nobody, rest, Event, adRequest, bdRequest, ticks, lowerSays, terminate, wordIn, wordLost, wordMade, frameIn, frameLost, release}
 use Rattle.session.specs.Stronger.{Sub, none-left}
+use Rattle.session.proofs.Choices.{by-pick, never}
 use Rattle.session.proofs.Core.{Session, channels, receiver, frameCome, frameEvent, isHanded, releases, taken, takenBd, report, stepWith, step, free}
 use Rattle.session.proofs.Core.{isHeld}
 use Rattle.session.proofs.Lists.{numbered-nil}
 use Rattle.session.proofs.Chan.{Fly, fly-mono, Wds, wds-lower, wds-higher, wds-add}
 use Rattle.session.proofs.Values.{refly}
 use Rattle.session.proofs.Bds.{bdsOf, bd-lost, bd-accepted}
-use Rattle.session.proofs.Inv.{Inv, Rcv, isLocked, pickS, words-are, ad-keeps, bd-keeps, lower-keeps, ticks-keeps, terminate-keeps, word-keeps}
-
-pub pickE : (P : FarmEvent → Type 0) (b : Bool) {x y : FarmEvent} → (b ≡ true → P x) → (b ≡ false → P y) → P (pick b x y)
-pickE P true f g = f refl
-pickE P false f g = g refl
+use Rattle.session.proofs.Inv.{Inv, Rcv, isLocked, words-are, ad-keeps, bd-keeps, lower-keeps, ticks-keeps, terminate-keeps, word-keeps}
 
 -- a receiver that accepted no AD unit, with fs the frames left
 unchanged : (set : Settings) (σ : Session) (v : Variables) (b : List (List ℕ)) (fs : List Frame) (r : ℕ) → Inv set σ
@@ -81,9 +78,6 @@ tail-fly K s A Unlock fs h = absurd h
 tail-fly K s A (SetVR v) fs h = absurd h
 tail-fly K s A (Refused r) fs h = absurd h
 
-pub locks : {A : Type 0} → true ≡ false → A
-locks e = absurd (true≢false e)
-
 -- the variables in a state
 abbrev pub at : FarmState → Variables → Variables
 at s v = record { state = s; vr = v .vr; lockout = v .lockout; wait = v .wait; retransmit = v .retransmit; counter = v .counter }
@@ -112,25 +106,25 @@ module _ (set : Settings) (σ : Session) (u : Fdu) (fs : List Frame) (I : Inv se
         accepted set σ _ u fs I e b f sb
         (record { isVr = omega (arith, I .receiver .isVr); unlocked = refl; noLock = I .receiver .noLock; counted = I .receiver .counted })
     takes e b f Wait l = stays _ (rcv-with (I .receiver) Wait _ _ _ _ _ (I .receiver .noLock) refl (I .receiver .counted))
-    takes e b f Lockout l = locks l
+    takes e b f Lockout l = never l
 
     drops-e2 : (s : FarmState) → isLocked s ≡ false → R E2 s
     unfolding table stepOf performAll perform accepts
     drops-e2 Open l = stays _ (rcv-with (I .receiver) Wait _ true true _ _ (I .receiver .noLock) refl (I .receiver .counted))
     drops-e2 Wait l = stays _ (rcv-with (I .receiver) Wait _ _ _ _ _ (I .receiver .noLock) refl (I .receiver .counted))
-    drops-e2 Lockout l = locks l
+    drops-e2 Lockout l = never l
 
     drops-e3 : (s : FarmState) → isLocked s ≡ false → R E3 s
     unfolding table stepOf performAll perform accepts
     drops-e3 Open l = stays _ (rcv-with (I .receiver) Open _ _ true _ _ (I .receiver .noLock) refl (I .receiver .counted))
     drops-e3 Wait l = stays _ (rcv-with (I .receiver) Wait _ _ _ _ _ (I .receiver .noLock) refl (I .receiver .counted))
-    drops-e3 Lockout l = locks l
+    drops-e3 Lockout l = never l
 
     drops-e4 : (s : FarmState) → isLocked s ≡ false → R E4 s
     unfolding table stepOf performAll perform accepts
     drops-e4 Open l = stays _ (rcv-with (I .receiver) Open _ _ _ _ _ (I .receiver .noLock) refl (I .receiver .counted))
     drops-e4 Wait l = stays _ (rcv-with (I .receiver) Wait _ _ _ _ _ (I .receiver .noLock) refl (I .receiver .counted))
-    drops-e4 Lockout l = locks l
+    drops-e4 Lockout l = never l
 
 -- which events an AD frame of the session can be: P holds of it if P holds of E1 and E2 where it is expected, of E3 where units before it are
 -- missing, and of E4 where it was accepted before
@@ -174,9 +168,9 @@ ad-cases set vw σ room u fs I h P p1 p2 p3 p4 = go (ltb (h .0) (length (σ .acc
         let e : offset (u .ns) (σ .farm .vr) ≡ h .0 - length (σ .accepted) =
         d-is ∙ offset-advanced (set .n) (h .0) (length (σ .accepted)) l (omega (arith, h .4, I .base .small)) in
         let k : h .0 - length (σ .accepted) < set .k = omega (arith, h .4) in
-        pickE P (eqb (offset (u .ns) (σ .farm .vr)) 0)
+        by-pick P (eqb (offset (u .ns) (σ .farm .vr)) 0)
         (λ t. let i : h .0 ≡ length (σ .accepted) = omega (arith, eqb-true (offset (u .ns) (σ .farm .vr)) 0 t, e) in
-        pickE P (both room (notWait (σ .farm .state))) (λ p. p1 i p) (λ p. p2 i p))
+        by-pick P (both room (notWait (σ .farm .state))) (λ p. p1 i p) (λ p. p2 i p))
         (λ t. let y : offset (u .ns) (σ .farm .vr) < set .w / 2 = omega (arith, e, half, k) in
         rw (lt-ltb (offset (u .ns) (σ .farm .vr)) (set .w / 2) y) (p3 (omega (arith, eqb-false (offset (u .ns) (σ .farm .vr)) 0 t, e))))
 
@@ -193,7 +187,7 @@ bd-cell set σ o fs I fl sb Wait l =
     let k : (σ .farm .counter + 1) % 4 ≡ length (σ .acceptedBd ++ (o ∷ [])) % 4 = omega (arith, length-append (σ .acceptedBd) (o ∷ []), I .receiver .counted) in
     unchanged set σ _ (σ .acceptedBd ++ (o ∷ [])) fs (σ .released) I fl (bd-accepted (σ .acceptedBd) (σ .sentBd) o fs sb)
     (rcv-with (I .receiver) Wait _ _ _ _ _ (I .receiver .noLock) refl k)
-bd-cell set σ o fs I fl sb Lockout l = locks l
+bd-cell set σ o fs I fl sb Lockout l = never l
 
 frame-keeps : (set : Settings) → Within set → (σ : Session) (room : Bool) (l : List Frame) → Inv set σ
     → Fly (set .k) (σ .sent) (length (σ .accepted)) (length (σ .accepted)) l
@@ -240,7 +234,7 @@ release-cell set σ I Open l =
 release-cell set σ I Wait l =
     unchanged set σ _ (σ .acceptedBd) (σ .frames) (σ .released + 1) I (I .base .fly) (I .bd)
     (rcv-with (I .receiver) Open _ _ _ _ _ (I .receiver .noLock) refl (I .receiver .counted))
-release-cell set σ I Lockout l = locks l
+release-cell set σ I Lockout l = never l
 
 rest-words : (n lo hi : ℕ) (ws : List Word) → Wds n lo hi ws → Wds n lo hi (rest ws)
 rest-words n lo hi [] h = h
@@ -264,7 +258,7 @@ stepWith-keeps set vw room held wordMade σ I = words-are set σ _ I (reported s
 stepWith-keeps set vw room held frameIn σ I = frame-keeps set vw σ room (σ .frames) I (I .base .fly) (I .bd)
 stepWith-keeps set vw room held frameLost σ I = lost-keeps set σ I
 stepWith-keeps set vw room held release σ I =
-    pickS (Inv set) held (λ t. release-cell set σ I (σ .farm .state) (I .receiver .unlocked)) (λ t. I)
+    by-pick (Inv set) held (λ t. release-cell set σ I (σ .farm .state) (I .receiver .unlocked)) (λ t. I)
 
 pub step-keeps : (set : Settings) → Within set → (e : Event) (σ : Session) → Inv set σ → Inv set (step set e σ)
 unfolding step

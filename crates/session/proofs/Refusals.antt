@@ -9,12 +9,12 @@ use borrow.Author.Tests.{eqb-true}
 use Rattle.base.specs.Choice.{pick}
 use Rattle.fop.specs.Units.{Frame, Refused, Own}
 use Rattle.fop.specs.Variables.{Fop}
-use Rattle.fop.specs.Events.{SenderEvent, work}
-use Rattle.fop.specs.Answers.{senderRefusal, senderAnswer, senderNext, refused}
+use Rattle.fop.specs.Events.{SenderEvent}
+use Rattle.fop.specs.Answers.{Answer, senderRefusal, senderAnswer, senderNext}
 use Rattle.session.specs.Stronger.{RefusedKeeps}
+use Rattle.session.proofs.Choices.{by-pick}
 use Rattle.session.proofs.Receiver.{at}
 use Rattle.base.specs.Choice.{must}
-use Rattle.fop.specs.Answers as ans
 use Rattle.frame.specs.Answers.{readingOf}
 use Rattle.frame.specs.declared.Reading.{Reading}
 use Rattle.frame.specs.declared.Reading.the-variants as reading
@@ -32,22 +32,14 @@ use Rattle.session.specs.Receiver.{ReceiverEvent, frameArrives, releaseB
 
 pub refusal-is : (own : Own) (e : SenderEvent) (lent : ℕ) (f : Fop) → (senderAnswer own e lent f) .refusal ≡ senderRefusal own e lent f
 unfolding senderAnswer
-refusal-is own e lent f = go (eqb (senderRefusal own e lent f) 0) refl
-  where
-    go : (b : Bool) → eqb (senderRefusal own e lent f) 0 ≡ b
-        → (pick b (ans.answered own (work own e f)) (refused (senderRefusal own e lent f) f)) .refusal ≡ senderRefusal own e lent f
-    go true z = sym (eqb-true _ 0 z)
-    go false z = refl
+refusal-is own e lent f =
+    by-pick (λ (a : Answer). a .refusal ≡ senderRefusal own e lent f) (eqb (senderRefusal own e lent f) 0) (λ z. sym (eqb-true _ 0 z)) (λ z. refl)
 
 abbrev pub Mild : ℕ → Type 0
 Mild r = (r ≡ 0) ⊎ ((r ≡ 10) ⊎ (r ≡ 11))
 
 pub mild : (j need lent : ℕ) → (j ≡ 0) ⊎ (j ≡ 10) → Mild (pick (eqb j 0) (pick (leb need lent) 0 11) j)
-mild j need lent (inl e) = rw e (go (leb need lent))
-  where
-    go : (b : Bool) → Mild (pick b 0 11)
-    go true = inl refl
-    go false = inr (inr refl)
+mild j need lent (inl e) = rw e (by-pick Mild (leb need lent) (λ t. inl refl) (λ t. inr (inr refl)))
 mild j need lent (inr e) = rw e (inr (inl refl))
 
 -- E9 keeps the variables
@@ -66,15 +58,11 @@ pub refused-keeps : (own : Own) → RefusedKeeps own
 unfolding senderNext receiverNext receiverAnswer farm.receiveOf farm.byReading farm.arrived farm.answered farm.releaseOf
 refused-keeps own =
     record {
-      sender = λ e lent f h. kept e lent f (eqb (senderRefusal own e lent f) 0) refl h;
+      sender = λ e lent f h.
+          by-pick (λ (g : Fop). g ≡ f) (eqb (senderRefusal own e lent f) 0) (λ z. absurd (h (refusal-is own e lent f ∙ eqb-true _ 0 z))) (λ z. refl);
       receiver = keptR;
     }
   where
-    kept : (e : SenderEvent) (lent : ℕ) (f : Fop) (b : Bool) → eqb (senderRefusal own e lent f) 0 ≡ b → (senderAnswer own e lent f) .refusal ≢ 0
-        → pick b ((work own e f) .fop) f ≡ f
-    kept e lent f true z h = absurd (h (refusal-is own e lent f ∙ eqb-true _ 0 z))
-    kept e lent f false z h = refl
-
     by-reading : (x : Reading) (r : Receiver) → (farm.byReading r x) .refusal ≢ 0 → (farm.byReading r x) .next ≡ r
     by-reading (reading.Frame fields) r h = absurd (h refl)
     by-reading (reading.Refused n) r h = e9 n r

@@ -1,11 +1,10 @@
 -- One computed test of table 7-8: what its actions do to the sender's mode, cell by cell.
 use mathlib.Core.Path.{_≡_, refl}
-use mathlib.Core.Bool.{Bool, true, false, _&&_, false≢true}
+use mathlib.Core.Bool.{Bool, true, false, _&&_}
 use mathlib.Core.List.{List, [], _∷_}
 use mathlib.Core.Option.{some}
 use Prim.Native.Nat.{ℕ}
 use lib.Dec.{T}
-use Rattle.base.specs.Choice.{pick}
 use Rattle.fop.specs.Table.{Ignore, SetSuspendState, Suspend, Resume, State, S1, S2, S3, S4, S5, S6, Action, Cell, cell, ifNotSuspended, NotApplicable, Row, row, FopEvent, table78, cell78, Accept, Reject, Confirm}
 use Rattle.fop.specs.Table.{RejectAd, AcceptBd, RejectBd, AddToWaitQueue, LookForFdu, LookForDirective, RemoveAcknowledgedFrames, InitiateAdRetransmission}
 use Rattle.fop.specs.Table.{InitiateBcRetransmission, ReleaseBcFrame, CancelTimer, StartTimer, Alert, Initialise, TransmitUnlock, TransmitSetVr, TransmitBd}
@@ -13,7 +12,9 @@ use Rattle.fop.specs.Table.{SetVs, SetNnr, SetK, SetT1Initial, SetTransmissionL
 use Rattle.fop.specs.Variables.{Fop}
 use Rattle.fop.specs.Variables.{begin}
 use Rattle.fop.specs.Machine.{performCell, fopDo}
-use Rattle.fop.specs.Events.{Line, when, first, expiryLines, Seen, wordLines, wordEvent, Lower, lowerEvent}
+use Rattle.fop.specs.Events.{when, first, Seen, wordLines, wordEvent, Lower, lowerEvent}
+use Rattle.session.proofs.Choices.{and-l, and-r}
+use Rattle.session.proofs.Test.{first-all, lower-all}
 use Rattle.session.proofs.Values.{Mode, live, dead, bad, Given, word, unit, nothing}
 
 -- what an action does to the mode; bad: the invariant does not cover it
@@ -108,14 +109,6 @@ sound bad = false
 abbrev pub atAll : (State → Cell → Bool) → Row → Bool
 atAll t (row a b c d e f) = t S1 a && (t S2 b && (t S3 c && t S6 f))
 
-pub and-l : (a b : Bool) → T (a && b) → T a
-and-l true b t = tt
-and-l false b t = t
-
-pub and-r : (a b : Bool) → T (a && b) → T b
-and-r true b t = t
-and-r false b t = absurd t
-
 pub at-cell : (t : State → Cell → Bool) (r : Row) (s : State) → T (atAll t r) → T (sound (modeOf s)) → T (t s (cell78 r s))
 at-cell t (row a b c d e f) S1 h g = and-l (t S1 a) _ h
 at-cell t (row a b c d e f) S2 h g = and-l (t S2 b) _ (and-r (t S1 a) _ h)
@@ -150,42 +143,18 @@ do-sound g e o v f t h = go (cell78 (table78 e) (f .state)) (at-cell (cellOk g) 
     go (ifNotSuspended xs ys s) t = absurd t
     go (cell xs s) t = match-sound (afterAll g xs (modeOf (f .state))) (modeOf s) t
 
--- a test of all the lines is one of the line that holds
-abbrev pub allLines : (FopEvent → Bool) → List Line → Bool
-allLines t [] = true
-allLines t (when c x ∷ more) = t x && allLines t more
-
-pub first-all : (t : FopEvent → Bool) (l : List Line) (e : FopEvent) → T (allLines t l && t e) → T (t (first l e))
-first-all t [] e h = h
-first-all t (when c x ∷ more) e h = go c (first-all t more e (r (t x) (allLines t more) (t e) h))
-  where
-    r : (a b d : Bool) → T ((a && b) && d) → T (b && d)
-    r true b d h = h
-    r false b d h = absurd h
-
-    go : (c : Bool) → T (t (first more e)) → T (t (pick c x (first more e)))
-    go true k = and-l (t x) _ (and-l (t x && allLines t more) (t e) h)
-    go false k = k
-
 pub word-ok : (s : Seen) → T (rowOk word (wordEvent s))
 unfolding table78 wordEvent
 word-ok s = first-all (rowOk word) (wordLines s) FopEvent.E103 tt
 
 pub lower-ok : (l : Lower) → T (rowOk nothing (lowerEvent l))
 unfolding table78
-lower-ok Lower.adAccept = tt
-lower-ok Lower.adReject = tt
-lower-ok Lower.bcAccept = tt
-lower-ok Lower.bcReject = tt
-lower-ok Lower.bdAccept = tt
-lower-ok Lower.bdReject = tt
+lower-ok = lower-all (rowOk nothing) tt
 
--- the timer expires, at Timeout_Type 0
-pub timer-ok : (c d : Bool) → d ≡ true → T (rowOk nothing (first (expiryLines c d) FopEvent.E18))
+-- the expiry of the timer, at Timeout_Type 0
+pub timer-ok : T (rowOk nothing FopEvent.E16 && rowOk nothing FopEvent.E17)
 unfolding table78
-timer-ok true true e = tt
-timer-ok false true e = tt
-timer-ok c false e = absurd (false≢true e)
+timer-ok = tt
 
 pub ad-ok : (c : Bool) → T (rowOk unit (first (when c FopEvent.E19 ∷ []) FopEvent.E20))
 unfolding table78

@@ -2,27 +2,27 @@
 use mathlib.Core.Path.{_≡_, refl, ap, _∙_}
 use mathlib.Core.Bool.{false}
 use mathlib.Core.List.{List, [], _∷_, _++_, append-assoc, append-nil}
-use mathlib.Core.Option.{Option, none, some}
+use mathlib.Core.Option.{Option, some}
 use Prim.Native.Nat.{ℕ, _+_, _-_, _<_}
 use native.Mathlib.Omega.{arith}
-use lib.Dec.{ltb, T}
+use lib.Dec.{T}
 use lib.ListN.{length, take, drop}
-use borrow.Author.Tests.{ltb-true}
 use Rattle.base.specs.Modulo.{advanced, offset}
 use Rattle.fop.specs.Units.{Fdu, Frame, AD, BD}
 use Rattle.fop.specs.Table.{Ignore, SetSuspendState, Suspend, Resume, Action, Cell, cell, ifNotSuspended, NotApplicable, FopEvent, table78, cell78, Accept, Reject, Confirm}
 use Rattle.fop.specs.Table.{RejectAd, AcceptBd, RejectBd, AddToWaitQueue, LookForFdu, LookForDirective, RemoveAcknowledgedFrames, InitiateAdRetransmission}
 use Rattle.fop.specs.Table.{InitiateBcRetransmission, ReleaseBcFrame, CancelTimer, StartTimer, Alert, Initialise, TransmitUnlock, TransmitSetVr, TransmitBd}
 use Rattle.fop.specs.Table.{SetVs, SetNnr, SetK, SetT1Initial, SetTransmissionLimit, SetTimeoutType, AdOutReady, BcOutReady, BdOutReady}
-use Rattle.fop.specs.Variables.{Fop, Work, BcEntry, Preset}
+use Rattle.fop.specs.Variables.{Fop, Work, Preset}
 use Rattle.fop.specs.Machine.{fdus, firstMarked, acknowledged, unacknowledged, perform, performAll}
 use Rattle.fop.specs.Variables.{begin}
-use Rattle.fop.specs.Machine.{performCell, transmitAd, sendWaiting, sendNext, lookForFdu, purge, removeAcknowledged, denyBc, rejectWaiting, fopDo}
+use Rattle.fop.specs.Machine.{performCell, transmitAd, sendWaiting, sendNext, lookForFdu, purge, removeAcknowledged, fopDo}
+use Rattle.session.proofs.Ways.{look-ways, purge-ways}
 use Rattle.session.proofs.Core.{addAll}
 use Rattle.session.proofs.Lists.{addAll-append}
 use Rattle.session.proofs.Values.{Mode, live, dead, bad, Given, word, unit, nothing, WI, resent, sent-new, sent-bd, confirmed, queue-length, queue-at}
 use Rattle.session.proofs.Values.{run-places}
-use Rattle.session.proofs.Queue.{fdus-mark, fdus-unmark, fdus-append, found, ack, pickC}
+use Rattle.session.proofs.Queue.{fdus-mark, fdus-unmark, fdus-append, found, ack}
 use Rattle.session.proofs.Rows.{after, afterAll, modeOf, matched, sound, at-cell, cellOk, rowOk}
 
 module _ (n : ℕ) (P : Preset) (C : ℕ) (gone : List (Option ℕ)) (acc sent0 : List Fdu) (fr0 : List Frame) (given : Given) (a : ℕ) where
@@ -32,49 +32,30 @@ module _ (n : ℕ) (P : Preset) (C : ℕ) (gone : List (Option ℕ)) (acc sent0 
       (w .fop .nnr)
       (w .fop .preset) (w .value) (w .fop .waitQueue) (w .octets)
 
-  waiting-keeps : (o : Option (List ℕ)) (w : Work) → w .fop .waitQueue ≡ o → offset (w .fop .vs) (w .fop .nnr) < w .fop .preset .k → WInv live w
-      → WInv live (sendWaiting o w)
-  unfolding sendWaiting transmitAd
-  waiting-keeps none w e r h = h
-  waiting-keeps (some o) w e r h =
-      let u : Fdu = record { ns = w .fop .vs; octets = o } in
-      rw (
-        addAll-append n sent0 (w .frames) (AD u ∷ []),
-        ← append-assoc fr0 (w .frames) (AD u ∷ []),
-        fdus-append (w .fop .sentQueue) (record { fdu = u; marked = false } ∷ []),
-      )
-      (sent-new n P C gone acc given a _ _ _ _ _ _ _ _ (w .value) (w .fop .waitQueue) (w .octets) h r u refl (rw e at (h .5)))
-
-  next-keeps : (o : Option Fdu) (w : Work) → firstMarked (w .fop .sentQueue) ≡ o → WInv live w → WInv live (sendNext o w)
-  unfolding sendNext
-  next-keeps none w e h =
-      pickC (WInv live) (ltb (offset (w .fop .vs) (w .fop .nnr)) (w .fop .preset .k))
-      (λ t. waiting-keeps (w .fop .waitQueue) w refl (ltb-true _ _ t) h) (λ t. h)
-  next-keeps (some u) w e h =
-      let i = found (w .fop .sentQueue) u e in
-      rw (addAll-append n sent0 (w .frames) (AD u ∷ []), ← append-assoc fr0 (w .frames) (AD u ∷ []), fdus-unmark (w .fop .sentQueue))
-      (resent n P C gone acc given a _ _ _ _ _ _ _ _ (w .value) (w .fop .waitQueue) (w .octets) h u (i .0) (i .1) (i .2))
-
   look-keeps : (w : Work) → WInv live w → WInv live (lookForFdu w)
-  unfolding lookForFdu
-  look-keeps w h = pickC (WInv live) (w .fop .out .ad) (λ t. next-keeps (firstMarked (w .fop .sentQueue)) w refl h) (λ t. h)
+  unfolding sendNext sendWaiting transmitAd
+  look-keeps w h = look-ways (WInv live) w h again new
+    where
+      again : (u : Fdu) → firstMarked (w .fop .sentQueue) ≡ some u → WInv live (sendNext (some u) w)
+      again u e =
+          let i = found (w .fop .sentQueue) u e in
+          rw (addAll-append n sent0 (w .frames) (AD u ∷ []), ← append-assoc fr0 (w .frames) (AD u ∷ []), fdus-unmark (w .fop .sentQueue))
+          (resent n P C gone acc given a _ _ _ _ _ _ _ _ (w .value) (w .fop .waitQueue) (w .octets) h u (i .0) (i .1) (i .2))
 
-  reject-keeps : (o : Option (List ℕ)) (m : Mode) (w : Work) → WInv m w → WInv m (rejectWaiting o w)
-  unfolding rejectWaiting
-  reject-keeps none m w h = h
-  reject-keeps (some o) m w h = h
-
-  deny-keeps : (o : Option BcEntry) (m : Mode) (w : Work) → WInv m w → WInv m (denyBc o w)
-  unfolding denyBc
-  deny-keeps none m w h = h
-  deny-keeps (some o) m w h = h
+      new : (o : List ℕ) → offset (w .fop .vs) (w .fop .nnr) < w .fop .preset .k → w .fop .waitQueue ≡ some o → WInv live (sendWaiting (some o) w)
+      new o r e =
+          let u : Fdu = record { ns = w .fop .vs; octets = o } in
+          rw (
+            addAll-append n sent0 (w .frames) (AD u ∷ []),
+            ← append-assoc fr0 (w .frames) (AD u ∷ []),
+            fdus-append (w .fop .sentQueue) (record { fdu = u; marked = false } ∷ []),
+          )
+          (sent-new n P C gone acc given a _ _ _ _ _ _ _ _ (w .value) (w .fop .waitQueue) (w .octets) h r u refl (rw e at (h .5)))
 
   purge-live : (w : Work) → WInv live w → WInv dead (purge w)
-  unfolding purge
   purge-live w h =
-      let q : List Fdu = fdus (w .fop .sentQueue) in
       let c : w .confirmed ++ (fdus (w .fop .sentQueue) ++ []) ≡ drop C (addAll n sent0 (w .frames)) = rw (append-nil (fdus (w .fop .sentQueue))) (h .1 .cut) in
-      reject-keeps (w .fop .waitQueue) dead _ (deny-keeps (w .fop .bcFrame) dead _ (
+      purge-ways (WInv dead) w (
         h .0,
         record {
           after = fdus (w .fop .sentQueue);
@@ -86,19 +67,18 @@ module _ (n : ℕ) (P : Preset) (C : ℕ) (gone : List (Option ℕ)) (acc sent0 
         h .3,
         h .4,
         tt,
-      ))
+      ) (λ r v k. k)
 
   purge-dead : (w : Work) → WInv dead w → WInv dead (purge w)
-  unfolding purge
   purge-dead w h =
-      reject-keeps (w .fop .waitQueue) dead _ (deny-keeps (w .fop .bcFrame) dead _ (
+      purge-ways (WInv dead) w (
         h .0,
         record { after = h .1 .after; cut = h .1 .cut; empty = refl; denied = rw (h .1 .empty, append-nil (w .denied)) (h .1 .denied) },
         h .2,
         h .3,
         h .4,
         tt,
-      ))
+      ) (λ r v k. k)
 
 module _ (n : ℕ) (P : Preset) (C : ℕ) (gone : List (Option ℕ)) (acc sent0 : List Fdu) (fr0 : List Frame) where
   -- what is acknowledged, of a sender in service
@@ -106,7 +86,6 @@ module _ (n : ℕ) (P : Preset) (C : ℕ) (gone : List (Option ℕ)) (acc sent0 
       → (acknowledged (w .fop .nnr) (w .value) (w .fop .sentQueue) ≡ take (offset (w .value) (w .fop .nnr)) (fdus (w .fop .sentQueue)))
       × (fdus (unacknowledged (w .fop .nnr) (w .value) (w .fop .sentQueue)) ≡ drop (offset (w .value) (w .fop .nnr)) (fdus (w .fop .sentQueue)))
   acks a w h =
-      let s : List Fdu = addAll n sent0 (w .frames) in
       let ln = queue-length C (addAll n sent0 (w .frames)) (w .confirmed) (fdus (w .fop .sentQueue)) (h .1 .cut) in
       let z : offset (w .value) (w .fop .nnr) - 0 ≡ offset (w .value) (w .fop .nnr) = omega arith in
       rw z at (ack n (C + length (w .confirmed)) (w .fop .nnr) (w .value) (h .1 .isNn) (w .fop .sentQueue) 0

@@ -1,7 +1,8 @@
--- Of the table machines: what is sent, confirmed, outstanding and denied, and the states.
+-- Of the table machines: what is sent, confirmed, outstanding and denied, and the states. In service the queue is what is not confirmed, and
+-- nothing is denied; out of service all that is not confirmed is denied. So at most K are outstanding.
 use mathlib.Core.Logic.{_⊎_, inl, inr}
 use mathlib.Core.Path.{_≡_, refl, sym, ap, _∙_, subst}
-use mathlib.Core.Bool.{true, false, true≢false, false≢true}
+use mathlib.Core.Bool.{true, false, true≢false}
 use mathlib.Core.List.{List, [], _++_, map, append-nil}
 use mathlib.Core.Option.{Option, some}
 use Prim.Native.Nat.{ℕ, _+_, _-_, _≤_}
@@ -16,11 +17,11 @@ use Rattle.session.specs.Claims.{unitsAt, outstanding, remaining, Buffer
 use Rattle.session.specs.Stronger.{unitsOf, somes, inService}
 use Rattle.session.proofs.Core.{Session}
 use Rattle.session.proofs.Lists.{iota, iota-append, length-nums, somes-nums, units-iota, unitsOf-nums, left-none}
-use Rattle.session.proofs.Values.{Live, Dead}
+use Rattle.session.proofs.Values.{Dead}
 use Rattle.session.proofs.Rows.{modeOf}
 use Rattle.session.proofs.Inv.{Inv, Side, isLocked}
 use Rattle.session.proofs.Buffers.{Full}
-use Rattle.session.proofs.Next.{historyOf, out-is}
+use Rattle.session.proofs.Next.{historyOf, lv, out-is}
 use Rattle.farm.specs.declared.State.{State as FarmState}
 use Rattle.farm.specs.declared.State.the-variants.{Open, Wait, Lockout}
 
@@ -34,17 +35,7 @@ module _ (set : Settings) (κ : Session) (I : Inv set κ) where
   low : length (κ .confirmed) ≤ length (κ .sent)
   low = omega (arith, I .base)
 
-  -- in service, or out of it
-  pub serving : (s : State) → Side (modeOf s) (set .n) (length (κ .confirmed)) (κ .sent) (κ .denied) (fdus (κ .fop .sentQueue)) (κ .fop .vs)
-      (κ .fop .nnr) → inService s ≡ true
-      → Live (set .n) (length (κ .confirmed)) (κ .denied) (κ .sent) [] [] (fdus (κ .fop .sentQueue)) (κ .fop .vs) (κ .fop .nnr)
-  serving S1 h e = h
-  serving S2 h e = h
-  serving S3 h e = h
-  serving S4 h e = absurd h
-  serving S5 h e = absurd h
-  serving S6 h e = absurd (false≢true e)
-
+  -- out of service
   pub fell : (s : State) → Side (modeOf s) (set .n) (length (κ .confirmed)) (κ .sent) (κ .denied) (fdus (κ .fop .sentQueue)) (κ .fop .vs) (κ .fop .nnr) → s ≡ S6
       → κ .denied ≡ iota (length (κ .confirmed)) (length (κ .sent) - length (κ .confirmed))
   fell s h e =
@@ -64,38 +55,6 @@ module _ (set : Settings) (κ : Session) (I : Inv set κ) where
       ∙ iota-append 0 (length (κ .confirmed)) (length (κ .sent) - length (κ .confirmed)) ∙ ap (iota 0) z in
       ap (unitsAt (κ .sent)) e ∙ units-iota (κ .sent) 0 (length (κ .sent)) (omega arith) ∙ ap (map some) (take-length (κ .sent))
 
-  pub at-most : (s : State) → κ .fop .state ≡ s → length (outstanding (historyOf κ)) ≤ set .k
-  unfolding outstanding
-  at-most S1 e = let l = serving (κ .fop .state) (I .side) (rw e) in omega (arith, ap length (out-is set κ I (l .fresh)), length-nums C (S - C), I .base)
-  at-most S2 e = let l = serving (κ .fop .state) (I .side) (rw e) in omega (arith, ap length (out-is set κ I (l .fresh)), length-nums C (S - C), I .base)
-  at-most S3 e = let l = serving (κ .fop .state) (I .side) (rw e) in omega (arith, ap length (out-is set κ I (l .fresh)), length-nums C (S - C), I .base)
-  at-most S4 e = absurd (subst (λ (x : State). Side (modeOf x) (set .n) C (κ .sent) (κ .denied) (fdus (κ .fop .sentQueue)) (κ .fop .vs) (κ .fop .nnr))
-      e (I .side))
-  at-most S5 e = absurd (subst (λ (x : State). Side (modeOf x) (set .n) C (κ .sent) (κ .denied) (fdus (κ .fop .sentQueue)) (κ .fop .vs) (κ .fop .nnr))
-      e (I .side))
-  at-most S6 e =
-      let d = fell (κ .fop .state) (I .side) e in
-      let l = low in
-      let z : remaining (κ .confirmed) (κ .denied) 0 (length (κ .sent)) ≡ [] =
-      ap (λ (x : List (Option ℕ)). remaining x (κ .denied) 0 (length (κ .sent))) (I .places)
-      ∙ ap (λ (x : List (Option ℕ)). remaining (iota 0 C) x 0 (length (κ .sent))) d
-      ∙ left-none (length (κ .confirmed)) (length (κ .sent) - length (κ .confirmed)) 0 (length (κ .sent)) (omega arith) in
-      omega (arith, ap length z)
-
-  pub standing : inService (κ .fop .state) ≡ true → unitsAt (κ .sent) (κ .confirmed ++ somes (outstanding (historyOf κ))) ≡ map some (κ .sent)
-  standing e =
-      let l = serving (κ .fop .state) (I .side) e in
-      ap (λ (x : List (Option ℕ)). unitsAt (κ .sent) (κ .confirmed ++ x)) (ap somes (out-is set κ I (l .fresh)) ∙ somes-nums C (S - C)) ∙ all-units
-
-  pub queued : inService (κ .fop .state) ≡ true → fdus (κ .fop .sentQueue) ≡ unitsOf (κ .sent) (outstanding (historyOf κ))
-  queued e =
-      let l = serving (κ .fop .state) (I .side) e in
-      let lo = low in
-      l .cut ∙ sym (take-all (length (κ .sent) - length (κ .confirmed)) (drop (length (κ .confirmed)) (κ .sent))
-      (omega (arith, length-drop (length (κ .confirmed)) (κ .sent))))
-      ∙ sym (unitsOf-nums (κ .sent) (length (κ .confirmed)) (length (κ .sent) - length (κ .confirmed)) (omega arith))
-      ∙ ap (unitsOf (κ .sent)) (sym (out-is set κ I (l .fresh)))
-
   pub state-is : (s : State) → Side (modeOf s) (set .n) (length (κ .confirmed)) (κ .sent) (κ .denied) (fdus (κ .fop .sentQueue)) (κ .fop .vs) (κ .fop .nnr)
       → (inService s ≡ true) ⊎ (s ≡ S6)
   state-is S1 h = inl refl
@@ -104,6 +63,32 @@ module _ (set : Settings) (κ : Session) (I : Inv set κ) where
   state-is S4 h = absurd h
   state-is S5 h = absurd h
   state-is S6 h = inr refl
+
+  pub at-most : length (outstanding (historyOf κ)) ≤ set .k
+  unfolding outstanding
+  at-most = by (state-is (κ .fop .state) (I .side))
+    where
+      by : (inService (κ .fop .state) ≡ true) ⊎ (κ .fop .state ≡ S6) → length (outstanding (historyOf κ)) ≤ set .k
+      by (inl e) = omega (arith, ap length (out-is set κ I (lv set κ I e .fresh)), length-nums C (S - C), I .base)
+      by (inr e) =
+          let z : remaining (κ .confirmed) (κ .denied) 0 S ≡ [] =
+          ap (λ (x : List (Option ℕ)). remaining x (κ .denied) 0 S) (I .places)
+          ∙ ap (λ (x : List (Option ℕ)). remaining (iota 0 C) x 0 S) (fell (κ .fop .state) (I .side) e) ∙ left-none C (S - C) 0 S (omega (arith, low)) in
+          omega (arith, ap length z)
+
+  pub standing : inService (κ .fop .state) ≡ true → unitsAt (κ .sent) (κ .confirmed ++ somes (outstanding (historyOf κ))) ≡ map some (κ .sent)
+  standing e =
+      let l = lv set κ I e in
+      ap (λ (x : List (Option ℕ)). unitsAt (κ .sent) (κ .confirmed ++ x)) (ap somes (out-is set κ I (l .fresh)) ∙ somes-nums C (S - C)) ∙ all-units
+
+  pub queued : inService (κ .fop .state) ≡ true → fdus (κ .fop .sentQueue) ≡ unitsOf (κ .sent) (outstanding (historyOf κ))
+  queued e =
+      let l = lv set κ I e in
+      let lo = low in
+      l .cut ∙ sym (take-all (length (κ .sent) - length (κ .confirmed)) (drop (length (κ .confirmed)) (κ .sent))
+      (omega (arith, length-drop (length (κ .confirmed)) (κ .sent))))
+      ∙ sym (unitsOf-nums (κ .sent) (length (κ .confirmed)) (length (κ .sent) - length (κ .confirmed)) (omega arith))
+      ∙ ap (unitsOf (κ .sent)) (sym (out-is set κ I (l .fresh)))
 
   pub opens : (s : FarmState) → isLocked s ≡ false → Full s (length (κ .accepted)) (set .buffers + κ .released) → BufferFree set (historyOf κ) → s ≡ Open
   opens Open l f b = refl

@@ -1,22 +1,22 @@
--- The stronger claims.
+-- The stronger claims of all tied ends. What an event of the session hands down is a unit sent and not confirmed (Handed), by an event that
+-- leaves the sender serving (Shut); a word makes the count confirmed exact (Exact); alerts, refusals and words are in Answered, what is
+-- outstanding in Standing. Each is said of the tables' session and carried to the ends' by Link.
 use mathlib.Core.Logic.{_⊎_, inl, inr}
-use mathlib.Core.Path.{_≡_, refl, sym, ap, _∙_, subst}
-use mathlib.Core.Bool.{Bool, true, false}
+use mathlib.Core.Path.{_≡_, sym, ap, _∙_, subst}
+use mathlib.Core.Bool.{true}
 use mathlib.Core.List.{List, [], _∷_, _++_, map, map-append}
 use mathlib.Core.Option.{Option, none, some}
-use Prim.Native.Nat.{ℕ, _+_, _-_, _%_, _≤_, _<_}
+use Prim.Native.Nat.{ℕ, _+_, _%_, _≤_, _<_}
 use native.Mathlib.Omega.{arith}
-use lib.Dec.{ltb, eqb}
 use lib.ListN.{length, getD}
-use Rattle.base.specs.Choice.{pick}
 use Rattle.base.specs.Modulo.{advanced}
 use Rattle.fop.specs.Units.{Fdu, Frame, AD, BD, Word, valid, written, wordOctets, readWord}
 use Rattle.fop.specs.Table.{State, S6, FopEvent}
-use Rattle.fop.specs.Variables.{setClock, begin, Fop, Work}
+use Rattle.fop.specs.Variables.{Fop, Work}
 use Rattle.fop.specs.Machine.{fdus}
-use Rattle.fop.specs.Events.{fopTick, fopExpiry, first, when, fopAd, fopBd, fopLower, fopDirective, directiveEvent, isEmpty, lowerEvent, wordEvent, seen}
+use Rattle.fop.specs.Events.{fopTick, first, when, fopAd, fopBd, fopLower, fopDirective, directiveEvent, isEmpty, lowerEvent, wordEvent, seen}
 use Rattle.fop.specs.Events.{fopWord, SenderEvent, requestAd, requestBd, lower, directive, wordArrives, work}
-use Rattle.fop.specs.Answers.{octetsDown, Answer, judged, needed, senderRefusal, senderAnswer, refused}
+use Rattle.fop.specs.Answers.{octetsDown, Answer, judged, needed, senderAnswer}
 use Rattle.session.specs.Frames.{read}
 use Rattle.session.specs.Ends.{Settings, Within, Ends, Tied, tables}
 use Rattle.session.specs.Session.{Linked, History, Event, adRequest, bdRequest, wordIn, frameIn, begins, run, nobody}
@@ -24,36 +24,38 @@ use Rattle.session.specs.Claims.{unitsAt, outstanding, expected, IsOutst
 use Rattle.session.specs.Stronger.{unitsOf, somes, inService, InSession, Stronger, Sub}
 use Rattle.fop.specs.Events as fop
 use Rattle.session.specs.Session as ses
-use Rattle.session.proofs.Rows.{modeOf, word-ok, timer-ok, ad-ok, bd-ok, lower-ok, terminate-ok}
-use Rattle.session.proofs.Inv.{Inv, hears, pickW, withFop, timed, fit, legal-of, ad-keeps, bd-keeps, ticks-keeps, lower-keeps, terminate-keeps}
-use Rattle.session.proofs.Inv.{word-keeps, alerting}
+use Rattle.session.proofs.Test.{lowered, tick-ways}
+use Rattle.session.proofs.Rows.{modeOf, rowOk, word-ok, timer-ok, ad-ok, bd-ok, lower-ok, terminate-ok}
+use Rattle.session.proofs.Inv.{Inv, withFop, timed, fit, legal-of, ad-keeps, bd-keeps, ticks-keeps, lower-keeps, terminate-keeps}
+use Rattle.session.proofs.Inv.{word-keeps, alerting, in-mode}
 use Rattle.session.proofs.Core.{Session, goes, addAll}
-use Rattle.session.proofs.Chan.{Wds, wds-le}
+use Rattle.session.proofs.Chan.{wds-le}
 use Rattle.session.proofs.Values.{word, unit, nothing}
 use Rattle.session.proofs.Bds.{bd-part}
-use Rattle.session.proofs.Receiver.{step-keeps, begun, start-inv, at}
-use Rattle.session.proofs.Next.{historyOf}
+use Rattle.session.proofs.Receiver.{at}
+use Rattle.session.proofs.Next.{historyOf, lv, word-step}
 use Rattle.session.proofs.Arrive.{expedites, accepts-bd}
-use Rattle.session.proofs.Asks.{responds, starts, asks, word-step}
-use Rattle.session.proofs.Link.{Rel, reads-of, at-start, same-step, tables-tied, reads, fly-reads, Reads}
+use Rattle.session.proofs.Asks.{responds, starts, asks}
+use Rattle.session.proofs.Link.{Rel, reads-of, same-step, tables-tied, reads, fly-reads, Reads}
 use Rattle.session.proofs.Few.{work-few}
 use Rattle.session.proofs.Handed.{From, row-from, is-handed}
 use Rattle.session.proofs.Keys.{Tidy}
 use Rattle.session.proofs.Tidy.{step-tidy, start-tidy}
-use Rattle.session.proofs.Theorem.{oldest-word, oldest-frame, either}
-use Rattle.session.proofs.Standing.{serving, fell, all-units, at-most, standing, queued, state-is, opens}
+use Rattle.session.proofs.Theorem.{oldest-frame, word-comes, either, from-start}
+use Rattle.session.proofs.Standing.{fell, all-units, at-most, standing, queued, state-is, opens}
 use Rattle.session.proofs.Shut.{NoAd, Shut, ad-shut, bd-shut, tick-shut, lower-shut, terminate-shut, word-shut}
 use Rattle.session.proofs.Exact.{exact}
 use Rattle.session.proofs.Clear.{length-places}
 use Rattle.session.proofs.Core as core
-use Rattle.fop.specs.Answers as ans
-use Rattle.fop.specs.Events.{expiryLines}
 use Rattle.farm.specs.declared.Receiver.{Receiver}
 use Rattle.session.specs.Receiver.{releaseBuffer}
 use Rattle.fop.specs.Units.{readWord, valid}
 use lib.ListN.{length-append}
 use Rattle.session.specs.Claims.{serves}
 use Rattle.session.proofs.Answered as A
+
+none-some : {o : List ℕ} → none ≡ some o → ⊥
+none-some e = let z : _≡_ {A = ℕ} 0 1 = cc in omega arith
 
 module _ (set : Settings) (vw : Within set) (m : Ends) (t : Tied set m) (σ : Linked m) (γ : Linked (tables set)) (κ : Session)
     (R : Rel set vw m t σ κ) (G : Rel set vw (tables set) (tables-tied set) γ κ) (I : Inv set κ) (Q : Tidy (set .n) κ) where
@@ -66,25 +68,18 @@ module _ (set : Settings) (vw : Within set) (m : Ends) (t : Tied set m) (σ : Li
   answer-is : (e : SenderEvent) (lent : ℕ) → m .answer e lent (σ .sender) ≡ senderAnswer (set .own) e lent (κ .fop)
   answer-is = A.answer-is set vw m t σ γ κ R G I Q
 
-  -- what an event of the session hands down reads back, and is a unit sent, not confirmed
-  tick-from : From (modeOf (κ .fop .state)) (length (κ .confirmed)) (addAll (set .n) (κ .sent) ((fopTick (κ .fop)) .frames)) ((fopTick (κ .fop)) .frames)
-  unfolding fopTick fopExpiry
-  tick-from =
-      let τ : Session = withFop (setClock (κ .fop .clock .timer - 1) (κ .fop .clock .transmissionCount) (κ .fop)) κ in
-      pickW (λ (w : Work). From (modeOf (κ .fop .state)) (length (κ .confirmed)) (addAll (set .n) (κ .sent) (w .frames)) (w .frames))
-      (eqb (κ .fop .clock .timer) 1)
-      {x = fopExpiry (τ .fop)} {y = begin none [] 0 (τ .fop)}
-      (row-from set τ (timed set _ _ κ I) nothing (length (κ .confirmed))
-      (first (expiryLines (ltb (κ .fop .clock .transmissionCount) (κ .fop .preset .transmissionLimit)) (eqb (κ .fop .preset .timeoutType) 0))
-      FopEvent.E18) [] 0
-      (timer-ok (ltb (κ .fop .clock .transmissionCount) (κ .fop .preset .transmissionLimit)) (eqb (κ .fop .preset .timeoutType) 0) (alerting set κ I))
-      (omega arith) tt)
-      tt
+  -- each AD frame of the list is a unit sent, not confirmed
+  abbrev SentFrom : List Frame → Type 0
+  SentFrom fr = From (modeOf (κ .fop .state)) (length (κ .confirmed)) (addAll (set .n) (κ .sent) fr) fr
 
+  tick-from : SentFrom ((fopTick (κ .fop)) .frames)
+  tick-from =
+      tick-ways (rowOk nothing) timer-ok (λ w. SentFrom (w .frames)) (κ .fop) (alerting set κ I)
+      (λ e t. row-from set (withFop (lowered (κ .fop)) κ) (timed set _ _ κ I) nothing (length (κ .confirmed)) e [] 0 t (omega arith) tt) tt
+
+  -- what an event of the session hands down reads back, and is such a list
   abbrev Given-by : SenderEvent → Type 0
-  Given-by e = Reads ((work (set .own) e (κ .fop)) .frames)
-      × From (modeOf (κ .fop .state)) (length (κ .confirmed)) (addAll (set .n) (κ .sent) ((work (set .own) e (κ .fop)) .frames))
-      ((work (set .own) e (κ .fop)) .frames)
+  Given-by e = Reads ((work (set .own) e (κ .fop)) .frames) × SentFrom ((work (set .own) e (κ .fop)) .frames)
 
   given-by : (e : SenderEvent) (lent : ℕ) → InSession (σ .words) e → goes (set .own) e lent (κ .fop) ≡ true → Given-by e
   unfolding work judged fopAd fopBd fopLower fopDirective directiveEvent fopWord core.wordCome core.channels
@@ -113,83 +108,64 @@ module _ (set : Settings) (vw : Within set) (m : Ends) (t : Tied set m) (σ : Li
             terminate-ok (omega arith) tt,
       ))
   given-by (wordArrives s) lent h g =
-      let l = oldest-word set vw _ _ (κ .words) s (h .0) (I .words) (sym (h .1) ∙ R .words) in
-      let wd : Wds (set .n) (length (κ .confirmed)) (length (κ .accepted)) (l .0 ∷ l .1) = rw (l .2) at (I .words) in
+      let l = A.oldest-heard set vw m t σ γ κ R G I Q s (h .0) (h .1) in
+      let wd = l .4 in
       let g' : goes (set .own) (wordArrives (wordOctets (set .own) (l .0))) lent (κ .fop)
-      ≡ true = subst (λ (x : List ℕ). goes (set .own) (wordArrives x) lent (κ .fop) ≡ true) (l .3) g in
-      subst (λ (x : List ℕ). Given-by (wordArrives x)) (sym (l .3)) (
-        reads-of set (wordArrives (wordOctets (set .own) (l .0))) lent (core.channels (κ .frames) (l .1) κ) g' (word-keeps set vw lent κ (l .0 ∷ l .1) I wd),
-        subst (λ (w : Work). From (modeOf (κ .fop .state)) (length (κ .confirmed)) (addAll (set .n) (κ .sent) (w .frames)) (w .frames))
-            (sym (hears set vw (l .0) (κ .fop) (wd .3) (omega (arith, wd .1))))
+      ≡ true = subst (λ (x : List ℕ). goes (set .own) (wordArrives x) lent (κ .fop) ≡ true) (l .3) g in (
+        subst (λ (x : List ℕ). Reads ((work (set .own) (wordArrives x) (κ .fop)) .frames)) (sym (l .3))
+            (reads-of set (wordArrives (wordOctets (set .own) (l .0))) lent (core.channels (κ .frames) (l .1) κ) g' (word-keeps set vw lent κ (l .0 ∷ l .1) I wd)),
+        subst (λ (w : Work). SentFrom (w .frames)) (sym (l .5))
             (row-from set κ I word (wd .0) (wordEvent (seen (l .0) (κ .fop))) [] ((l .0) .nr) (word-ok (seen (l .0) (κ .fop))) (wd .2)
             (wd .1, wds-le (set .n) (wd .0) _ (l .1) (wd .4))),
       )
 
-  one-handed : (fr : List Frame) (o : List ℕ) (u : Fdu) → length fr ≤ 1 → Reads fr
-      → From (modeOf (κ .fop .state)) (length (κ .confirmed)) (addAll (set .n) (κ .sent) fr) fr → octetsDown (set .own) fr ≡ some o → read (set .own) o ≡ AD u
-      → (u .ns ≡ advanced (set .n) (length (κ .sent))) ⊎ ((i : ℕ) × IsOutstanding (historyOf κ) i × (u ≡ getD (κ .sent) i nobody))
-  one-handed [] o u l r f e q = let z : _≡_ {A = ℕ} 0 1 = cc in absurd (omega arith)
-  one-handed (x ∷ []) o u l r f e q =
+  -- the next new unit, or an outstanding one
+  abbrev Handed : Fdu → Type 0
+  Handed u = (u .ns ≡ advanced (set .n) (length (κ .sent))) ⊎ ((i : ℕ) × IsOutstanding (historyOf κ) i × (u ≡ getD (κ .sent) i nobody))
+
+  -- the frame whose octets are read as the AD unit u is u's, and the only one
+  down-is : (fr : List Frame) (o : List ℕ) (u : Fdu) → length fr ≤ 1 → Reads fr → octetsDown (set .own) fr ≡ some o → read (set .own) o ≡ AD u
+      → fr ≡ AD u ∷ []
+  down-is [] o u l r e q = absurd (none-some e)
+  down-is (x ∷ []) o u l r e q =
       let a : written (set .own) x ≡ o = cc in
-      let b : x ≡ AD u = sym (reads set vw x (r .0)) ∙ ap (read (set .own)) a ∙ q in
-      is-handed set κ I u (subst (λ (y : Frame). From (modeOf (κ .fop .state)) (length (κ .confirmed)) (addAll (set .n) (κ .sent) (y ∷ [])) (y ∷ [])) b f)
-  one-handed (x ∷ y ∷ fr) o u l r f e q = absurd (omega arith)
+      ap (λ (y : Frame). y ∷ []) (sym (reads set vw x (r .0)) ∙ ap (read (set .own)) a ∙ q)
+  down-is (x ∷ y ∷ fr) o u l r e q = absurd (omega arith)
 
   handed : (e : SenderEvent) (lent : ℕ) → InSession (σ .words) e → (o : List ℕ) (u : Fdu)
       → (m .answer e lent (σ .sender)) .down ≡ some o → read (set .own) o ≡ AD u
-      → (u .ns ≡ advanced (set .n) (length (κ .sent))) ⊎ ((i : ℕ) × IsOutstanding (historyOf κ) i × (u ≡ getD (κ .sent) i nobody))
-  unfolding senderAnswer
-  handed e lent h o u d q = go (goes (set .own) e lent (κ .fop)) refl (ap (λ (a : Answer). a .down) (sym (answer-is e lent)) ∙ d)
-    where
-      go : (b : Bool) → goes (set .own) e lent (κ .fop) ≡ b
-          → (pick b (ans.answered (set .own) (work (set .own) e (κ .fop))) (refused (senderRefusal (set .own) e lent (κ .fop)) (κ .fop))) .down ≡ some o
-          → (u .ns ≡ advanced (set .n) (length (κ .sent))) ⊎ ((i : ℕ) × IsOutstanding (historyOf κ) i × (u ≡ getD (κ .sent) i nobody))
-      go true g x =
-          let k = given-by e lent h g in
-          one-handed ((work (set .own) e (κ .fop)) .frames) o u (work-few (set .own) e (κ .fop)) (k .0) (k .1) x q
-      go false g x = let z : _≡_ {A = ℕ} 0 1 = cc in absurd (omega arith)
+      → Handed u
+  handed e lent h o u d q =
+      A.answer-ways set vw m t σ γ κ R G I Q (λ a. a .down ≡ some o → Handed u) e lent
+      (λ g x. let k = given-by e lent h g in
+      is-handed set κ I u (subst SentFrom (down-is ((work (set .own) e (κ .fop)) .frames) o u (work-few (set .own) e (κ .fop)) (k .0) x q) (k .1)))
+      (λ x. absurd (none-some x)) d
 
   -- only an event that leaves the sender active or resending without wait hands an AD frame down
   shut-work : (e : SenderEvent) → InSession (σ .words) e → Shut (work (set .own) e (κ .fop))
   unfolding work
-  shut-work (requestAd o) h = ad-shut (κ .fop) (A.in-mode set vw m t σ γ κ R G I Q) o
-  shut-work (requestBd o) h = bd-shut (κ .fop) (A.in-mode set vw m t σ γ κ R G I Q) o
-  shut-work fop.tick h = tick-shut (κ .fop) (A.in-mode set vw m t σ γ κ R G I Q) (alerting set κ I)
-  shut-work (lower l) h = lower-shut (κ .fop) (A.in-mode set vw m t σ γ κ R G I Q) l
+  shut-work (requestAd o) h = ad-shut (κ .fop) (in-mode set κ I) o
+  shut-work (requestBd o) h = bd-shut (κ .fop) (in-mode set κ I) o
+  shut-work fop.tick h = tick-shut (κ .fop) (in-mode set κ I) (alerting set κ I)
+  shut-work (lower l) h = lower-shut (κ .fop) (in-mode set κ I) l
   shut-work (directive d v) h =
       subst (λ (x : ℕ). Shut (fopDirective x v (κ .fop))) (sym (h .0))
-      (subst (λ (x : ℕ). Shut (fopDirective 5 x (κ .fop))) (sym (h .1)) (terminate-shut (κ .fop) (A.in-mode set vw m t σ γ κ R G I Q)))
+      (subst (λ (x : ℕ). Shut (fopDirective 5 x (κ .fop))) (sym (h .1)) (terminate-shut (κ .fop) (in-mode set κ I)))
   shut-work (wordArrives s) h =
-      let l = oldest-word set vw _ _ (κ .words) s (h .0) (I .words) (sym (h .1) ∙ R .words) in
-      let wd : Wds (set .n) (length (κ .confirmed)) (length (κ .accepted)) (l .0 ∷ l .1) = rw (l .2) at (I .words) in
-      subst (λ (x : List ℕ). Shut (work (set .own) (wordArrives x) (κ .fop))) (sym (l .3))
-      (subst Shut (sym (hears set vw (l .0) (κ .fop) (wd .3) (omega (arith, wd .1)))) (word-shut (κ .fop) (A.in-mode set vw m t σ γ κ R G I Q) (l .0)))
-
-  not-ad : (fr : List Frame) (o : List ℕ) (u : Fdu) → length fr ≤ 1 → Reads fr → NoAd fr → octetsDown (set .own) fr ≡ some o → read (set .own) o ≡ AD u → ⊥
-  not-ad [] o u l r h e q = let z : _≡_ {A = ℕ} 0 1 = cc in omega arith
-  not-ad (x ∷ []) o u l r h e q =
-      let a : written (set .own) x ≡ o = cc in
-      let b : x ≡ AD u = sym (reads set vw x (r .0)) ∙ ap (read (set .own)) a ∙ q in
-      subst (λ (y : Frame). NoAd (y ∷ [])) b h
-  not-ad (x ∷ y ∷ fr) o u l r h e q = omega arith
+      let l = A.oldest-heard set vw m t σ γ κ R G I Q s (h .0) (h .1) in
+      subst Shut (sym (l .5)) (word-shut (κ .fop) (in-mode set κ I) (l .0))
 
   shut : (e : SenderEvent) (lent : ℕ) → InSession (σ .words) e → (o : List ℕ) (u : Fdu)
       → (m .answer e lent (σ .sender)) .down ≡ some o → read (set .own) o ≡ AD u → serves ((m .answer e lent (σ .sender)) .state) ≡ true
-  unfolding senderAnswer
   shut e lent h o u d q =
-      ap (λ (a : Answer). serves (a .state)) (answer-is e lent)
-      ∙ go (goes (set .own) e lent (κ .fop)) refl (ap (λ (a : Answer). a .down) (sym (answer-is e lent)) ∙ d)
+      A.answer-ways set vw m t σ γ κ R G I Q (λ a. a .down ≡ some o → serves (a .state) ≡ true) e lent (λ g x. by-shut (shut-work e h) g x)
+      (λ x. absurd (none-some x)) d
     where
       by-shut : Shut (work (set .own) e (κ .fop)) → goes (set .own) e lent (κ .fop) ≡ true
           → octetsDown (set .own) ((work (set .own) e (κ .fop)) .frames) ≡ some o → serves ((work (set .own) e (κ .fop)) .fop .state) ≡ true
-      by-shut (inl n) g x = absurd (not-ad ((work (set .own) e (κ .fop)) .frames) o u (work-few (set .own) e (κ .fop)) (given-by e lent h g .0) n x q)
+      by-shut (inl n) g x =
+          absurd (subst NoAd (down-is ((work (set .own) e (κ .fop)) .frames) o u (work-few (set .own) e (κ .fop)) (given-by e lent h g .0) x q) n)
       by-shut (inr k) g x = k
-
-      go : (b : Bool) → goes (set .own) e lent (κ .fop) ≡ b
-          → (pick b (ans.answered (set .own) (work (set .own) e (κ .fop))) (refused (senderRefusal (set .own) e lent (κ .fop)) (κ .fop))) .down ≡ some o
-          → serves ((pick b (ans.answered (set .own) (work (set .own) e (κ .fop))) (refused (senderRefusal (set .own) e lent (κ .fop)) (κ .fop))) .state) ≡ true
-      go true g x = by-shut (shut-work e h) g x
-      go false g x = let z : _≡_ {A = ℕ} 0 1 = cc in absurd (omega arith)
 
   -- a word makes the count confirmed what it reports
   exactly : (s : List ℕ) (ws : List (List ℕ)) (w : Word) (lent : ℕ) → σ .words ≡ s ∷ ws → readWord (set .own) s ≡ valid w
@@ -197,28 +173,22 @@ module _ (set : Settings) (vw : Within set) (m : Ends) (t : Tied set m) (σ : Li
       → w .nr ≡ advanced (set .n) (length ((ses.step set m (wordIn lent) σ) .history .confirmed))
   unfolding core.answered core.channels
   exactly s ws w lent e q r sv =
-      let x = oldest-word set vw _ _ (κ .words) s ws (I .words) (sym e ∙ R .words) in
-      let same : x .0 ≡ w = cc (x .4, q) in
-      let kw : κ .words ≡ w ∷ x .1 = x .2 ∙ ap (λ (y : Word). y ∷ x .1) same in
-      let so : s ≡ wordOctets (set .own) w = x .3 ∙ ap (wordOctets (set .own)) same in
-      let r' : needed (set .own) (wordArrives (wordOctets (set .own) w)) (κ .fop) ≤ lent =
-      subst (λ (y : List ℕ). needed (set .own) (wordArrives y) (κ .fop) ≤ lent) so
-      (subst (λ (y : Fop). needed (set .own) (wordArrives s) y ≤ lent) (G .fop) r) in
+      let x = word-comes set vw m t σ γ κ R G I s ws w lent e q r in
       let c : length ((ses.step set m (wordIn lent) σ) .history .confirmed) ≡ length (κ .confirmed) + length ((fopWord w (κ .fop)) .confirmed) =
       ap (λ (h : History). length (h .confirmed)) (same-step set vw m t (wordIn lent) σ κ R I .history)
-      ∙ ap (λ (y : Session). length (y .confirmed)) (word-step set vw κ I w (x .1) 0 lent kw r')
+      ∙ ap (λ (y : Session). length (y .confirmed)) (word-step set vw κ I w (x .0) lent (x .1) (x .2))
       ∙ length-append (κ .confirmed) _ ∙ ap (λ (y : ℕ). length (κ .confirmed) + y) (length-places _ _ _) in
-      exact set κ I Q (ap inService (sym st-is) ∙ sv) w (x .1) kw ∙ ap (advanced (set .n)) (sym c)
+      exact set κ I Q (ap inService (sym st-is) ∙ sv) w (x .0) (x .1) ∙ ap (advanced (set .n)) (sym c)
 
-  pub stronger : Stronger set m σ γ
+  stronger : Stronger set m σ γ
   stronger =
       record {
-        atMostK = by (λ h. length (outstanding h) ≤ set .k) (at-most set κ I (κ .fop .state) refl);
+        atMostK = by (λ h. length (outstanding h) ≤ set .k) (at-most set κ I);
         standing = λ e. by (λ h. unitsAt (h .sent) (h .confirmed ++ somes (outstanding h)) ≡ map some (h .sent))
             (standing set κ I (ap inService (sym st-is) ∙ e));
         queue = λ e. ap (λ (f : Fop). fdus (f .sentQueue)) (G .fop) ∙ by (λ h. fdus (κ .fop .sentQueue) ≡ unitsOf (h .sent) (outstanding h))
             (queued set κ I (ap inService (sym st-is) ∙ e));
-        undenied = λ e. by (λ h. h .denied ≡ []) (serving set κ I (κ .fop .state) (I .side) (ap inService (sym st-is) ∙ e) .fresh);
+        undenied = λ e. by (λ h. h .denied ≡ []) (lv set κ I (ap inService (sym st-is) ∙ e) .fresh);
         fallen = λ e. by (λ h. unitsAt (h .sent) (h .confirmed ++ h .denied) ≡ map some (h .sent))
             (ap (λ (x : List (Option ℕ)). unitsAt (κ .sent) (κ .confirmed ++ x)) (fell set κ I (κ .fop .state) (I .side) (sym st-is ∙ e)) ∙ all-units set κ I);
         states = subst (λ (s : State). (inService s ≡ true) ⊎ (s ≡ S6)) (sym st-is) (state-is set κ I (κ .fop .state) (I .side));
@@ -231,17 +201,11 @@ module _ (set : Settings) (vw : Within set) (m : Ends) (t : Tied set m) (σ : Li
             ∙ starts set κ I o lent g (subst (λ (f : Fop). needed (set .own) (requestAd o) f ≤ lent) (G .fop) r) (rw (G .fop) at a) (rw (G .fop) at b)
             (rw (G .fop) at c) (rw (G .fop) at d) (rw (R .history) at k);
         asks = λ s ws w i lent e q r a k l b c d f o.
-            let x = oldest-word set vw _ _ (κ .words) s ws (I .words) (sym e ∙ R .words) in
-            let same : x .0 ≡ w = cc (x .4, q) in
-            let kw : κ .words ≡ w ∷ x .1 = x .2 ∙ ap (λ (y : Word). y ∷ x .1) same in
-            let so : s ≡ wordOctets (set .own) w = x .3 ∙ ap (wordOctets (set .own)) same in
-            let r' : needed (set .own) (wordArrives (wordOctets (set .own) w)) (κ .fop) ≤ lent =
-            subst (λ (y : List ℕ). needed (set .own) (wordArrives y) (κ .fop) ≤ lent) so
-            (subst (λ (y : Fop). needed (set .own) (wordArrives s) y ≤ lent) (G .fop) r) in
+            let x = word-comes set vw m t σ γ κ R G I s ws w lent e q r in
             by (λ h. Resends set (getD (h .sent) i nobody) σ (ses.step set m (wordIn lent) σ)
             ⊎ Marked (getD (h .sent) i nobody) ((ses.step set (tables set) (wordIn lent) γ) .sender))
             (either set vw m t σ γ κ R G I (wordIn lent) i
-            (asks set vw κ I w (x .1) i lent kw r' (rw (G .fop) at a) (rw (G .fop) at k) l b c d (rw (R .history) at f) (rw (R .history) at o)));
+            (asks set vw κ I w (x .0) i lent (x .1) (x .2) (rw (G .fop) at a) (rw (G .fop) at k) l b c d (rw (R .history) at f) (rw (R .history) at o)));
         handed = λ e lent h o u d q.
             by (λ y. (u .ns ≡ nextNumber set y) ⊎ ((i : ℕ) × IsOutstanding y i × (u ≡ getD (y .sent) i nobody))) (handed e lent h o u d q);
         shut = shut;
@@ -292,18 +256,9 @@ module _ (set : Settings) (vw : Within set) (m : Ends) (t : Tied set m) (σ : Li
             σ γ κ R G I Q);
       }
 
-pub together : (set : Settings) (vw : Within set) (m : Ends) (t : Tied set m) (es : List Event) (σ : Linked m) (γ : Linked (tables set)) (κ : Session)
-    → Rel set vw m t σ κ → Rel set vw (tables set) (tables-tied set) γ κ → Inv set κ → Tidy (set .n) κ
-    → Stronger set m (run set m es σ) (run set (tables set) es γ)
-unfolding run
-together set vw m t [] σ γ κ R G I Q = stronger set vw m t σ γ κ R G I Q
-together set vw m t (e ∷ es) σ γ κ R G I Q =
-    together set vw m t es (ses.step set m e σ) (ses.step set (tables set) e γ) (core.step set e κ) (same-step set vw m t e σ κ R I)
-    (same-step set vw (tables set) (tables-tied set) e γ κ G I) (step-keeps set vw e κ I) (step-tidy set vw e κ I Q)
-
 -- the stronger claims: after every list of events and at whatever event comes next
 pub stronger-claims : (set : Settings) → Within set → (m : Ends) → Tied set m → (es : List Event)
     → Stronger set m (run set m es (begins m)) (run set (tables set) es (begins (tables set)))
 stronger-claims set vw m t es =
-    together set vw m t es (begins m) (begins (tables set)) (begun set) (at-start set vw m t) (at-start set vw (tables set) (tables-tied set))
-    (start-inv set vw) (start-tidy set)
+    let k = from-start set vw m t (Tidy (set .n)) (step-tidy set vw) (start-tidy set) es in
+    stronger set vw m t (run set m es (begins m)) (run set (tables set) es (begins (tables set))) (k .0) (k .1) (k .2) (k .3) (k .4)

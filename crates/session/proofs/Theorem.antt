@@ -98,6 +98,19 @@ module _ (set : Settings) (vw : Within set) (m : Ends) (t : Tied set m) (σ : Li
   lent-is : (e : SenderEvent) (lent : ℕ) → needed (set .own) e (γ .sender) ≤ lent → needed (set .own) e (κ .fop) ≤ lent
   lent-is e lent h = subst (λ (f : Fop). needed (set .own) e f ≤ lent) (G .fop) h
 
+  -- the oldest word, where it is read as w and its room is lent
+  pub word-comes : (s : List ℕ) (ws : List (List ℕ)) (w : Word) (lent : ℕ) → σ .words ≡ s ∷ ws → readWord (set .own) s ≡ valid w
+      → needed (set .own) (wordArrives s) (γ .sender) ≤ lent
+      → (more : List Word) × (κ .words ≡ w ∷ more) × (needed (set .own) (wordArrives (wordOctets (set .own) w)) (κ .fop) ≤ lent)
+  word-comes s ws w lent e q r =
+      let l = oldest-word set vw _ _ (κ .words) s ws (I .words) (sym e ∙ R .words) in
+      let same : l .0 ≡ w = cc (l .4, q) in
+      let so : s ≡ wordOctets (set .own) w = l .3 ∙ ap (wordOctets (set .own)) same in (
+        l .1,
+        l .2 ∙ ap (λ (x : Word). x ∷ l .1) same,
+        subst (λ (x : List ℕ). needed (set .own) (wordArrives x) (κ .fop) ≤ lent) so (lent-is (wordArrives s) lent r),
+      )
+
   pub either : (e : Event) (i : ℕ) → Resent (getD (κ .sent) i nobody) κ (core.step set e κ) ⊎ Marked (getD (κ .sent) i nobody) ((core.step set e κ) .fop)
       → Resends set (getD (κ .sent) i nobody) σ (ses.step set m e σ) ⊎ Marked (getD (κ .sent) i nobody) ((ses.step set (tables set) e γ) .sender)
   either e i (inl s) = inl (resends e _ s)
@@ -148,39 +161,44 @@ module _ (set : Settings) (vw : Within set) (m : Ends) (t : Tied set m) (σ : Li
             (either (ticks lent) i (expires set κ I i lent (lent-is fop.tick lent r) (rw (G .fop) at a) (rw (G .fop) at b) (rw (G .fop) at c)
             (rw (R .history) at o)));
         clears = λ s ws w lent e q r a b c d f.
-            let l = oldest-word set vw _ _ (κ .words) s ws (I .words) (sym e ∙ R .words) in
-            let same : l .0 ≡ w = cc (l .4, q) in
-            let k : κ .words ≡ w ∷ l .1 = l .2 ∙ ap (λ (x : Word). x ∷ l .1) same in
-            let so : s ≡ wordOctets (set .own) w = l .3 ∙ ap (wordOctets (set .own)) same in
-            let r' : needed (set .own) (wordArrives (wordOctets (set .own) w)) (κ .fop) ≤ lent =
-            subst (λ (x : List ℕ). needed (set .own) (wordArrives x) (κ .fop) ≤ lent) so (lent-is (wordArrives s) lent r) in
+            let k = word-comes s ws w lent e q r in
             let a' : serves (κ .fop .state) ≡ true = rw (G .fop) at a in
             let f' : w .nr ≡ nextNumber set (historyOf κ) = rw (R .history) at f in (
               λ i o. ap (λ (h : History). member i (h .confirmed)) (next (wordIn lent) .history)
-                  ∙ clears-all set vw κ I a' w (l .1) lent k r' b c d f' i (rw (R .history) at o),
+                  ∙ clears-all set vw κ I a' w (k .0) lent (k .1) (k .2) b c d f' i (rw (R .history) at o),
               λ o p x y. by (λ h. Sends set (nextUnit set h o) σ (ses.step set m (wordIn lent) σ))
                   (sends (wordIn lent) _
-                  (clears-sends set vw κ I a' w (l .1) lent k r' b c d f' o (rw (R .history) at p) (rw (G .fop) at x) (rw (G .fop) at y))),
+                  (clears-sends set vw κ I a' w (k .0) lent (k .1) (k .2) b c d f' o (rw (R .history) at p) (rw (G .fop) at x) (rw (G .fop) at y))),
             );
       }
 
--- the two sessions after a list of events, both seen as one
-pub together : (set : Settings) (vw : Within set) (m : Ends) (t : Tied set m) (es : List Event) (σ : Linked m) (γ : Linked (tables set)) (κ : Session)
-    → Rel set vw m t σ κ → Rel set vw (tables set) (tables-tied set) γ κ → Inv set κ
-    → (κ' : Session) × Rel set vw m t (run set m es σ) κ' × Rel set vw (tables set) (tables-tied set) (run set (tables set) es γ) κ' × Inv set κ'
+-- the two sessions after a list of events, both seen as one, with whatever X else every event keeps
+together : (set : Settings) (vw : Within set) (m : Ends) (t : Tied set m) (X : Session → Type 0)
+    → ((e : Event) (κ : Session) → Inv set κ → X κ → X (core.step set e κ))
+    → (es : List Event) (σ : Linked m) (γ : Linked (tables set)) (κ : Session)
+    → Rel set vw m t σ κ → Rel set vw (tables set) (tables-tied set) γ κ → Inv set κ → X κ
+    → (κ' : Session) × Rel set vw m t (run set m es σ) κ' × Rel set vw (tables set) (tables-tied set) (run set (tables set) es γ) κ' × Inv set κ' × X κ'
 unfolding run
-together set vw m t [] σ γ κ R G I = (κ, R, G, I)
-together set vw m t (e ∷ es) σ γ κ R G I =
-    together set vw m t es (ses.step set m e σ) (ses.step set (tables set) e γ) (core.step set e κ) (same-step set vw m t e σ κ R I)
-    (same-step set vw (tables set) (tables-tied set) e γ κ G I) (step-keeps set vw e κ I)
+together set vw m t X keeps [] σ γ κ R G I x = (κ, R, G, I, x)
+together set vw m t X keeps (e ∷ es) σ γ κ R G I x =
+    together set vw m t X keeps es (ses.step set m e σ) (ses.step set (tables set) e γ) (core.step set e κ) (same-step set vw m t e σ κ R I)
+    (same-step set vw (tables set) (tables-tied set) e γ κ G I) (step-keeps set vw e κ I) (keeps e κ I x)
+
+-- and so from the start
+pub from-start : (set : Settings) (vw : Within set) (m : Ends) (t : Tied set m) (X : Session → Type 0)
+    → ((e : Event) (κ : Session) → Inv set κ → X κ → X (core.step set e κ)) → X (begun set) → (es : List Event)
+    → (κ : Session) × Rel set vw m t (run set m es (begins m)) κ
+    × Rel set vw (tables set) (tables-tied set) (run set (tables set) es (begins (tables set))) κ × Inv set κ × X κ
+from-start set vw m t X keeps x es =
+    together set vw m t X keeps es (begins m) (begins (tables set)) (begun set) (at-start set vw m t) (at-start set vw (tables set) (tables-tied set))
+    (start-inv set vw) x
 
 -- Demand 3, whole: for all settings within their limits and all ends that do as the tables say, after every list of events and at whatever
 -- event comes next.
 pub demand3 : (set : Settings) → Within set → (m : Ends) → Tied set m → (es : List Event)
     → Claims set m (run set m es (begins m)) (run set (tables set) es (begins (tables set)))
 demand3 set vw m t es =
-    let k = together set vw m t es (begins m) (begins (tables set)) (begun set) (at-start set vw m t) (at-start set vw (tables set) (tables-tied set))
-    (start-inv set vw) in
+    let k = from-start set vw m t (λ κ. Unit {0}) (λ e κ I x. tt) tt es in
     claims set vw m t (run set m es (begins m)) (run set (tables set) es (begins (tables set))) (k .0) (k .1) (k .2) (k .3)
 
 -- and the table machines are such ends

@@ -1,11 +1,12 @@
--- Every event keeps the flags' invariant.
+-- Every event keeps the flags' invariant (Keys): a row leads to a state of resending only from one, or by a word that asks for it, which is a
+-- computed test of table 7-8; the receiver's rows are computed in each state.
 use mathlib.Core.Path.{_≡_, refl, ap, _∙_}
-use mathlib.Core.Bool.{Bool, true, false, not, true≢false, false≢true}
+use mathlib.Core.Bool.{Bool, true, false, not, _&&_}
 use mathlib.Core.List.{List, [], _∷_, _++_}
 use mathlib.Core.Option.{none, some}
-use Prim.Native.Nat.{ℕ, _+_, _-_, _*_, _≤_, _<_}
+use Prim.Native.Nat.{ℕ, _+_, _*_, _≤_, _<_}
 use native.Mathlib.Omega.{arith}
-use lib.Dec.{leb, ltb, eqb, T, leb→le}
+use lib.Dec.{leb, eqb, T, leb→le}
 use lib.ListN.{length, length-append}
 use Rattle.base.specs.Choice.{pick}
 use Rattle.base.specs.Modulo.{advanced}
@@ -13,26 +14,26 @@ use Rattle.fop.specs.Units.{Fdu, Frame, AD, BD, Unlock, SetVR, Refused, Word, w
 use Rattle.fop.specs.Table.{State, Cell, cell, NotApplicable, FopEvent, table78, cell78}
 use Rattle.fop.specs.Variables.{Work, begin}
 use Rattle.fop.specs.Machine.{fopDo, performCell, performAll, perform}
-use Rattle.fop.specs.Variables.{setClock}
-use Rattle.fop.specs.Events.{Seen, seen, wordEvent, fopWord, fopTick, fopExpiry, fopAd, fopBd, fopLower, fopDirective, directiveEvent}
+use Rattle.fop.specs.Events.{Seen, seen, wordEvent, fopWord, fopTick, fopAd, fopBd, fopLower, fopDirective, directiveEvent}
 use Rattle.fop.specs.Events.{when, first, Lower, lowerEvent, isEmpty, SenderEvent, requestAd, requestBd, lower, directive, wordArrives, work}
 use Rattle.fop.specs.Answers.{judged}
 use Rattle.session.specs.Ends.{Settings, Within, startSender, startReceiver}
 use Rattle.session.specs.Session.{Event, adRequest, bdRequest, ticks, lowerSays, terminate, wordIn, wordLost, wordMade, frameIn, frameLost, release, places}
 use Rattle.session.specs.Session.{rest, addSent}
 use Rattle.fop.specs.Events as fop
+use Rattle.session.proofs.Choices.{by-pick, never, and-l, and-r}
+use Rattle.session.proofs.Test.{first-all, lower-all, lowered, tick-ways}
 use Rattle.session.proofs.Core.{Session, addAll, firstOf, answered, sender, goes, channels, wordCome, frameCome, receiver, taken, step, stepWith}
 use Rattle.session.proofs.Core.{releases, frameEvent, isHanded, free, isHeld}
 use Rattle.session.proofs.Chan.{Fly, Wds}
 use Rattle.session.proofs.Values.{Given, word, unit, nothing, Reports}
-use Rattle.session.proofs.Rows.{modeOf, sound, atAll, at-cell, rowOk, first-all, word-ok, timer-ok, ad-ok, bd-ok, lower-ok, terminate-ok}
-use Rattle.session.proofs.Inv.{Inv, alerting, is-sound, isLocked, row-bound, pickS, pickW, withFop, timed, fit, hears, legal-of}
+use Rattle.session.proofs.Rows.{modeOf, sound, atAll, at-cell, rowOk, word-ok, ad-ok, bd-ok, lower-ok, terminate-ok}
+use Rattle.session.proofs.Inv.{Inv, alerting, in-mode, isLocked, row-bound, withFop, timed, fit, hears, legal-of}
 use Rattle.session.proofs.Receiver.{ad-cases, begun, at}
 use Rattle.session.proofs.Clear.{length-places}
 use Rattle.session.proofs.Keys.{bit, bit-le, rank, rank-le, floor, waits, Keys, keys-le, keys-mono, keys-add, Tidy}
 use Rattle.session.proofs.Every.{implies, implied, everySeen, seen-at}
 use Rattle.fop.specs.Table.{ifNotSuspended}
-use Rattle.fop.specs.Events.{expiryLines}
 use Rattle.farm.specs.Table as t79
 use Rattle.farm.specs.Table.{stepOf}
 use Rattle.farm.specs.Receiver.{unitOf}
@@ -81,11 +82,12 @@ word-forward : (x : Seen) → x .retransmit ≡ false → T (atAll forward (tabl
 word-forward x r = implied (not (x .retransmit)) _ (seen-at forwardAt x forward-all) (rw r)
 
 -- the table's rows that no word brings
-timer-holds : (c d : Bool) → d ≡ true → T (rowHolds (first (expiryLines c d) FopEvent.E18))
+abbrev timerRow : FopEvent → Bool
+timerRow e = rowOk nothing e && rowHolds e
+
+timer-holds : T (timerRow FopEvent.E16 && timerRow FopEvent.E17)
 unfolding table78
-timer-holds true true e = tt
-timer-holds false true e = tt
-timer-holds c false e = absurd (false≢true e)
+timer-holds = tt
 
 ad-holds : (c : Bool) → T (rowHolds (first (when c FopEvent.E19 ∷ []) FopEvent.E20))
 unfolding table78
@@ -97,12 +99,7 @@ bd-holds c = first-all rowHolds (when c FopEvent.E21 ∷ []) FopEvent.E22 tt
 
 lower-holds : (l : Lower) → T (rowHolds (lowerEvent l))
 unfolding table78
-lower-holds Lower.adAccept = tt
-lower-holds Lower.adReject = tt
-lower-holds Lower.bcAccept = tt
-lower-holds Lower.bcReject = tt
-lower-holds Lower.bdAccept = tt
-lower-holds Lower.bdReject = tt
+lower-holds = lower-all rowHolds tt
 
 terminate-holds : T (rowHolds FopEvent.E29)
 unfolding table78
@@ -148,9 +145,8 @@ plain-tidy : (set : Settings) (σ : Session) (given : Given) (e : FopEvent) (o :
     → Tidy (set .n) (answered (set .n) (fopDo e o 0 (σ .fop)) (channels (σ .frames) (σ .words) σ))
 unfolding fopDo
 plain-tidy set σ given e o I t ok h r =
-    let g : T (sound (modeOf (σ .fop .state))) = is-sound (modeOf (σ .fop .state)) (set .n) _ _ _ _ _ _ (I .side) in
     let rk : rank ((fopDo e o 0 (σ .fop)) .fop .state) ≤ rank (σ .fop .state) =
-    holds-next (cell78 (table78 e) (σ .fop .state)) (begin (some e) o 0 (σ .fop)) (at-cell holds (table78 e) (σ .fop .state) h g) in
+    holds-next (cell78 (table78 e) (σ .fop .state)) (begin (some e) o 0 (σ .fop)) (at-cell holds (table78 e) (σ .fop .state) h (in-mode set σ I)) in
     let cb = row-bound set σ given (length (σ .confirmed)) e o 0 I ok (omega arith) r in
     tidy-answered (set .n) σ (σ .words) (fopDo e o 0 (σ .fop)) (floor (σ .fop .state) (length (σ .confirmed))) t (t .keys) (omega (arith, rk, cb)) (t .below)
 
@@ -158,19 +154,15 @@ sender-tidy : (set : Settings) (e : SenderEvent) (lent : ℕ) (σ : Session) →
     → (judged (set .own) e ≡ 0 → Tidy (set .n) (answered (set .n) (work (set .own) e (σ .fop)) σ)) → Tidy (set .n) (sender set e lent σ)
 unfolding sender
 sender-tidy set e lent σ t h =
-    pickS (Tidy (set .n)) (goes (set .own) e lent (σ .fop)) (λ b. h (fit (set .own) e lent (σ .fop) b .0)) (λ b. t)
+    by-pick (Tidy (set .n)) (goes (set .own) e lent (σ .fop)) (λ b. h (fit (set .own) e lent (σ .fop) b .0)) (λ b. t)
 
 tick-tidy : (set : Settings) (σ : Session) → Inv set σ → Tidy (set .n) σ → Tidy (set .n) (answered (set .n) (fopTick (σ .fop)) σ)
-unfolding fopTick fopExpiry answered channels
+unfolding answered channels
 tick-tidy set σ I t =
-    let τ : Session = withFop (setClock (σ .fop .clock .timer - 1) (σ .fop .clock .transmissionCount) (σ .fop)) σ in
-    let c : Bool = ltb (σ .fop .clock .transmissionCount) (σ .fop .preset .transmissionLimit) in
+    let τ : Session = withFop (lowered (σ .fop)) σ in
     let t' : Tidy (set .n) τ = record { keys = t .keys; waitFlag = t .waitFlag; waitMissing = t .waitMissing; missing = t .missing; below = t .below } in
-    pickW (λ (w : Work). Tidy (set .n) (answered (set .n) w σ)) (eqb (σ .fop .clock .timer) 1) {x = fopExpiry (τ .fop)} {y = begin none [] 0 (τ .fop)}
-    (plain-tidy set τ nothing (first (expiryLines (ltb (σ .fop .clock .transmissionCount) (σ .fop .preset .transmissionLimit))
-    (eqb (σ .fop .preset .timeoutType) 0)) FopEvent.E18) [] (timed set _ _ σ I) t'
-    (timer-ok (ltb (σ .fop .clock .transmissionCount) (σ .fop .preset .transmissionLimit)) (eqb (σ .fop .preset .timeoutType) 0) (alerting set σ I))
-    (timer-holds (ltb (σ .fop .clock .transmissionCount) (σ .fop .preset .transmissionLimit)) (eqb (σ .fop .preset .timeoutType) 0) (alerting set σ I)) tt)
+    tick-ways timerRow timer-holds (λ w. Tidy (set .n) (answered (set .n) w σ)) (σ .fop) (alerting set σ I)
+    (λ e h. plain-tidy set τ nothing e [] (timed set _ _ σ I) t' (and-l (rowOk nothing e) _ h) (and-r (rowOk nothing e) _ h) tt)
     (tidy-answered (set .n) τ (σ .words) (begin none [] 0 (τ .fop)) (floor (σ .fop .state) (length (σ .confirmed))) t' (t .keys) (omega arith) (t .below))
 
 words-tidy : (n : ℕ) (σ : Session) (fs : List Frame) (ws : List Word) → Tidy n σ
@@ -191,12 +183,11 @@ word-tidy set vw lent σ (w ∷ ws) I t h k =
     let b2 = bit-le (σ .farm .retransmit) in
     let ca : length (σ .confirmed) ≤ k .0 = omega (arith, k .2, b1) in
     let al : k .0 ≤ length (σ .accepted) = omega (arith, keys-le (set .n) _ _ _ ws (k .6), b2) in
-    let g : T (sound (modeOf (σ .fop .state))) = is-sound (modeOf (σ .fop .state)) (set .n) _ _ _ _ _ _ (I .side) in
     let cb = row-bound set σ word (k .0) (wordEvent (seen w (σ .fop))) [] (w .nr) I (word-ok (seen w (σ .fop))) ca (k .1, al) in
     sender-tidy set (wordArrives (wordOctets (set .own) w)) lent (channels (σ .frames) ws σ)
     (words-tidy (set .n) σ (σ .frames) ws t (keys-mono (set .n) _ _ _ _ _ _ ws (omega arith) (k .2) (omega arith) (k .6)))
     (λ j. rw (hears set vw w (σ .fop) (h .3) (omega (arith, h .1)))
-    (tidy-answered (set .n) σ ws (fopWord w (σ .fop)) (2 * k .0 + bit (w .retransmit)) t (k .6) (low g (w .retransmit) refl cb) (omega (arith, k .5))))
+    (tidy-answered (set .n) σ ws (fopWord w (σ .fop)) (2 * k .0 + bit (w .retransmit)) t (k .6) (low (in-mode set σ I) (w .retransmit) refl cb) (omega (arith, k .5))))
   where
     low : T (sound (modeOf (σ .fop .state))) → (b : Bool) → w .retransmit ≡ b → length (σ .confirmed) + length ((fopWord w (σ .fop)) .confirmed) ≤ k .0
         → floor ((fopWord w (σ .fop)) .fop .state) (length (σ .confirmed) + length ((fopWord w (σ .fop)) .confirmed)) ≤ 2 * k .0 + bit (w .retransmit)
@@ -225,9 +216,6 @@ tidy-received n σ v acc bda r fs t a b m k =
       below = t .below;
     }
 
-no : {A : Type 0} → true ≡ false → A
-no e = absurd (true≢false e)
-
 module _ (n : ℕ) (σ : Session) (fs : List Frame) (t : Tidy n σ) where
   -- what the invariant says of the flags, at a state named s
   abbrev At : FarmState → Type 0
@@ -247,37 +235,37 @@ module _ (n : ℕ) (σ : Session) (fs : List Frame) (t : Tidy n σ) where
       tidy-received n σ _ _ _ _ fs t (h .1) (omega arith) (omega (arith, length-append (σ .accepted) (u ∷ [])))
       (omega (arith, length-append (σ .accepted) (u ∷ []), bit-le (σ .farm .retransmit)))
   takes-tidy u b Wait h = as-it-was _ _ _ (h .1) (h .2) refl
-  takes-tidy u b Lockout h = no (h .0)
+  takes-tidy u b Lockout h = never (h .0)
 
   e2-tidy : (u : Fdu) → length (σ .accepted) < length (σ .sent) → (s : FarmState) → At s → RT u farm.E2 s
   unfolding t79.table stepOf t79.performAll t79.perform t79.accepts
   e2-tidy u b Open h = tidy-received n σ _ _ _ _ fs t (omega arith) (omega arith) (omega arith) (omega (arith, bit-le (σ .farm .retransmit)))
   e2-tidy u b Wait h = as-it-was _ _ _ (h .1) (h .2) refl
-  e2-tidy u b Lockout h = no (h .0)
+  e2-tidy u b Lockout h = never (h .0)
 
   e3-tidy : (u : Fdu) → length (σ .accepted) < length (σ .sent) → (s : FarmState) → At s → RT u farm.E3 s
   unfolding t79.table stepOf t79.performAll t79.perform t79.accepts
   e3-tidy u b Open h = tidy-received n σ _ _ _ _ fs t (h .1) (omega arith) (omega arith) (omega (arith, bit-le (σ .farm .retransmit)))
   e3-tidy u b Wait h = as-it-was _ _ _ (h .1) (h .2) refl
-  e3-tidy u b Lockout h = no (h .0)
+  e3-tidy u b Lockout h = never (h .0)
 
   e4-tidy : (u : Fdu) (s : FarmState) → At s → RT u farm.E4 s
   unfolding t79.table stepOf t79.performAll t79.perform t79.accepts
   e4-tidy u Open h = as-it-was _ _ _ (h .1) (h .2) refl
   e4-tidy u Wait h = as-it-was _ _ _ (h .1) (h .2) refl
-  e4-tidy u Lockout h = no (h .0)
+  e4-tidy u Lockout h = never (h .0)
 
   e6-tidy : (b : List (List ℕ)) (s : FarmState) → At s → Tidy n (receiver (stepOf farm.E6 0 (at s (σ .farm))) (σ .accepted) b (σ .released) fs σ)
   unfolding t79.table stepOf t79.performAll t79.perform t79.accepts
   e6-tidy b Open h = as-it-was _ _ _ (h .1) (h .2) refl
   e6-tidy b Wait h = as-it-was _ _ _ (h .1) (h .2) refl
-  e6-tidy b Lockout h = no (h .0)
+  e6-tidy b Lockout h = never (h .0)
 
   e10-tidy : (r : ℕ) (s : FarmState) → At s → Tidy n (receiver (stepOf farm.E10 0 (at s (σ .farm))) (σ .accepted) (σ .acceptedBd) r fs σ)
   unfolding t79.table stepOf t79.performAll t79.perform
   e10-tidy r Open h = as-it-was _ _ _ (h .1) (h .2) refl
   e10-tidy r Wait h = as-it-was _ _ _ (omega arith) (omega arith) refl
-  e10-tidy r Lockout h = no (h .0)
+  e10-tidy r Lockout h = never (h .0)
 
 frame-tidy : (set : Settings) → Within set → (σ : Session) (room : Bool) (l : List Frame) → Inv set σ → Tidy (set .n) σ
     → Fly (set .k) (σ .sent) (length (σ .accepted)) (length (σ .accepted)) l → Tidy (set .n) (frameCome set room l σ)
@@ -326,7 +314,7 @@ step-tidy set vw wordMade σ I t =
     (omega (arith, t .waitFlag, t .waitMissing)) (t .missing) (t .keys))
 step-tidy set vw frameIn σ I t = frame-tidy set vw σ (free set σ) (σ .frames) I t (I .base .fly)
 step-tidy set vw frameLost σ I t = words-tidy (set .n) σ (rest (σ .frames)) (σ .words) t (t .keys)
-step-tidy set vw release σ I t = pickS (Tidy (set .n)) (isHeld σ) (λ e. release-tidy set σ I t) (λ e. t)
+step-tidy set vw release σ I t = by-pick (Tidy (set .n)) (isHeld σ) (λ e. release-tidy set σ I t) (λ e. t)
 
 pub start-tidy : (set : Settings) → Tidy (set .n) (begun set)
 unfolding startSender startReceiver

@@ -1,17 +1,64 @@
--- How the examples are written: what the table machines answer, event by event.
-use mathlib.Core.Bool.{true, false}
+-- How the examples are written: their settings, what the table machines answer, event by event, and what they compute with.
+use mathlib.Core.Bool.{Bool, true, false}
 use mathlib.Core.List.{List, [], _∷_}
 use mathlib.Core.Option.{Option, none, some}
 use Prim.Native.Nat.{ℕ}
-use Rattle.fop.specs.Table.{State, Reason, FopEvent}
-use Rattle.fop.specs.Variables.{Fop, Response}
-use Rattle.fop.specs.Events.{requestAd, requestBd, tick, lower, directive, wordArrives}
-use Rattle.fop.specs.Answers.{Answer, Run, senderAnswer}
+use Rattle.base.specs.Octets as octets
+use Rattle.base.specs.Fields as fields
+use Rattle.base.specs.Register as register
+use Rattle.fecf.specs.Fecf as fecf
+use Rattle.frame.specs.Header as header
+use Rattle.frame.specs.Frame as frame
+use Rattle.frame.specs.Answers as frameAnswers
+use Rattle.clcw.specs.Clcw as clcw
+use Rattle.clcw.specs.Answers as clcwAnswers
+use Rattle.farm.specs.Table as t79
+use Rattle.farm.specs.Window as window
+use Rattle.farm.specs.Receiver as receiver
 use Rattle.farm.specs.declared.Event.{Event as FarmEvent}
 use Rattle.farm.specs.declared.Receiver.{Receiver}
+use Rattle.fop.specs.Units as units
+use Rattle.fop.specs.Table as table
+use Rattle.fop.specs.Table.{State, Reason, FopEvent}
+use Rattle.fop.specs.Variables.{Fop, Response}
+use Rattle.fop.specs.Machine as machine
+use Rattle.fop.specs.Events as events
+use Rattle.fop.specs.Events.{requestAd, requestBd, tick, lower, directive, wordArrives}
+use Rattle.fop.specs.Answers as answers
+use Rattle.fop.specs.Answers.{Answer, Run, senderAnswer}
+use Rattle.session.specs.Frames as frames
+use Rattle.session.specs.Receiver as rcv
 use Rattle.session.specs.Receiver.{frameArrives, releaseBuffer, ReceiverAnswer, receiverAnswer}
-use Rattle.session.specs.Ends.{Settings, tables}
+use Rattle.session.specs.Ends as ends
+use Rattle.session.specs.Ends.{Settings, Ends, tables}
+use Rattle.session.specs.Session as ses
 use Rattle.session.specs.Session.{Event, Linked, step, adRequest, bdRequest, ticks, lowerSays, terminate, wordIn, wordLost, wordMade, frameIn, frameLost, release}
+use Rattle.session.specs.Claims.{outstanding}
+
+-- to unfold this is to unfold every definition that a session of the table machines computes with
+unfoldable pub computing : Unit {0}
+unfolding outstanding ses.run ses.begins ses.step ses.toSender ses.wordCome ses.frameCome ses.releases ses.afterSender ses.afterFrame ses.afterRelease
+    ends.startSender ends.startReceiver rcv.receiverNext rcv.receiverAnswer rcv.receiverWord frames.read units.legal units.written
+    units.wordOctets units.readWord table.table78 machine.transmitAd machine.sendWaiting machine.sendNext machine.lookForFdu machine.lookForDirective
+    machine.transmitBc machine.denyBc machine.rejectWaiting machine.purge machine.removeAcknowledged machine.perform machine.performAll machine.performCell
+    machine.fopDo events.wordEvent events.fopWord events.fopAd events.fopBd events.fopExpiry events.fopTick events.fopLower
+    events.directiveEvent events.fopDirective events.fopHeard events.work answers.needed answers.judged answers.senderRefusal
+    answers.senderAnswer answers.senderNext t79.table t79.perform t79.performAll t79.stepOf t79.accepts window.adEvent receiver.eventOf
+    receiver.answered receiver.arrived receiver.byReading receiver.receiveOf receiver.unitPart receiver.releaseOf receiver.wordOf frame.bodyOf
+    frame.rawFrame frame.totalOf frame.dataField frame.isCommand frame.commandHeld frame.headerRefusal frame.contentRefusal frame.refusalOf frame.kindOf
+    frameAnswers.fieldsOf frameAnswers.readingOf frameAnswers.partOf header.headerFields header.headerOf clcw.wordFields clcw.clcwOf
+    clcw.isValid clcw.wordOf clcwAnswers.receivedOf clcwAnswers.readingOf fecf.fecfOf fecf.syndromeOf register.shiftBit register.shiftBits
+    register.register fields.digitsOf fields.valueOf fields.packed fields.octetsOf fields.fieldAt octets.bitsOf octets.octetBits
+computing = tt
+
+-- the settings of the examples, by K, the count of buffers, T1_Initial and Transmission_Limit
+abbrev pub settings : ℕ → ℕ → ℕ → ℕ → Settings
+settings k buffers t1 limit =
+    record { n = 254; k = k; w = 10; buffers = buffers; t1 = t1; limit = limit; own = record { spacecraft = 5; channel = 9 } }
+
+-- the session of a pair of ends after a list of events
+abbrev pub after : Settings → (m : Ends) → List Event → Linked m
+after set m es = ses.run set m es (ses.begins m)
 
 -- the sender's answer, the receiver's, or none
 pub data Said : Type 0 where
@@ -48,8 +95,8 @@ trace s (e ∷ es) σ = said s e σ ∷ trace s es (step s (tables s) e σ)
 abbrev nothing : Run
 nothing = record { number = 0; count = 0 }
 
-abbrev answers : Option FopEvent → State → Answer
-answers e s = record {
+abbrev answering : Option FopEvent → State → Answer
+answering e s = record {
   refusal = 0;
   event = e;
   state = s;
@@ -63,39 +110,32 @@ answers e s = record {
 }
 
 abbrev pub by : FopEvent → State → Answer
-by e s = answers (some e) s
+by e s = answering (some e) s
 
 abbrev pub silent : State → Answer
-silent s = answers none s
+silent s = answering none s
 
--- and what it has besides
-abbrev pub withDown : Option (List ℕ) → Answer → Answer
-withDown d a = record {
+-- the same answer but for the frame, the abort, the responses, the alert and the runs
+abbrev telling : Option (List ℕ) → Bool → List Response → Option Reason → Run → Run → Answer → Answer
+telling d b r l c n a = record {
   refusal = a .refusal;
   event = a .event;
   state = a .state;
   down = d;
-  abort = a .abort;
-  responses = a .responses;
-  alert = a .alert;
+  abort = b;
+  responses = r;
+  alert = l;
   suspended = a .suspended;
-  confirmed = a .confirmed;
-  denied = a .denied;
+  confirmed = c;
+  denied = n;
 }
 
+-- and but for one of them
+abbrev pub withDown : Option (List ℕ) → Answer → Answer
+withDown d a = telling d (a .abort) (a .responses) (a .alert) (a .confirmed) (a .denied) a
+
 abbrev pub withConfirmed : Run → Answer → Answer
-withConfirmed r a = record {
-  refusal = a .refusal;
-  event = a .event;
-  state = a .state;
-  down = a .down;
-  abort = a .abort;
-  responses = a .responses;
-  alert = a .alert;
-  suspended = a .suspended;
-  confirmed = r;
-  denied = a .denied;
-}
+withConfirmed r a = telling (a .down) (a .abort) (a .responses) (a .alert) r (a .denied) a
 
 abbrev pub down : List ℕ → Answer → Answer
 down o a = withDown (some o) a
@@ -104,60 +144,16 @@ abbrev pub confirming : ℕ → ℕ → Answer → Answer
 confirming n c a = withConfirmed (record { number = n; count = c }) a
 
 abbrev pub denying : ℕ → ℕ → Answer → Answer
-denying n c a = record {
-  refusal = a .refusal;
-  event = a .event;
-  state = a .state;
-  down = a .down;
-  abort = a .abort;
-  responses = a .responses;
-  alert = a .alert;
-  suspended = a .suspended;
-  confirmed = a .confirmed;
-  denied = record { number = n; count = c };
-}
+denying n c a = telling (a .down) (a .abort) (a .responses) (a .alert) (a .confirmed) (record { number = n; count = c }) a
 
 abbrev pub aborting : Answer → Answer
-aborting a = record {
-  refusal = a .refusal;
-  event = a .event;
-  state = a .state;
-  down = a .down;
-  abort = true;
-  responses = a .responses;
-  alert = a .alert;
-  suspended = a .suspended;
-  confirmed = a .confirmed;
-  denied = a .denied;
-}
+aborting a = telling (a .down) true (a .responses) (a .alert) (a .confirmed) (a .denied) a
 
 abbrev pub responding : List Response → Answer → Answer
-responding r a = record {
-  refusal = a .refusal;
-  event = a .event;
-  state = a .state;
-  down = a .down;
-  abort = a .abort;
-  responses = r;
-  alert = a .alert;
-  suspended = a .suspended;
-  confirmed = a .confirmed;
-  denied = a .denied;
-}
+responding r a = telling (a .down) (a .abort) r (a .alert) (a .confirmed) (a .denied) a
 
 abbrev pub alerting : Reason → Answer → Answer
-alerting r a = record {
-  refusal = a .refusal;
-  event = a .event;
-  state = a .state;
-  down = a .down;
-  abort = a .abort;
-  responses = a .responses;
-  alert = some r;
-  suspended = a .suspended;
-  confirmed = a .confirmed;
-  denied = a .denied;
-}
+alerting r a = telling (a .down) (a .abort) (a .responses) (some r) (a .confirmed) (a .denied) a
 
 -- the receiver's: an event that hands out no unit, and one that does
 abbrev pub discarding : FarmEvent → ReceiverAnswer

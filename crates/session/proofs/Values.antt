@@ -41,6 +41,7 @@ pub record Dead (C : ℕ) (gone : List (Option ℕ)) (sent conf den q : List Fdu
   pub empty : q ≡ []
   pub denied : gone ++ places sent (firstOf den) (length den) ≡ iota (C + length conf) (length after)
 
+-- in service, out of service, or not covered
 pub data Mode : Type 0 where
   live dead bad : Mode
 
@@ -60,6 +61,7 @@ WaitOk none = Unit {0}
 WaitOk (some o) = legal o ≡ true
 
 module _ (n : ℕ) (P : Preset) (C : ℕ) (gone : List (Option ℕ)) (acc : List Fdu) (given : Given) (a : ℕ) where
+  -- the sender's invariant in a mode, of the values of its fields and of the work on an event
   abbrev pub WI : Mode → List Fdu → List Frame → List Fdu → List Fdu → List Fdu → ℕ → ℕ → Preset → ℕ → Option (List ℕ) → List ℕ → Type 0
   WI live sent fr conf den q vs nn p v wt o =
       Base n (P .k) C acc sent fr conf × Live n C gone sent conf den q vs nn × (C + length conf ≤ a) × Reports given n a (length acc) v o × (p ≡ P) × WaitOk wt
@@ -67,11 +69,13 @@ module _ (n : ℕ) (P : Preset) (C : ℕ) (gone : List (Option ℕ)) (acc : List
       Base n (P .k) C acc sent fr conf × Dead C gone sent conf den q × (C + length conf ≤ a) × Reports given n a (length acc) v o × (p ≡ P) × WaitOk wt
   WI bad sent fr conf den q vs nn p v wt o = Unit {0}
 
+-- a unit sent again does not count anew
 pub same-sent : (n : ℕ) (s : List Fdu) (u : Fdu) (j : ℕ) → Numbered n s → j < length s → length s ≤ j + 127 → u ≡ getD s j nobody
     → addAll n s (AD u ∷ []) ≡ s
 same-sent n s u j h b r e =
     rw (ne-eqb (u .ns) (advanced n (length s)) (λ q. omega (arith, h .at j b, ap (λ (x : Fdu). x .ns) e)))
 
+-- a unit with the next number does
 pub new-sent : (n : ℕ) (s : List Fdu) (u : Fdu) → u .ns ≡ advanced n (length s) → addAll n s (AD u ∷ []) ≡ s ++ (u ∷ [])
 new-sent n s u e = rw (eq-eqb (u .ns) (advanced n (length s)) e)
 
@@ -162,7 +166,6 @@ module _ (n : ℕ) (P : Preset) (C : ℕ) (gone : List (Option ℕ)) (acc : List
       → WI n P C gone acc word a live sent fr (conf ++ take (offset v nn) q) den (drop (offset v nn) q) vs v p v wt o
   confirmed sent fr conf den q vs nn p v wt o h =
       let ln : length conf + length q ≡ length sent - C = queue-length C sent conf q (h .1 .cut) in
-      let d : ℕ = offset v nn in
       let dl : C + length conf + offset v nn ≡ a = omega arith in
       let lc : length (conf ++ take (offset v nn) q) ≡ length conf + offset v nn =
       length-append conf (take (offset v nn) q) ∙ rw (length-take (offset v nn) q) (omega arith) in (

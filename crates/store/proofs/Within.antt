@@ -4,7 +4,7 @@ use mathlib.Core.List.{List, _++_, append-nil}
 use Prim.Native.Nat.{ℕ, _+_, _≤_}
 use native.Mathlib.Omega.{arith}
 use lib.ListN.{length, take, drop, length-drop, length-append, take-append-drop, drop-of-length-le}
-use lib.Seq.{drop-append-le, take-append-le, length-take-le, take-all}
+use lib.Seq.{drop-at, drop-append-le, take-append-le, length-take-le, take-all}
 use Rattle.store.specs.Slid.{slid, slidWithin}
 use Rattle.store.proofs.Parts.{slid-part, slid-none, slid-length}
 
@@ -33,6 +33,11 @@ within-part n count a m s h k =
     ∙ sym (ap (take m) (drop-append-le (count + a) t r (omega (arith, z, h)))
     ∙ take-append-le m (drop (count + a) t) r (simp length-drop (omega (arith, z, h))))
     ∙ ap (λ (x : List ℕ). take m (drop (count + a) x)) (take-append-drop n s)
+
+-- what stands behind the first n numbers stays
+pub within-behind : (n count : ℕ) (s : List ℕ) → n ≤ length s → drop n (slidWithin n count s) ≡ drop n s
+unfolding slidWithin
+within-behind n count s h = drop-at (slid count (take n s)) (drop n s) n (slid-length count (take n s) ∙ length-take-le n s h)
 
 -- no more than n numbers: the whole list
 pub within-short : (n count : ℕ) (s : List ℕ) → length s ≤ n → slidWithin n count s ≡ slid count s
