@@ -1,12 +1,13 @@
 -- The frames that N(R) acknowledges are the first of the sent queue: what is left is the list without them.
 use mathlib.Core.Path.{_≡_, refl, sym, ap, _∙_}
 use mathlib.Core.Bool.{Bool, true, false}
-use mathlib.Core.List.{List, [], _∷_}
+use mathlib.Core.List.{List, _∷_}
 use Prim.Native.Nat.{ℕ, zero, suc, _+_, _-_, _≤_, _<_}
 use native.Mathlib.Omega.{arith}
 use borrow.Author.Tests.{ltb-true, ltb-false, lt-ltb, le-ltb}
 use lib.Dec.{ltb}
 use lib.ListN.{take, drop}
+use lib.Seq.{take-nil, drop-nil}
 use Rattle.base.specs.Choice.{pick}
 use Rattle.base.specs.Modulo.{advanced, offset}
 use Rattle.fop.specs.Limits.{largestK}
@@ -30,13 +31,9 @@ module _ (lengths store : List ℕ) (f p nnr nr g : ℕ) where
   abbrev Before : ℕ → Type 0
   Before n = (j : ℕ) → j < n → isAcknowledged nnr nr (at j) ≡ ltb j g
 
-  drop-none : (k : ℕ) → _≡_ {A = List Entry} (drop k []) []
-  drop-none zero = refl
-  drop-none (suc k) = refl
-
-  pub left : (i n : ℕ) → Before (i + n)
-      → unacknowledged nnr nr (from i n) ≡ drop (g - i) (from i n)
-  left i zero h = sym (drop-none (g - i))
+  -- those that stay
+  pub left : (i n : ℕ) → Before (i + n) → unacknowledged nnr nr (from i n) ≡ drop (g - i) (from i n)
+  left i zero h = sym (drop-nil (g - i))
   left i (suc n) h = by (ltb i g) refl (left (suc i) n (λ j k. h j (omega arith))) where
     by : (b : Bool) → ltb i g ≡ b → unacknowledged nnr nr (from (suc i) n) ≡ drop (g - suc i) (from (suc i) n)
         → unacknowledged nnr nr (from i (suc n)) ≡ drop (g - i) (from i (suc n))
@@ -50,12 +47,9 @@ module _ (lengths store : List ℕ) (f p nnr nr g : ℕ) where
         ∙ ap (λ (xs : List Entry). at i ∷ xs) (rest ∙ ap (λ (k : ℕ). drop k (from (suc i) n)) b)
         ∙ ap (λ (k : ℕ). drop k (from i (suc n))) (sym a)
 
-  pub gone : (i n : ℕ) → Before (i + n)
-      → acknowledged nnr nr (from i n) ≡ fdus (take (g - i) (from i n))
-  gone i zero h = by (g - i) where
-    by : (k : ℕ) → _≡_ {A = List Fdu} [] (fdus (take k []))
-    by zero = refl
-    by (suc k) = refl
+  -- those that go
+  pub gone : (i n : ℕ) → Before (i + n) → acknowledged nnr nr (from i n) ≡ fdus (take (g - i) (from i n))
+  gone i zero h = ap fdus (sym (take-nil (g - i)))
   gone i (suc n) h = by (ltb i g) refl (gone (suc i) n (λ j k. h j (omega arith))) where
     by : (b : Bool) → ltb i g ≡ b → acknowledged nnr nr (from (suc i) n) ≡ fdus (take (g - suc i) (from (suc i) n))
         → acknowledged nnr nr (from i (suc n)) ≡ fdus (take (g - i) (from i (suc n)))

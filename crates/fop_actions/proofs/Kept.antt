@@ -130,35 +130,33 @@ module _ (w : Work) (store : List ℕ) (well : WellFormed w store) where
   unfolding act.initiateBcRetransmission act.again act.startTimer act.abort act.holdControl withVariables withQueues withTold
   initiate-bc-retransmission = well
 
-  -- The marks.
-  pub initiate-ad-retransmission : WellFormed (act.initiateAdRetransmission w) store
-  unfolding act.initiateAdRetransmission act.again act.startTimer act.abort withVariables withQueues withTold
-  initiate-ad-retransmission = record {
+  -- Other counts of units, within their bounds.
+  counted : (sent marked : ℕ) → sent ≤ offset (w .variables .vs) (w .variables .nnr) → marked ≤ sent
+      → Formed (w .variables .vs) (w .variables .nnr) sent marked (w .queues .lengths) store
+  counted sent marked few last = record {
     vs-octet = well .vs-octet;
     nnr-octet = well .nnr-octet;
     window = well .window;
-    outstanding = well .outstanding;
-    last = omega arith;
+    outstanding = few;
+    last = last;
     all-places = well .all-places;
     units = well .units;
     room = well .room;
   }
+
+  -- The marks.
+  pub initiate-ad-retransmission : WellFormed (act.initiateAdRetransmission w) store
+  unfolding act.initiateAdRetransmission act.again act.startTimer act.abort withVariables withQueues withTold
+  initiate-ad-retransmission = counted (w .queues .sent) (w .queues .sent) (well .outstanding) (omega arith)
 
   one-fewer : (m s : ℕ) → 0 < m → m ≤ s → s ≤ largestK → offset m 1 ≤ s
   one-fewer m s a b c = omega arith
 
   send-marked : 0 < w .queues .marked → WellFormed (act.sendMarked w) store
   unfolding act.sendMarked act.handDown withVariables withQueues withTold
-  send-marked h = record {
-    vs-octet = well .vs-octet;
-    nnr-octet = well .nnr-octet;
-    window = well .window;
-    outstanding = well .outstanding;
-    last = one-fewer (w .queues .marked) (w .queues .sent) h (well .last) (omega (arith, well .outstanding, well .window));
-    all-places = well .all-places;
-    units = well .units;
-    room = well .room;
-  }
+  send-marked h =
+      let fewer : offset (w .queues .marked) 1 ≤ w .queues .sent = one-fewer (w .queues .marked) (w .queues .sent) h (well .last) (omega (arith, well .outstanding, well .window)) in
+      counted (w .queues .sent) (offset (w .queues .marked) 1) (well .outstanding) fewer
 
   -- One unit more.
   next-octet : (n : ℕ) → advanced n 1 < 256
@@ -201,16 +199,7 @@ module _ (w : Work) (store : List ℕ) (well : WellFormed w store) where
 
   -- No unit.
   empty : Formed (w .variables .vs) (w .variables .nnr) 0 0 (w .queues .lengths) store
-  empty = record {
-    vs-octet = well .vs-octet;
-    nnr-octet = well .nnr-octet;
-    window = well .window;
-    outstanding = omega arith;
-    last = omega arith;
-    all-places = well .all-places;
-    units = well .units;
-    room = well .room;
-  }
+  empty = counted 0 0 (omega arith) (omega arith)
 
   sent-purged : (k : Control) → WellFormed (act.denyControl k (act.emptied w)) store
   unfolding act.denyControl act.respond act.emptied act.releaseBcFrame act.holdControl withQueues withTold

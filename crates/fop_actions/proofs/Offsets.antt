@@ -17,9 +17,11 @@ offset-ge v n h k = omega arith
 pub offset-up : (v n : ℕ) → n < 255 → v < 256 → offset (advanced v 1) (suc n) ≡ offset v n
 offset-up v n a b = omega arith
 
-pub offset-back : (v n : ℕ) → n < 256 → v < 256 → advanced (offset v n) n ≡ v
-offset-back v n a b = omega arith
+-- n back, and n on again
+pub back-and-on : (v n : ℕ) → n < 256 → v < 256 → advanced (offset v n) n ≡ v
+back-and-on v n a b = omega arith
 
+-- two advances are one
 pub mod-add : (f g i : ℕ) → advanced (advanced f g) i ≡ advanced f (g + i)
 mod-add f g i = omega arith
 

@@ -1,9 +1,9 @@
 -- A response is put at the end: the view of the work with one response more is the machine's response on the view, where there is room.
-use Prim.Native.Nat.{ℕ, zero, suc, _+_, _≤_, _<_}
-use mathlib.Core.Path.{_≡_, refl, sym, ap, _∙_}
-use mathlib.Core.List.{List, [], _∷_, _++_, map}
+use Prim.Native.Nat.{ℕ, suc, _+_, _≤_}
+use mathlib.Core.Path.{_≡_, sym, ap, _∙_}
+use mathlib.Core.List.{List, [], _∷_, _++_, map, map-append}
 use mathlib.Core.Option.{Option}
-use Rattle.fop.specs.Units.{Fdu}
+use Rattle.fop.specs.Units.{Fdu, Frame}
 use Rattle.fop.specs.Table as table
 use Rattle.fop.specs.Table.{FopEvent}
 use Rattle.fop.specs.Variables as machine
@@ -14,6 +14,7 @@ use native.Mathlib.Omega.{arith}
 use borrow.Author.Tests.{lt-ltb}
 use lib.Dec.{ltb}
 use lib.ListN.{length, take, set, length-set}
+use lib.Seq.{take-suc-set}
 use Rattle.fop_actions.specs.declared.Response.{Response}
 use Rattle.fop_actions.specs.declared.Response.the-variants.{RejectAdUnit, AcceptBdUnit, RejectBdUnit, AcceptDirective, RejectDirective, ConfirmDirective}
 use Rattle.fop_actions.specs.declared.Responses.{Responses}
@@ -24,14 +25,21 @@ use Rattle.fop_actions.specs.Actions.{responseNumber, responsesWith}
 use Rattle.fop_actions.specs.View.{fopOf, framesOf, responseOf, responsesOf, reasonOf, view}
 use Rattle.fop_actions.proofs.Ways.{yes}
 
-take-set : (xs : List ℕ) (k x : ℕ) → k < length xs → take (suc k) (set xs k x) ≡ take k xs ++ (x ∷ [])
-take-set [] k x h = absurd (omega arith)
-take-set (y ∷ ys) zero x h = refl
-take-set (y ∷ ys) (suc k) x h = ap (λ (zs : List ℕ). y ∷ zs) (take-set ys k x (omega arith))
-
-map-end : (f : ℕ → machine.Response) (xs : List ℕ) (x : ℕ) → map f (xs ++ (x ∷ [])) ≡ map f xs ++ (f x ∷ [])
-map-end f [] x = refl
-map-end f (y ∷ ys) x = ap (λ (zs : List machine.Response). f y ∷ zs) (map-end f ys x)
+-- the work with these variables, frames and responses
+abbrev pub seen : Option FopEvent → List ℕ → ℕ → List Fdu → List Fdu → Work → machine.Fop → List Frame → List machine.Response → machine.Work
+seen e o n c d w f frames responses = record {
+  fop = f;
+  event = e;
+  octets = o;
+  value = n;
+  frames = frames;
+  confirmed = c;
+  denied = d;
+  responses = responses;
+  abort = w .told .abort;
+  alert = reasonOf (w .told .alert);
+  suspended = w .told .suspended;
+}
 
 -- room for n responses more
 pub record Room (n : ℕ) (r : Responses) : Type 0 where
@@ -50,8 +58,8 @@ pub more-responses : (x : ℕ) (r : Responses) → Room 1 r → responsesOf (res
 more-responses x r m =
     ap responsesOf (with-more x r m)
     ∙ ap (λ (j : ℕ). map responseOf (take j (set (r .numbers) (r .count) x))) (add-one (r .count))
-    ∙ ap (map responseOf) (take-set (r .numbers) (r .count) x (omega arith))
-    ∙ map-end responseOf (take (r .count) (r .numbers)) x
+    ∙ ap (map responseOf) (take-suc-set (r .numbers) (r .count) x (omega arith))
+    ∙ map-append responseOf (take (r .count) (r .numbers)) (x ∷ [])
 
 pub room-more : (n x : ℕ) (r : Responses) → Room (suc n) r → Room n (responsesWith x r)
 room-more n x r m = move (more x r) (responsesWith x r)
@@ -68,19 +76,7 @@ module _ (e : Option FopEvent) (o : List ℕ) (n : ℕ) (c d : List Fdu) (w : Wo
   pub respond : (r : Response) → machine.respond (responseNamed r) (view e o n c d w store) ≡ view e o n c d (act.respond r w) store
   unfolding act.respond withTold
   respond r =
-      ap (λ (rs : List machine.Response). record {
-        fop = fopOf w store;
-        event = e;
-        octets = o;
-        value = n;
-        frames = framesOf (w .told .handed) (w .queues .lengths) store o;
-        confirmed = c;
-        denied = d;
-        responses = rs;
-        abort = w .told .abort;
-        alert = reasonOf (w .told .alert);
-        suspended = w .told .suspended;
-      }) (sym (more-responses (responseNumber r) (w .told .responses) room))
+      ap (seen e o n c d w (fopOf w store) (framesOf (w .told .handed) (w .queues .lengths) store o)) (sym (more-responses (responseNumber r) (w .told .responses) room))
 
   pub accept : perform table.Accept (view e o n c d w store) ≡ view e o n c d (act.respond AcceptDirective w) store
   unfolding perform

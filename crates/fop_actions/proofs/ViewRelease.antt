@@ -1,5 +1,5 @@
--- What leaves the queues: both queues purged, Alert, Initialise, and the acknowledged frames removed. The view of the action's result is
--- the machine's action on the view; the runs told are those of the machine's lists.
+-- Both queues purged, as Alert and Initialise do: the view of the action's result is the machine's action on the view. The machine empties
+-- both queues and then answers, the code one queue after the other.
 use mathlib.Core.Path.{_≡_, refl, sym, ap, _∙_}
 use mathlib.Core.Bool.{Bool, true, false}
 use mathlib.Core.List.{List, [], _++_}

@@ -29,7 +29,7 @@ use Rattle.fop_actions.specs.View.{unitAt, entryAt, entriesFrom, entries
 use Rattle.fop_actions.proofs.Offsets.{offset-ge, offset-add}
 use Rattle.fop_actions.proofs.SentQueue.{unit-slid, entries-slid, dropped}
 use Rattle.fop_actions.proofs.Acknowledged.{left, gone as gone-units, acknowledged-place}
-use Rattle.fop_actions.proofs.ViewTransmit.{seen}
+use Rattle.fop_actions.proofs.ViewAnswers.{seen}
 
 -- the least of two numbers is not above the first
 pub least-first : (a b : ℕ) → least a b ≤ a

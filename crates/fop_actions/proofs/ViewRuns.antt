@@ -1,7 +1,7 @@
 -- The runs of units that the work tells, by first number and count, are those of the machine's lists of units confirmed and denied.
 use mathlib.Core.Path.{_≡_, refl, sym, ap, _∙_}
 use mathlib.Core.Bool.{Bool, true, false}
-use mathlib.Core.List.{List}
+use mathlib.Core.List.{List, _∷_}
 use Prim.Native.Nat.{ℕ, zero, suc, _-_, _≤_}
 use native.Mathlib.Omega.{arith}
 use borrow.Author.Tests.{ne-eqb}
@@ -10,6 +10,7 @@ use lib.ListN.{length, take}
 use Rattle.base.specs.Choice.{pick}
 use Rattle.base.specs.Modulo.{advanced, offset}
 use Rattle.fop.specs.Answers.{runOf}
+use Rattle.fop.specs.Variables.{Entry}
 use Rattle.fop.specs.Machine.{fdus}
 use Rattle.fop_actions.specs.declared.Alert.{Alert}
 use Rattle.fop_actions.specs.declared.Control.{Control}
@@ -19,7 +20,7 @@ use Rattle.fop_actions.specs.declared.Work.{Work}
 use Rattle.fop_actions.specs.Parts.{withVariables, withQueues, withTold}
 use Rattle.fop_actions.specs.Actions as act
 use Rattle.fop_actions.specs.Actions.{runFrom, staying}
-use Rattle.fop_actions.specs.View.{entriesFrom, entriesOf, runTold, WellFormed}
+use Rattle.fop_actions.specs.View.{entryAt, entriesFrom, entriesOf, runTold, WellFormed}
 use Rattle.fop_actions.proofs.Ways.{no}
 use Rattle.fop_actions.proofs.ViewRemoval.{gone-is}
 
@@ -28,9 +29,9 @@ taken-length lengths store f p i n zero h = refl
 taken-length lengths store f p i zero (suc g) h = absurd (omega arith)
 taken-length lengths store f p i (suc n) (suc g) h = ap suc (taken-length lengths store f p (suc i) n g (omega arith))
 
-all-length : (lengths store : List ℕ) (f p i n : ℕ) → length (fdus (entriesFrom lengths store f p i n)) ≡ n
-all-length lengths store f p i zero = refl
-all-length lengths store f p i (suc n) = ap suc (all-length lengths store f p (suc i) n)
+all-taken : (lengths store : List ℕ) (f p i n : ℕ) → take n (entriesFrom lengths store f p i n) ≡ entriesFrom lengths store f p i n
+all-taken lengths store f p i zero = refl
+all-taken lengths store f p i (suc n) = ap (λ (xs : List Entry). entryAt lengths store f p i ∷ xs) (all-taken lengths store f p (suc i) n)
 
 first-number : (vs sent : ℕ) → advanced (offset vs sent) 0 ≡ offset vs sent
 first-number vs sent = omega arith
@@ -46,11 +47,8 @@ run-taken lengths store vs (suc n) marked (suc g) h =
     ∙ ap (λ (x : ℕ). record { number = x; count = suc g }) (sym (no (eqb (suc g) 0) 0 (offset vs (suc n)) (ne-eqb (suc g) 0 (λ q. omega arith))))
 
 run-all : (lengths store : List ℕ) (vs sent marked : ℕ) → runOf (fdus (entriesOf lengths store vs sent marked)) ≡ runTold (runFrom (offset vs sent) sent)
-run-all lengths store vs zero marked = refl
-run-all lengths store vs (suc n) marked =
-    ap (λ (x : ℕ). record { number = advanced (offset vs (suc n)) 0; count = suc x }) (all-length lengths store (offset vs (suc n)) (suc n - marked) 1 n)
-    ∙ ap (λ (x : ℕ). record { number = x; count = suc n }) (first-number vs (suc n))
-    ∙ ap (λ (x : ℕ). record { number = x; count = suc n }) (sym (no (eqb (suc n) 0) 0 (offset vs (suc n)) (ne-eqb (suc n) 0 (λ q. omega arith))))
+run-all lengths store vs sent marked =
+    ap (λ (xs : List Entry). runOf (fdus xs)) (sym (all-taken lengths store (offset vs sent) (sent - marked) 0 sent)) ∙ run-taken lengths store vs sent marked sent (omega arith)
 
 -- the run confirmed by Remove acknowledged frames
 pub confirmed-run : (w : Work) (store : List ℕ) (n : ℕ) → WellFormed w store

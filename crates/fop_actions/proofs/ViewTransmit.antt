@@ -27,25 +27,9 @@ use Rattle.fop_actions.specs.Parts.{withVariables, withQueues, withTold}
 use Rattle.fop_actions.specs.Actions as act
 use Rattle.fop_actions.specs.View.{unitAt, entryAt, entriesFrom, entriesOf, waitOf, bcOf, fopOf, framesOf, responsesOf, reasonOf, view, WellFormed}
 use Rattle.fop_actions.proofs.Ways.{yes, no}
-use Rattle.fop_actions.proofs.Offsets.{offset-ge, offset-add, offset-up, offset-back}
+use Rattle.fop_actions.proofs.Offsets.{offset-ge, offset-add, offset-up, back-and-on}
 use Rattle.fop_actions.proofs.SentQueue.{mark-all, unmarked, unmark-first, first-marked, none-marked, one-more}
-use Rattle.fop_actions.proofs.ViewAnswers.{Room, more-responses}
-
--- the work with these variables, frames and responses
-abbrev pub seen : Option FopEvent → List ℕ → ℕ → List Fdu → List Fdu → Work → machine.Fop → List Frame → List machine.Response → machine.Work
-seen e o n c d w f frames responses = record {
-  fop = f;
-  event = e;
-  octets = o;
-  value = n;
-  frames = frames;
-  confirmed = c;
-  denied = d;
-  responses = responses;
-  abort = w .told .abort;
-  alert = reasonOf (w .told .alert);
-  suspended = w .told .suspended;
-}
+use Rattle.fop_actions.proofs.ViewAnswers.{seen, Room, more-responses}
 
 module _ (e : Option FopEvent) (o : List ℕ) (n : ℕ) (c d : List Fdu) (w : Work) (store : List ℕ) where
   -- Initiate AD retransmission, Initiate BC retransmission
@@ -101,7 +85,7 @@ sent-more lengths store vs n m e s k =
     let c : suc n - m ≡ suc n = omega arith in
     let d : n - m ≡ n = omega arith in
     let j : 0 + n ≡ n = omega arith in
-    let g : advanced f (0 + n) ≡ vs = ap (advanced f) j ∙ offset-back vs n (omega arith) k in
+    let g : advanced f (0 + n) ≡ vs = ap (advanced f) j ∙ back-and-on vs n (omega arith) k in
     ap (λ (x : ℕ). entriesFrom lengths store (offset (advanced vs 1) x) (x - m) 0 x) a
     ∙ ap (λ (x : ℕ). entriesFrom lengths store x (suc n - m) 0 (suc n)) b
     ∙ ap (λ (x : ℕ). entriesFrom lengths store f x 0 (suc n)) c
@@ -135,16 +119,6 @@ module _ (e : Option FopEvent) (o : List ℕ) (n : ℕ) (c d : List Fdu) (w : Wo
   transmit-bd = ap (λ (x : List Frame). seen e o n c d w (fopOf (act.transmitBdFrame w) store) (x ++ (BD o ∷ [])) (responsesOf (w .told .responses))) no-frames
 
   -- Look for directive, with the frame x on the Sent_Queue
-  both-on : {a b : Bool} → a ≡ true → b ≡ true → a && b ≡ true
-  both-on p q = rw (p, q)
-
-  left-off : (a b : Bool) → a ≡ false → a && b ≡ false
-  left-off a b p = rw p
-
-  right-off : (a b : Bool) → b ≡ false → a && b ≡ false
-  right-off true b p = p
-  right-off false b p = refl
-
   looked : (x : Frame) (h : Handed) → framesOf h (w .queues .lengths) store o ≡ x ∷ [] → bcOf (w .queues .control) false ≡ some (record { frame = x; marked = false })
       → (a m : Bool) → w .variables .«bc_out» ≡ a → w .queues .«control_marked» ≡ m
       → lookForDirective (some (record { frame = x; marked = w .queues .«control_marked» })) (view e o n c d w store) ≡ view e o n c d (pick a (pick m (act.sendControl h w) w) w) store
@@ -152,12 +126,13 @@ module _ (e : Option FopEvent) (o : List ℕ) (n : ℕ) (c d : List Fdu) (w : Wo
   looked x h f b true true p q =
       let F : Option BcEntry → List Frame → machine.Work = λ y fr.
       seen e o n c d w (machine.setOut (w .variables .«ad_out») false (w .variables .«bd_out») (machine.setBc y (fopOf w store))) fr (responsesOf (w .told .responses)) in
-      yes (w .queues .«control_marked» && w .variables .«bc_out») _ _ (both-on q p)
+      yes (w .queues .«control_marked» && w .variables .«bc_out») _ _ (rw (q, p))
       ∙ ap (λ (fr : List Frame). F (some (record { frame = x; marked = false })) (fr ++ (x ∷ []))) no-frames
       ∙ ap (F (some (record { frame = x; marked = false }))) (sym f)
       ∙ ap (λ (y : Option BcEntry). F y (framesOf h (w .queues .lengths) store o)) (sym b)
-  looked x h f b true false p q = no (w .queues .«control_marked» && w .variables .«bc_out») _ _ (left-off (w .queues .«control_marked») (w .variables .«bc_out») q)
-  looked x h f b false m p q = no (w .queues .«control_marked» && w .variables .«bc_out») _ _ (right-off (w .queues .«control_marked») (w .variables .«bc_out») p)
+  looked x h f b true false p q = no (w .queues .«control_marked» && w .variables .«bc_out») _ _ (rw q)
+  looked x h f b false true p q = no (w .queues .«control_marked» && w .variables .«bc_out») _ _ (rw (q, p))
+  looked x h f b false false p q = no (w .queues .«control_marked» && w .variables .«bc_out») _ _ (rw q)
 
   looked-of : (k : Control) → w .queues .control ≡ k
       → lookForDirective (bcOf k (w .queues .«control_marked»)) (view e o n c d w store) ≡ view e o n c d (act.lookForDirectiveOf k w) store

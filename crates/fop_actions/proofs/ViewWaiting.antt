@@ -8,7 +8,7 @@ use native.Mathlib.Omega.{arith}
 use borrow.Author.Tests.{lt-ltb}
 use lib.Dec.{leb, ltb}
 use lib.ListN.{length, take, drop, getD, set, take-append-drop, length-drop}
-use lib.Seq.{drop-append-le, take-append-le, length-take-le, drop-append-seam, take-append-seam}
+use lib.Seq.{drop-append-le, take-append-le, length-take-le, drop-append-seam, take-append-seam, getD-set-same, getD-set-other}
 use Rattle.base.specs.Choice.{pick}
 use Rattle.base.specs.Limits.{largestUnit}
 use Rattle.base.specs.Modulo.{advanced, offset}
@@ -28,7 +28,7 @@ use Rattle.fop_actions.specs.Actions as act
 use Rattle.fop_actions.specs.Limits.{places}
 use Rattle.fop_actions.specs.View.{unitAt, entryAt, entriesFrom, entriesOf, fopOf, framesOf, responsesOf, view, WellFormed}
 use Rattle.fop_actions.proofs.Ways.{yes}
-use Rattle.fop_actions.proofs.ViewTransmit.{seen}
+use Rattle.fop_actions.proofs.ViewAnswers.{seen}
 
 -- a part before place a, whatever stands from a on
 part-before : (a b m : ℕ) (xs ys : List ℕ) → length xs ≡ a → b + m ≤ a → take m (drop b (xs ++ ys)) ≡ take m (drop b xs)
@@ -58,17 +58,6 @@ module _ (store u : List ℕ) (a : ℕ) (room : a + length u ≤ length store) w
       ∙ ap (take (length u)) (drop-append-seam (take a store) X)
       ∙ take-append-seam u (drop (a + length u) store)
 
-set-other : (xs : List ℕ) (i j x : ℕ) → i < j → j < length xs → getD (set xs j x) i 0 ≡ getD xs i 0
-set-other [] i j x h l = absurd (omega arith)
-set-other (y ∷ ys) i zero x h l = absurd (omega arith)
-set-other (y ∷ ys) zero (suc j) x h l = refl
-set-other (y ∷ ys) (suc i) (suc j) x h l = set-other ys i j x (omega arith) (omega arith)
-
-set-here : (xs : List ℕ) (j x : ℕ) → j < length xs → getD (set xs j x) j 0 ≡ x
-set-here [] j x l = absurd (omega arith)
-set-here (y ∷ ys) zero x l = refl
-set-here (y ∷ ys) (suc j) x l = set-here ys j x (omega arith)
-
 -- the units before place `sent` are as they were, and the unit u stands at that place
 module _ (lengths store u : List ℕ) (f p sent : ℕ) (few : sent < places) (ll : length lengths ≡ places) (units : (i : ℕ) → getD lengths i 0 ≤ largestUnit)
     (room : largestUnit * sent + length u ≤ length store) where
@@ -77,7 +66,7 @@ module _ (lengths store u : List ℕ) (f p sent : ℕ) (few : sent < places) (ll
 
   pub unit-same : (i : ℕ) → i < sent → unitAt (set lengths sent (length u)) i put ≡ unitAt lengths i store
   unit-same i h =
-      ap (λ (x : ℕ). take x (drop (largestUnit * i) put)) (set-other lengths i sent (length u) h (omega arith))
+      ap (λ (x : ℕ). take x (drop (largestUnit * i) put)) (getD-set-other lengths sent i (length u) 0 (λ e. omega arith))
       ∙ part-same store u (largestUnit * sent) room (largestUnit * i) (getD lengths i 0) (omega (arith, units i))
 
   pub entries-same : (i n : ℕ) → i + n ≤ sent → entriesFrom (set lengths sent (length u)) put f p i n ≡ entriesFrom lengths store f p i n
@@ -89,7 +78,7 @@ module _ (lengths store u : List ℕ) (f p sent : ℕ) (few : sent < places) (ll
 
   pub unit-there : unitAt (set lengths sent (length u)) sent put ≡ u
   unit-there =
-      ap (λ (x : ℕ). take x (drop (largestUnit * sent) put)) (set-here lengths sent (length u) (omega arith)) ∙ part-there store u (largestUnit * sent) room
+      ap (λ (x : ℕ). take x (drop (largestUnit * sent) put)) (getD-set-same lengths sent (length u) 0 (omega arith)) ∙ part-there store u (largestUnit * sent) room
 
 module _ (e : Option FopEvent) (o : List ℕ) (n : ℕ) (c d : List Fdu) (w : Work) (store : List ℕ) (first : w .told .handed ≡ handed.None) (well : WellFormed w store)
     (legal : length o ≤ largestUnit) where

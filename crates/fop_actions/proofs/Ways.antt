@@ -11,6 +11,7 @@ use Rattle.fop_actions.specs.declared.Control.the-variants.{None}
 use Rattle.fop_actions.specs.declared.Response.the-variants.{AcceptAdUnit, RejectAdUnit}
 use Rattle.fop_actions.specs.Actions.{respond, sendMarked, inWindow, transmitAdFrame, lookForFdu, sendControl, sendMarkedControl, lookForDirectiveOf, lookForDirective, denyControl, notWaiting, purgeWaitQueue}
 
+-- a choice whose test is decided
 pub yes : {A : Type 0} (b : Bool) (x y : A) → b ≡ true → pick b x y ≡ x
 yes b x y p = rw p
 

@@ -28,7 +28,7 @@ past k a l p q r = omega arith
 last : (k a : ℕ) → k ≤ a → (a ≡ k → ⊥) → a < k + 2 → a ≡ k + 1
 last k a l p h = omega arith
 
--- the last of Alert's numbers
+-- the last of Alert's numbers, by steps: arithmetic goes by cases at each number that is excluded, and seven at once are too many
 pub last-alert : (a : ℕ) → 7 ≤ a → a < 15 → (a ≡ 7 → ⊥) → (a ≡ 8 → ⊥) → (a ≡ 9 → ⊥) → (a ≡ 10 → ⊥) → (a ≡ 11 → ⊥) → (a ≡ 12 → ⊥) → (a ≡ 13 → ⊥) → a ≡ 14
 last-alert a l h p q r s t u v = last 13 a (past 10 a (past 7 a l p q r) s t u) v h
 

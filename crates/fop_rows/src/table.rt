@@ -1,4 +1,5 @@
-// Table 7-8 as data: the actions of clause 7.9.2 by number, the cells, and the rows.
+// Table 7-8 as data: the actions of clause 7.9.2 by number, the cells, and the rows. A row is compared with the standard's by its event's
+// number; the cells that it names stand in CELLS under their names.
 
 // The actions.
 pub const IGNORE: u8 = 0;
@@ -102,7 +103,7 @@ pub const S5: u8 = 5;
 
 pub const S6: u8 = 6;
 
-// The cells by number.
+// The cells by number, each its place in CELLS. NOTHING is Ignore where the state stays, and Not Applicable.
 const NOTHING: u8 = 0;
 
 const TO_ALERT_SYNCH: u8 = 1;
@@ -203,18 +204,29 @@ const BC_READY: u8 = 48;
 
 const BD_READY: u8 = 49;
 
-// What each cell asks: at most five actions in their order, and the next state.
+// What each cell asks: at most five actions in their order, filled up with Ignore, and the next state.
 pub const CELLS: [[u8; 6]; 50] = [
+    // NOTHING.
     [IGNORE, IGNORE, IGNORE, IGNORE, IGNORE, KEEP],
+    // TO_ALERT_SYNCH.
     [ALERT_SYNCH, IGNORE, IGNORE, IGNORE, IGNORE, S6],
+    // TO_ALERT_CLCW.
     [ALERT_CLCW, IGNORE, IGNORE, IGNORE, IGNORE, S6],
+    // TO_ALERT_LIMIT.
     [ALERT_LIMIT, IGNORE, IGNORE, IGNORE, IGNORE, S6],
+    // TO_ALERT_NNR.
     [ALERT_NNR, IGNORE, IGNORE, IGNORE, IGNORE, S6],
+    // TO_ALERT_LOCKOUT.
     [ALERT_LOCKOUT, IGNORE, IGNORE, IGNORE, IGNORE, S6],
+    // TO_ALERT_T1.
     [ALERT_T1, IGNORE, IGNORE, IGNORE, IGNORE, S6],
+    // TO_ALERT_LLIF.
     [ALERT_LLIF, IGNORE, IGNORE, IGNORE, IGNORE, S6],
+    // CHECKED.
     [CONFIRM, CANCEL_TIMER, IGNORE, IGNORE, IGNORE, S1],
+    // CARRIED_OUT.
     [CONFIRM, RELEASE_BC, CANCEL_TIMER, IGNORE, IGNORE, S1],
+    // ALL_ACKNOWLEDGED.
     [
         REMOVE_ACKNOWLEDGED,
         CANCEL_TIMER,
@@ -223,6 +235,7 @@ pub const CELLS: [[u8; 6]; 50] = [
         IGNORE,
         S1,
     ],
+    // SOME_ACKNOWLEDGED.
     [
         REMOVE_ACKNOWLEDGED,
         LOOK_FOR_FDU,
@@ -231,7 +244,9 @@ pub const CELLS: [[u8; 6]; 50] = [
         IGNORE,
         S1,
     ],
+    // ACKNOWLEDGED_LIMIT.
     [REMOVE_ACKNOWLEDGED, ALERT_LIMIT, IGNORE, IGNORE, IGNORE, S6],
+    // ACKNOWLEDGED_AGAIN.
     [
         REMOVE_ACKNOWLEDGED,
         INITIATE_AD,
@@ -240,9 +255,13 @@ pub const CELLS: [[u8; 6]; 50] = [
         IGNORE,
         S2,
     ],
+    // ACKNOWLEDGED_WAIT.
     [REMOVE_ACKNOWLEDGED, IGNORE, IGNORE, IGNORE, IGNORE, S3],
+    // AGAIN_TO_S2.
     [INITIATE_AD, LOOK_FOR_FDU, IGNORE, IGNORE, IGNORE, S2],
+    // AGAIN.
     [INITIATE_AD, LOOK_FOR_FDU, IGNORE, IGNORE, IGNORE, KEEP],
+    // AGAIN_BC.
     [
         INITIATE_BC,
         LOOK_FOR_DIRECTIVE,
@@ -251,12 +270,19 @@ pub const CELLS: [[u8; 6]; 50] = [
         IGNORE,
         KEEP,
     ],
+    // TO_S2.
     [IGNORE, IGNORE, IGNORE, IGNORE, IGNORE, S2],
+    // TO_S3.
     [IGNORE, IGNORE, IGNORE, IGNORE, IGNORE, S3],
+    // SUSPEND_1.
     [SUSPEND_STATE_1, SUSPEND, IGNORE, IGNORE, IGNORE, S6],
+    // SUSPEND_2.
     [SUSPEND_STATE_2, SUSPEND, IGNORE, IGNORE, IGNORE, S6],
+    // SUSPEND_3.
     [SUSPEND_STATE_3, SUSPEND, IGNORE, IGNORE, IGNORE, S6],
+    // SUSPEND_4.
     [SUSPEND_STATE_4, SUSPEND, IGNORE, IGNORE, IGNORE, S6],
+    // ADD_AND_LOOK.
     [
         ADD_TO_WAIT_QUEUE,
         LOOK_FOR_FDU,
@@ -265,28 +291,51 @@ pub const CELLS: [[u8; 6]; 50] = [
         IGNORE,
         KEEP,
     ],
+    // ADD.
     [ADD_TO_WAIT_QUEUE, IGNORE, IGNORE, IGNORE, IGNORE, KEEP],
+    // REJECTED_AD.
     [REJECT_AD, IGNORE, IGNORE, IGNORE, IGNORE, KEEP],
+    // SEND_BD.
     [TRANSMIT_BD, IGNORE, IGNORE, IGNORE, IGNORE, KEEP],
+    // REJECTED_BD.
     [REJECT_BD, IGNORE, IGNORE, IGNORE, IGNORE, KEEP],
+    // REJECTED.
     [REJECT, IGNORE, IGNORE, IGNORE, IGNORE, KEEP],
+    // INITIATE.
     [ACCEPT, INITIALISE, CONFIRM, IGNORE, IGNORE, S1],
+    // INITIATE_CHECK.
     [ACCEPT, INITIALISE, START_TIMER, IGNORE, IGNORE, S4],
+    // INITIATE_UNLOCK.
     [ACCEPT, INITIALISE, TRANSMIT_UNLOCK, IGNORE, IGNORE, S5],
+    // INITIATE_SET_VR.
     [ACCEPT, INITIALISE, SET_VS, SET_NNR, TRANSMIT_SET_VR, S5],
+    // TERMINATE.
     [ACCEPT, ALERT_TERM, CONFIRM, IGNORE, IGNORE, S6],
+    // TERMINATED.
     [ACCEPT, CONFIRM, IGNORE, IGNORE, IGNORE, KEEP],
+    // RESUME_1.
     [ACCEPT, RESUME, CONFIRM, IGNORE, IGNORE, S1],
+    // RESUME_2.
     [ACCEPT, RESUME, CONFIRM, IGNORE, IGNORE, S2],
+    // RESUME_3.
     [ACCEPT, RESUME, CONFIRM, IGNORE, IGNORE, S3],
+    // RESUME_4.
     [ACCEPT, RESUME, CONFIRM, IGNORE, IGNORE, S4],
+    // NUMBERS_SET.
     [ACCEPT, SET_VS, SET_NNR, CONFIRM, IGNORE, KEEP],
+    // K_SET.
     [ACCEPT, SET_K, CONFIRM, IGNORE, IGNORE, KEEP],
+    // T1_SET.
     [ACCEPT, SET_T1, CONFIRM, IGNORE, IGNORE, KEEP],
+    // LIMIT_SET.
     [ACCEPT, SET_LIMIT, CONFIRM, IGNORE, IGNORE, KEEP],
+    // TIMEOUT_TYPE_SET.
     [ACCEPT, SET_TIMEOUT_TYPE, CONFIRM, IGNORE, IGNORE, KEEP],
+    // AD_READY_LOOK.
     [AD_OUT_READY, LOOK_FOR_FDU, IGNORE, IGNORE, IGNORE, KEEP],
+    // AD_READY.
     [AD_OUT_READY, IGNORE, IGNORE, IGNORE, IGNORE, KEEP],
+    // BC_READY_LOOK.
     [
         BC_OUT_READY,
         LOOK_FOR_DIRECTIVE,
@@ -295,15 +344,18 @@ pub const CELLS: [[u8; 6]; 50] = [
         IGNORE,
         KEEP,
     ],
+    // BC_READY.
     [BC_OUT_READY, IGNORE, IGNORE, IGNORE, IGNORE, KEEP],
+    // BD_READY.
     [BD_OUT_READY, ACCEPT_BD, IGNORE, IGNORE, IGNORE, KEEP],
 ];
 
-// The rows, each with its cells in S1 to S6: no event, E1 to E46, E101 to E104.
+// The rows, each with its cells in S1 to S6: no event, E1 to E46, E101 to E104. E1 to E14 and E101 to E103 are those of a valid CLCW, all but
+// E14 with Lockout Flag = 0; E23 to E40 those of a directive; E41 to E46 those of a response from the lower layer.
 pub const ROWS: [[u8; 6]; 51] = [
     // No event.
     [NOTHING, NOTHING, NOTHING, NOTHING, NOTHING, NOTHING],
-    // E1.
+    // E1: N(R) = V(S), Retransmit Flag = 0, Wait Flag = 0, N(R) = NN(R).
     [
         NOTHING,
         TO_ALERT_SYNCH,
@@ -312,7 +364,7 @@ pub const ROWS: [[u8; 6]; 51] = [
         CARRIED_OUT,
         NOTHING,
     ],
-    // E2.
+    // E2: N(R) = V(S), Retransmit Flag = 0, Wait Flag = 0, N(R) <> NN(R).
     [
         ALL_ACKNOWLEDGED,
         ALL_ACKNOWLEDGED,
@@ -321,7 +373,7 @@ pub const ROWS: [[u8; 6]; 51] = [
         NOTHING,
         NOTHING,
     ],
-    // E3.
+    // E3: N(R) = V(S), Retransmit Flag = 0, Wait Flag = 1.
     [
         TO_ALERT_CLCW,
         TO_ALERT_CLCW,
@@ -330,7 +382,7 @@ pub const ROWS: [[u8; 6]; 51] = [
         TO_ALERT_CLCW,
         NOTHING,
     ],
-    // E4.
+    // E4: N(R) = V(S), Retransmit Flag = 1.
     [
         TO_ALERT_SYNCH,
         TO_ALERT_SYNCH,
@@ -339,7 +391,7 @@ pub const ROWS: [[u8; 6]; 51] = [
         NOTHING,
         NOTHING,
     ],
-    // E5.
+    // E5: NN(R) <= N(R) < V(S), Retransmit Flag = 0, Wait Flag = 0, N(R) = NN(R).
     [
         NOTHING,
         TO_ALERT_SYNCH,
@@ -348,7 +400,7 @@ pub const ROWS: [[u8; 6]; 51] = [
         NOTHING,
         NOTHING,
     ],
-    // E6.
+    // E6: NN(R) <= N(R) < V(S), Retransmit Flag = 0, Wait Flag = 0, N(R) <> NN(R).
     [
         SOME_ACKNOWLEDGED,
         SOME_ACKNOWLEDGED,
@@ -357,7 +409,7 @@ pub const ROWS: [[u8; 6]; 51] = [
         NOTHING,
         NOTHING,
     ],
-    // E7.
+    // E7: NN(R) <= N(R) < V(S), Retransmit Flag = 0, Wait Flag = 1.
     [
         TO_ALERT_CLCW,
         TO_ALERT_CLCW,
@@ -366,7 +418,7 @@ pub const ROWS: [[u8; 6]; 51] = [
         NOTHING,
         NOTHING,
     ],
-    // E8.
+    // E8: NN(R) <= N(R) < V(S), Retransmit Flag = 1, Transmission_Limit > 1, N(R) <> NN(R), Wait Flag = 0.
     [
         ACKNOWLEDGED_AGAIN,
         ACKNOWLEDGED_AGAIN,
@@ -375,7 +427,7 @@ pub const ROWS: [[u8; 6]; 51] = [
         NOTHING,
         NOTHING,
     ],
-    // E9.
+    // E9: as E8, Wait Flag = 1.
     [
         ACKNOWLEDGED_WAIT,
         ACKNOWLEDGED_WAIT,
@@ -384,13 +436,13 @@ pub const ROWS: [[u8; 6]; 51] = [
         NOTHING,
         NOTHING,
     ],
-    // E10.
+    // E10: NN(R) <= N(R) < V(S), Retransmit Flag = 1, Transmission_Limit > 1, N(R) = NN(R), Transmission_Count < Transmission_Limit, Wait Flag = 0.
     [AGAIN_TO_S2, NOTHING, AGAIN_TO_S2, NOTHING, NOTHING, NOTHING],
-    // E11.
+    // E11: as E10, Wait Flag = 1.
     [TO_S3, TO_S3, TO_S3, NOTHING, NOTHING, NOTHING],
-    // E12.
+    // E12: as E10, Transmission_Count >= Transmission_Limit, Wait Flag = 0.
     [TO_S2, TO_S2, TO_S2, NOTHING, NOTHING, NOTHING],
-    // E13.
+    // E13: N(R) < NN(R) or > V(S).
     [
         TO_ALERT_NNR,
         TO_ALERT_NNR,
@@ -399,7 +451,7 @@ pub const ROWS: [[u8; 6]; 51] = [
         NOTHING,
         NOTHING,
     ],
-    // E14.
+    // E14: Lockout Flag = 1.
     [
         TO_ALERT_LOCKOUT,
         TO_ALERT_LOCKOUT,
@@ -408,7 +460,7 @@ pub const ROWS: [[u8; 6]; 51] = [
         NOTHING,
         NOTHING,
     ],
-    // E15.
+    // E15: CLCW with pattern of bits invalid under COP-1.
     [
         TO_ALERT_CLCW,
         TO_ALERT_CLCW,
@@ -417,9 +469,9 @@ pub const ROWS: [[u8; 6]; 51] = [
         TO_ALERT_CLCW,
         NOTHING,
     ],
-    // E16.
+    // E16: Timer expires, Transmission_Count < Transmission_Limit, Timeout_Type = 0.
     [AGAIN, AGAIN, NOTHING, TO_ALERT_T1, AGAIN_BC, NOTHING],
-    // E17.
+    // E17: Timer expires, Transmission_Count >= Transmission_Limit, Timeout_Type = 0.
     [
         TO_ALERT_T1,
         TO_ALERT_T1,
@@ -428,7 +480,7 @@ pub const ROWS: [[u8; 6]; 51] = [
         TO_ALERT_T1,
         NOTHING,
     ],
-    // E18.
+    // E18: Timer expires, Transmission_Count >= Transmission_Limit, Timeout_Type = 1.
     [
         SUSPEND_1,
         SUSPEND_2,
@@ -437,7 +489,7 @@ pub const ROWS: [[u8; 6]; 51] = [
         TO_ALERT_T1,
         NOTHING,
     ],
-    // E19.
+    // E19: Request to Transfer FDU, AD Service, Wait_Queue empty.
     [
         ADD_AND_LOOK,
         ADD_AND_LOOK,
@@ -446,7 +498,7 @@ pub const ROWS: [[u8; 6]; 51] = [
         REJECTED_AD,
         REJECTED_AD,
     ],
-    // E20.
+    // E20: Request to Transfer FDU, AD Service, Wait_Queue not empty.
     [
         REJECTED_AD,
         REJECTED_AD,
@@ -455,9 +507,9 @@ pub const ROWS: [[u8; 6]; 51] = [
         REJECTED_AD,
         REJECTED_AD,
     ],
-    // E21.
+    // E21: Request to Transfer FDU, BD Service, BD_Out_Flag = Ready.
     [SEND_BD, SEND_BD, SEND_BD, SEND_BD, SEND_BD, SEND_BD],
-    // E22.
+    // E22: Request to Transfer FDU, BD Service, BD_Out_Flag = Not_Ready.
     [
         REJECTED_BD,
         REJECTED_BD,
@@ -466,9 +518,9 @@ pub const ROWS: [[u8; 6]; 51] = [
         REJECTED_BD,
         REJECTED_BD,
     ],
-    // E23.
+    // E23: Initiate AD Service (without CLCW check).
     [REJECTED, REJECTED, REJECTED, REJECTED, REJECTED, INITIATE],
-    // E24.
+    // E24: Initiate AD Service (with CLCW check).
     [
         REJECTED,
         REJECTED,
@@ -477,7 +529,7 @@ pub const ROWS: [[u8; 6]; 51] = [
         REJECTED,
         INITIATE_CHECK,
     ],
-    // E25.
+    // E25: Initiate AD Service (with Unlock), BC_Out_Flag = Ready.
     [
         REJECTED,
         REJECTED,
@@ -486,9 +538,9 @@ pub const ROWS: [[u8; 6]; 51] = [
         REJECTED,
         INITIATE_UNLOCK,
     ],
-    // E26.
+    // E26: Initiate AD Service (with Unlock), BC_Out_Flag = Not_Ready.
     [REJECTED, REJECTED, REJECTED, REJECTED, REJECTED, REJECTED],
-    // E27.
+    // E27: Initiate AD Service (with Set V(R)), BC_Out_Flag = Ready.
     [
         REJECTED,
         REJECTED,
@@ -497,9 +549,9 @@ pub const ROWS: [[u8; 6]; 51] = [
         REJECTED,
         INITIATE_SET_VR,
     ],
-    // E28.
+    // E28: Initiate AD Service (with Set V(R)), BC_Out_Flag = Not_Ready.
     [REJECTED, REJECTED, REJECTED, REJECTED, REJECTED, REJECTED],
-    // E29.
+    // E29: Terminate AD Service.
     [
         TERMINATE,
         TERMINATE,
@@ -508,17 +560,17 @@ pub const ROWS: [[u8; 6]; 51] = [
         TERMINATE,
         TERMINATED,
     ],
-    // E30.
+    // E30: Resume AD Service, SS = 0.
     [REJECTED, REJECTED, REJECTED, REJECTED, REJECTED, REJECTED],
-    // E31.
+    // E31: Resume AD Service, SS = 1.
     [NOTHING, NOTHING, NOTHING, NOTHING, NOTHING, RESUME_1],
-    // E32.
+    // E32: Resume AD Service, SS = 2.
     [NOTHING, NOTHING, NOTHING, NOTHING, NOTHING, RESUME_2],
-    // E33.
+    // E33: Resume AD Service, SS = 3.
     [NOTHING, NOTHING, NOTHING, NOTHING, NOTHING, RESUME_3],
-    // E34.
+    // E34: Resume AD Service, SS = 4.
     [NOTHING, NOTHING, NOTHING, NOTHING, NOTHING, RESUME_4],
-    // E35.
+    // E35: Set V(S) to V*(S), where SS = 0; else the row of E40 is taken.
     [
         REJECTED,
         REJECTED,
@@ -527,11 +579,11 @@ pub const ROWS: [[u8; 6]; 51] = [
         REJECTED,
         NUMBERS_SET,
     ],
-    // E36.
+    // E36: Set FOP_Sliding_Window_Width.
     [K_SET, K_SET, K_SET, K_SET, K_SET, K_SET],
-    // E37.
+    // E37: Set T1_Initial.
     [T1_SET, T1_SET, T1_SET, T1_SET, T1_SET, T1_SET],
-    // E38.
+    // E38: Set Transmission_Limit.
     [
         LIMIT_SET,
         LIMIT_SET,
@@ -540,7 +592,7 @@ pub const ROWS: [[u8; 6]; 51] = [
         LIMIT_SET,
         LIMIT_SET,
     ],
-    // E39.
+    // E39: Set Timeout_Type.
     [
         TIMEOUT_TYPE_SET,
         TIMEOUT_TYPE_SET,
@@ -549,9 +601,9 @@ pub const ROWS: [[u8; 6]; 51] = [
         TIMEOUT_TYPE_SET,
         TIMEOUT_TYPE_SET,
     ],
-    // E40.
+    // E40: Invalid Directive.
     [REJECTED, REJECTED, REJECTED, REJECTED, REJECTED, REJECTED],
-    // E41.
+    // E41: AD_Accept.
     [
         AD_READY_LOOK,
         AD_READY_LOOK,
@@ -560,7 +612,7 @@ pub const ROWS: [[u8; 6]; 51] = [
         AD_READY,
         AD_READY,
     ],
-    // E42.
+    // E42: AD_Reject.
     [
         TO_ALERT_LLIF,
         TO_ALERT_LLIF,
@@ -569,7 +621,7 @@ pub const ROWS: [[u8; 6]; 51] = [
         TO_ALERT_LLIF,
         TO_ALERT_LLIF,
     ],
-    // E43.
+    // E43: BC_Accept.
     [
         BC_READY,
         BC_READY,
@@ -578,7 +630,7 @@ pub const ROWS: [[u8; 6]; 51] = [
         BC_READY_LOOK,
         BC_READY,
     ],
-    // E44.
+    // E44: BC_Reject.
     [
         TO_ALERT_LLIF,
         TO_ALERT_LLIF,
@@ -587,9 +639,9 @@ pub const ROWS: [[u8; 6]; 51] = [
         TO_ALERT_LLIF,
         TO_ALERT_LLIF,
     ],
-    // E45.
+    // E45: BD_Accept.
     [BD_READY, BD_READY, BD_READY, BD_READY, BD_READY, BD_READY],
-    // E46.
+    // E46: BD_Reject.
     [
         TO_ALERT_LLIF,
         TO_ALERT_LLIF,
@@ -598,7 +650,7 @@ pub const ROWS: [[u8; 6]; 51] = [
         TO_ALERT_LLIF,
         TO_ALERT_LLIF,
     ],
-    // E101.
+    // E101: NN(R) <= N(R) < V(S), Retransmit Flag = 1, Transmission_Limit = 1, N(R) <> NN(R).
     [
         ACKNOWLEDGED_LIMIT,
         ACKNOWLEDGED_LIMIT,
@@ -607,7 +659,7 @@ pub const ROWS: [[u8; 6]; 51] = [
         NOTHING,
         NOTHING,
     ],
-    // E102.
+    // E102: NN(R) <= N(R) < V(S), Retransmit Flag = 1, Transmission_Limit = 1, N(R) = NN(R).
     [
         TO_ALERT_LIMIT,
         TO_ALERT_LIMIT,
@@ -616,8 +668,8 @@ pub const ROWS: [[u8; 6]; 51] = [
         NOTHING,
         NOTHING,
     ],
-    // E103.
+    // E103: as E12, Wait Flag = 1.
     [TO_S3, TO_S3, TO_S3, NOTHING, NOTHING, NOTHING],
-    // E104.
+    // E104: Timer expires, Transmission_Count < Transmission_Limit, Timeout_Type = 1.
     [AGAIN, AGAIN, NOTHING, SUSPEND_4, AGAIN_BC, NOTHING],
 ];

@@ -1,4 +1,4 @@
--- Each return is one row, by the tests on the way.
+-- Each answer of the lower layer has its own row.
 use Rattle.fop_events.specs.Events.{lowerNumber}
 use borrow.Author.Needs.{needs}
 use Rattle.fop_events.proofs.lower_event.Statement.{statement}

@@ -1,16 +1,14 @@
--- The loop's invariant: the first i numbers are those of the rest, and the others are as they were.
-use mathlib.Core.Path.{_≡_, refl}
-use mathlib.Core.List.{_++_}
-use Prim.Native.Nat.{_-_, _≤_}
+-- The loop keeps that the first i are moved and the others are as they were; at its end all are moved.
+use mathlib.Core.Path.{refl}
+use Prim.Native.Nat.{_-_}
 use native.Mathlib.Omega.{arith}
 use borrow.Author.Needs.{needs}
-use lib.ListN.{length, take, drop, length-set}
-use Rattle.store.proofs.Steps.{step, end, short}
+use Rattle.store.proofs.Steps.{Moved, step, end, short}
 use Rattle.store.proofs.slide_lengths.Statement.{statement}
 use Rattle.store.proofs.slide_lengths.Tie as tie
 
 abbrev Inv-loop : tie.InvT-loop
-Inv-loop s₀ count rest i₀ s i = (s ≡ take i (drop count s₀) ++ drop i s₀) × (i ≤ rest) × (length s ≡ length s₀)
+Inv-loop s₀ count rest i₀ s i = Moved s₀ count rest s i
 
 abbrev μ-loop : tie.MeasureT-loop
 μ-loop s₀ count rest i₀ s i = rest - i
@@ -43,7 +41,7 @@ loop-less : tie.Need-loop-less Inv-loop μ-loop
 loop-less c = omega arith
 
 loop-again : tie.Need-loop-again Inv-loop μ-loop
-loop-again c = (step _ _ _ _ (omega arith) (c .before .before .loop .inv .0), omega arith, simp length-set (search needs))
+loop-again c = step _ _ _ _ _ (omega arith) (omega arith) (c .before .before .loop .inv)
 
 same-length : tie.Need-same-length Inv-loop μ-loop
 same-length c = search needs
