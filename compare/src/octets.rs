@@ -16,7 +16,8 @@ const LAYOUT: u8 = 1;
 
 /// The units of the store: 32 sent, one waiting.
 const PLACES: usize = K_MOST + 1;
-const LENGTHS: usize = 22;
+/// Where the lengths of these begin in the state.
+pub const LENGTHS: usize = 22;
 const RESPONSES: usize = 4;
 
 /// Document 01, Limits.

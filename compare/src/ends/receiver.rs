@@ -1,12 +1,12 @@
 //! Random runs of a receiver.
 
-use super::{compare_octets, damage, receiver_end, refusal, Counts, Report, Settings};
+use super::{compare_octets, compare_runs, damage, receiver_end, refusal, Counts, Report};
 use crate::check::Tally;
 use crate::inputs::farm1_frames::{self as inputs, Start};
-use crate::inputs::lent;
-use crate::library::{self, Lent};
+use crate::library;
 use crate::octets::{no_receiver_state, RECEIVER_STATE};
 use crate::random::Random;
+use crate::settings::Settings;
 use independent::bits;
 use independent::clcw;
 use independent::farm1::{self, Arrival, Farm1, EVENTS, STATES};
@@ -34,7 +34,7 @@ const KINDS: [&str; 8] = [
 
 /// Both receivers, and their address.
 struct Pair {
-    state: Lent,
+    state: Vec<u8>,
     farm: Farm1,
     spacecraft: u16,
     channel: u8,
@@ -64,16 +64,14 @@ impl Met {
 }
 
 pub fn compare(settings: &Settings) -> Report {
-    let mut random = Random::new(settings.seed);
     let mut met = Met::new();
-    let mut tally = Tally::new();
-    let mut runs = 0;
-    while tally.inputs < settings.events {
-        if let Some(pair) = start(&mut random, &mut tally, &mut met) {
-            runs += 1;
-            run(pair, settings, &mut random, &mut tally, &mut met);
-        }
-    }
+    let (tally, runs) = compare_runs(settings, |random, tally| {
+        let Some(pair) = start(random, tally, &mut met) else {
+            return false;
+        };
+        run(pair, settings, random, tally, &mut met);
+        true
+    });
     Report {
         tally,
         runs,
@@ -94,7 +92,7 @@ fn start(random: &mut Random, tally: &mut Tally, met: &mut Met) -> Option<Pair> 
         1 => random.between(RECEIVER_STATE, RECEIVER_STATE + 20),
         _ => RECEIVER_STATE,
     };
-    let before = lent(random, octets);
+    let before = random.octets(octets);
     let mut state = before.clone();
     let number = library::receiver_new(spacecraft, channel, start.variables, &mut state);
     let started = match spacecraft <= 1023 && channel <= 63 {
@@ -110,10 +108,10 @@ fn start(random: &mut Random, tally: &mut Tally, met: &mut Met) -> Option<Pair> 
     if number != expected {
         differences.push(format!("number {number}, not {expected}"));
     }
-    let mut after = before.octets.clone();
+    let mut after = before;
     if let (Ok(farm), DONE) = (&started, expected) {
         let state = receiver_end::state(farm, spacecraft, channel);
-        after[..RECEIVER_STATE].copy_from_slice(state.seen());
+        after[..RECEIVER_STATE].copy_from_slice(&state);
     }
     compare_octets("state", &state, &after, &mut differences);
     met.refusals.meet(&refusal(number));
@@ -138,7 +136,7 @@ fn start(random: &mut Random, tally: &mut Tally, met: &mut Met) -> Option<Pair> 
 fn run(mut pair: Pair, settings: &Settings, random: &mut Random, tally: &mut Tally, met: &mut Met) {
     let harm = *random.pick(&[4, 30, 300]);
     for n in 0..random.between(50, 800) {
-        if tally.inputs >= settings.events {
+        if tally.inputs >= settings.count {
             return;
         }
         let before = pair.farm;
@@ -163,7 +161,7 @@ fn run(mut pair: Pair, settings: &Settings, random: &mut Random, tally: &mut Tal
 }
 
 impl Pair {
-    fn expected_state(&self) -> Lent {
+    fn expected_state(&self) -> Vec<u8> {
         receiver_end::state(&self.farm, self.spacecraft, self.channel)
     }
 
@@ -233,7 +231,7 @@ impl Pair {
 
     fn word(&mut self, random: &mut Random, met: &mut Met) -> Vec<String> {
         let room = random.between(0, 8);
-        let output = lent(random, room);
+        let output = random.octets(room);
         met.kinds.meet("word");
         met.refusals
             .meet(&refusal(if room < 4 { ROOM } else { DONE }));
@@ -245,7 +243,7 @@ impl Pair {
     fn no_state(&mut self, random: &mut Random, met: &mut Met) -> Vec<String> {
         let mut state = self.state.clone();
         damage(random, &mut state);
-        if !no_receiver_state(state.seen()) {
+        if !no_receiver_state(&state) {
             return Vec::new();
         }
         met.kinds.meet("no state");
@@ -260,7 +258,7 @@ impl Pair {
             1 => receiver_end::release(&mut state, (SETTING, 0), &before),
             _ => {
                 let room = random.between(0, 8);
-                let output = lent(random, room);
+                let output = random.octets(room);
                 receiver_end::word(&mut state, output, Err(SETTING)).1
             }
         }

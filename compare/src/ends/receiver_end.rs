@@ -1,9 +1,8 @@
 //! The library's receiver, and what it must be after an event.
 
 use super::compare_octets;
-use crate::inputs::GUARD;
-use crate::library::{self, Lent, Received};
-use crate::octets::{self, RECEIVER_STATE};
+use crate::library::{self, Received};
+use crate::octets;
 use independent::farm1::{Event, Farm1};
 use independent::frame::{AD, BD};
 use independent::output::Written;
@@ -14,14 +13,9 @@ use independent::session::{self, Carried};
 const HEADER: u64 = 5;
 const WORD: usize = 4;
 
-/// The octets of a receiver's state in a longer buffer.
-pub fn state(farm: &Farm1, spacecraft: u16, channel: u8) -> Lent {
-    let mut octets = octets::receiver_state(farm, spacecraft, channel).to_vec();
-    octets.resize(RECEIVER_STATE + GUARD, 0xA5);
-    Lent {
-        octets,
-        lent: RECEIVER_STATE,
-    }
+/// The octets of a receiver's state.
+pub fn state(farm: &Farm1, spacecraft: u16, channel: u8) -> Vec<u8> {
+    octets::receiver_state(farm, spacecraft, channel).to_vec()
 }
 
 fn event_number(event: Result<Event, u8>) -> u8 {
@@ -68,10 +62,10 @@ pub const NOTHING_RECEIVED: Received = Received {
 
 /// A frame comes to the library's receiver; its state is compared with the expected one.
 pub fn frame(
-    state: &mut Lent,
+    state: &mut [u8],
     octets: &[u8],
     expected: &Received,
-    expected_state: &Lent,
+    expected_state: &[u8],
 ) -> Vec<String> {
     let mut frame = octets.to_vec();
     let received = library::receiver_frame(state, &mut frame);
@@ -82,30 +76,30 @@ pub fn frame(
     if frame != octets {
         differences.push("the frame is changed".to_string());
     }
-    compare_octets("state", state, &expected_state.octets, &mut differences);
+    compare_octets("state", state, expected_state, &mut differences);
     differences
 }
 
-pub fn release(state: &mut Lent, expected: (u8, u8), expected_state: &Lent) -> Vec<String> {
+pub fn release(state: &mut [u8], expected: (u8, u8), expected_state: &[u8]) -> Vec<String> {
     let released = library::receiver_release(state);
     let mut differences = Vec::new();
     if released != expected {
         differences.push(format!("release: {released:?}, not {expected:?}"));
     }
-    compare_octets("state", state, &expected_state.octets, &mut differences);
+    compare_octets("state", state, expected_state, &mut differences);
     differences
 }
 
 /// The control word, written into the output where it has room, or refused.
 pub fn word(
-    state: &mut Lent,
-    mut output: Lent,
+    state: &mut [u8],
+    mut output: Vec<u8>,
     expected: Result<&[u8], u8>,
 ) -> (Vec<u8>, Vec<String>) {
-    let (state_before, mut output_after) = (state.octets.clone(), output.octets.clone());
+    let (state_before, mut output_after) = (state.to_vec(), output.clone());
     let written = library::receiver_word(state, &mut output);
     let expected = match expected {
-        Ok(word) if output.lent >= WORD => {
+        Ok(word) if output.len() >= WORD => {
             output_after[..WORD].copy_from_slice(word);
             Written {
                 number: DONE,
@@ -121,5 +115,5 @@ pub fn word(
     }
     compare_octets("state", state, &state_before, &mut differences);
     compare_octets("output", &output, &output_after, &mut differences);
-    (output.octets[..WORD].to_vec(), differences)
+    (output, differences)
 }

@@ -3,12 +3,12 @@
 
 use super::receiver_end::{self, expected_frame, expected_release};
 use super::sender_end::{self, call, Expected, SenderEnd};
-use super::{refusal, Counts, Report, Settings};
+use super::{compare_runs, refusal, Counts, Report};
 use crate::check::Tally;
-use crate::inputs::lent;
-use crate::library::{self, Lent, SenderEvent, SenderSettings};
+use crate::library::{self, SenderEvent, SenderSettings};
 use crate::octets::{ANSWER, RECEIVER_STATE, SENDER_STATE};
 use crate::random::Random;
+use crate::settings::Settings;
 use independent::farm1::Event as FarmEvent;
 use independent::fault::Fault;
 use independent::fop1::{self, Sender, STORE};
@@ -30,7 +30,7 @@ const ROWS: [u8; 18] = [
 /// The library's ends and channels.
 struct Ends {
     sender: SenderEnd,
-    receiver: Lent,
+    receiver: Vec<u8>,
     frames: VecDeque<Vec<u8>>,
     words: VecDeque<Vec<u8>>,
 }
@@ -108,23 +108,17 @@ impl Met {
 }
 
 pub fn compare(settings: &Settings) -> Report {
-    let mut random = Random::new(settings.seed);
     let mut met = Met::new();
-    let mut tally = Tally::new();
-    let mut runs = 0;
-    while tally.inputs < settings.events {
+    let (tally, runs) = compare_runs(settings, |random, tally| {
         let of_session = session_random::settings(&mut |limit| random.below(limit));
         let manner = session_random::manner(&mut |limit| random.below(limit));
-        runs += 1;
-        let started = start(&of_session, &mut random);
-        tally.compared(started.is_ok(), || {
-            format!(
-                "  start: {of_session:?}\n  {}\n",
-                started.as_ref().err().unwrap()
-            )
+        let started = start(&of_session, random);
+        let difference = started.as_ref().err();
+        tally.compared(difference.is_none(), || {
+            format!("  start: {of_session:?}\n  {}\n", difference.unwrap())
         });
         let Ok((ends, session)) = started else {
-            continue;
+            return false;
         };
         let mut run = Run {
             ends,
@@ -132,10 +126,11 @@ pub fn compare(settings: &Settings) -> Report {
             checker: Checker::new(&of_session).expect("good settings"),
             fault: settings.fault,
         };
-        let most = settings.events.saturating_sub(tally.inputs) as usize;
+        let most = settings.count.saturating_sub(tally.inputs) as usize;
         let events = random.between(200, 2000).min(most);
-        run.all(events, &manner, &mut random, &mut tally, &mut met);
-    }
+        run.all(events, &manner, random, tally, &mut met);
+        true
+    });
     Report {
         tally,
         runs,
@@ -155,7 +150,7 @@ fn start(settings: &session::Settings, random: &mut Random) -> Result<(Ends, Ses
         vs: settings.number as u8,
         nnr: settings.number as u8,
     };
-    let (store, state) = (lent(random, STORE), lent(random, SENDER_STATE));
+    let (store, state) = (random.octets(STORE), random.octets(SENDER_STATE));
     let (_, pair, differences) = sender_end::start(&of_sender, store, state);
     let Some((mut sender, mut independent)) = pair else {
         return Err(differences.join("\n  "));
@@ -178,12 +173,12 @@ fn start(settings: &session::Settings, random: &mut Random) -> Result<(Ends, Ses
     if session.sender != independent || independent.state != State::S1 {
         differences.push("the sender is not active".to_string());
     }
-    let mut receiver = lent(random, RECEIVER_STATE);
+    let mut receiver = random.octets(RECEIVER_STATE);
     let variables = [settings.window, settings.number, settings.buffers].map(|x| x as u8);
     let number = library::receiver_new(spacecraft, channel, variables, &mut receiver);
     let expected = receiver_end::state(&session.receiver, spacecraft, channel);
-    if number != DONE || receiver.seen() != expected.seen() {
-        differences.push(format!("receiver: {number}, {:?}", receiver.seen()));
+    if number != DONE || receiver != expected {
+        differences.push(format!("receiver: {number}, {receiver:?}"));
     }
     match differences.is_empty() {
         true => {
@@ -306,7 +301,7 @@ impl Run {
         differences
     }
 
-    fn expected_receiver(&self) -> Lent {
+    fn expected_receiver(&self) -> Vec<u8> {
         let sender = &self.session.sender;
         receiver_end::state(&self.session.receiver, sender.spacecraft, sender.channel)
     }
@@ -337,7 +332,7 @@ impl Run {
         let Some(word) = &outcome.report else {
             return vec!["the independent receiver reports nothing".to_string()];
         };
-        let output = lent(random, WORD);
+        let output = random.octets(WORD);
         let (word, differences) = receiver_end::word(&mut self.ends.receiver, output, Ok(word));
         self.ends.words.push_back(word);
         differences

@@ -398,26 +398,11 @@ fn long_lines() -> Vec<Vec<u8>> {
 }
 
 const KINDS: [Kind<Vec<u8>>; 5] = [
-    Kind {
-        share: 30,
-        make: damaged,
-    },
-    Kind {
-        share: 30,
-        make: mixture,
-    },
-    Kind {
-        share: 15,
-        make: few_octets,
-    },
-    Kind {
-        share: 15,
-        make: any_settings,
-    },
-    Kind {
-        share: 10,
-        make: any_octets,
-    },
+    (30, damaged),
+    (30, mixture),
+    (15, few_octets),
+    (15, any_settings),
+    (10, any_octets),
 ];
 
 /// A random text.
