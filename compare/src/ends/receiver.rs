@@ -7,15 +7,13 @@ use crate::library;
 use crate::octets::{no_receiver_state, RECEIVER_STATE};
 use crate::random::Random;
 use crate::settings::Settings;
-use independent::bits;
-use independent::clcw;
-use independent::farm1::{self, Arrival, Farm1, EVENTS, STATES};
+use independent::farm1::{self, Farm1, EVENTS, STATES};
 use independent::fault::Fault;
 use independent::frame;
 use independent::refusal::{
     ADDRESS, CHECK, COMMAND, DONE, FILL, HEADER, LENGTH, RELEASE, ROOM, SETTING, SHORT,
 };
-use independent::session::{carried, Received};
+use independent::session::{word_of, Received};
 
 const REFUSALS: [u8; 11] = [
     DONE, SHORT, FILL, HEADER, ADDRESS, CHECK, COMMAND, LENGTH, ROOM, SETTING, RELEASE,
@@ -180,51 +178,29 @@ impl Pair {
     ) -> Vec<String> {
         let octets = inputs::frame(random, harm, &self.farm, self.spacecraft, self.channel);
         let before = self.farm.state;
-        let read = frame::read(&octets, self.spacecraft, self.channel, Fault::None);
-        let arrival = match (read.number, read.kind) {
-            (DONE, frame::AD) => Arrival::Ad(read.value),
-            (DONE, frame::BD) => Arrival::Bd,
-            (DONE, frame::BC_UNLOCK) => Arrival::Unlock,
-            (DONE, _) => Arrival::SetVr(read.value),
-            _ => Arrival::InvalidFrame,
-        };
-        let event = self.farm.take(arrival, fault);
-        let is_unit = match event {
-            Ok(farm1::Event::E1) => before == farm1::State::Open,
-            Ok(farm1::Event::E6) => true,
-            _ => false,
-        };
-        let accepted = carried(&octets, self.spacecraft, self.channel).filter(|_| is_unit);
-        let received = Received {
-            event,
-            state: self.farm.state,
-            accepted,
-        };
-        let expected = receiver_end::expected_frame(read.number, &received);
+        let address = (self.spacecraft, self.channel);
+        let number = frame::read(&octets, address.0, address.1, Fault::None).number;
+        let received = Received::frame(&mut self.farm, &octets, address, fault);
+        let expected = receiver_end::expected_frame(number, &received);
         met.kinds.meet("frame");
-        met.refusals.meet(&refusal(read.number));
+        met.refusals.meet(&refusal(number));
         match expected.unit {
             1 => met.kinds.meet("AD unit"),
             2 => met.kinds.meet("BD unit"),
             _ => (),
         }
-        self.meet_cell(event, before, met);
+        self.meet_cell(received.event, before, met);
         let state = self.expected_state();
         receiver_end::frame(&mut self.state, &octets, &expected, &state)
     }
 
     fn release(&mut self, fault: Fault, met: &mut Met) -> Vec<String> {
         let before = self.farm.state;
-        let event = self.farm.take(Arrival::Release, fault);
-        let received = Received {
-            event,
-            state: self.farm.state,
-            accepted: None,
-        };
+        let received = Received::release(&mut self.farm, fault);
         let expected = receiver_end::expected_release(&received);
         met.kinds.meet("release");
         met.refusals.meet(&refusal(expected.0));
-        self.meet_cell(event, before, met);
+        self.meet_cell(received.event, before, met);
         let state = self.expected_state();
         receiver_end::release(&mut self.state, expected, &state)
     }
@@ -263,17 +239,4 @@ impl Pair {
             }
         }
     }
-}
-
-/// The control word of a receiver.
-fn word_of(farm: &Farm1, channel: u8) -> Vec<u8> {
-    let report = clcw::Report {
-        channel,
-        lockout: farm.lockout_flag as u8,
-        wait: farm.wait_flag as u8,
-        retransmit: farm.retransmit_flag as u8,
-        counter: farm.farm_b_counter,
-        value: farm.v_r,
-    };
-    bits::to_octets(&clcw::encode(&report, Fault::None))
 }
