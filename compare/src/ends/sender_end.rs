@@ -122,9 +122,8 @@ impl Call {
     /// What must come of a call that doesn't reach the sender: 12 for a number that the
     /// lower layer has not and for octets that are no state, 11 for the answer's room.
     pub fn refused_at_once(&self) -> Option<Expected> {
-        let number = if independent_event(&self.event).is_none() {
-            SETTING
-        } else if no_sender_state(&self.before.state) {
+        let unknown = independent_event(&self.event).is_none();
+        let number = if unknown || no_sender_state(&self.before.state) {
             SETTING
         } else if self.before.answer.len() < ANSWER {
             ROOM

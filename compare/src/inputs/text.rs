@@ -348,10 +348,8 @@ fn all_octets() -> Vec<u8> {
     text
 }
 
-/// A line of this length which begins with a good one.
-type Fill = fn(usize) -> Vec<u8>;
-
-const FILLS: [Fill; 7] = [
+/// Lines of a given length, some of which begin with a good one.
+const FILLS: [fn(usize) -> Vec<u8>; 7] = [
     |length| vec![b'X'; length],
     |length| vec![b'\t'; length],
     |length| vec![0; length],
