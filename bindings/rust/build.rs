@@ -12,7 +12,8 @@ pub fn main() {
             let package = PathBuf::from(env::var_os("CARGO_MANIFEST_DIR").unwrap());
             let mut folders = package.ancestors();
             let repository = folders.find(|folder| folder.join("crates.txt").exists());
-            let repository = repository.expect("no crates.txt above the package");
+            let repository = repository
+                .expect("PONDRESZI_LIB is not set, and no repository is around the package");
             repository.join("target/staticlib")
         }
     };
