@@ -21,8 +21,8 @@ pub const LENGTHS: usize = 22;
 const RESPONSES: usize = 4;
 
 /// Document 01, Limits.
-const SPACECRAFT_MOST: u16 = 1023;
-const CHANNEL_MOST: u8 = 63;
+pub const SPACECRAFT_MOST: u16 = 1023;
+pub const CHANNEL_MOST: u8 = 63;
 const BUFFERS_MOST: u8 = 8;
 
 /// A sender's variables, settings and queues.

@@ -174,6 +174,12 @@ fn refusal(number: u8) -> String {
     format!("refusal {number}")
 }
 
+fn compare_numbers(library: u8, expected: u8, differences: &mut Vec<String>) {
+    if library != expected {
+        differences.push(format!("number {library}, not {expected}"));
+    }
+}
+
 /// Says which of two parts differ, with the first octet that does.
 fn compare_octets(name: &str, library: &[u8], expected: &[u8], differences: &mut Vec<String>) {
     if library != expected {

@@ -1,9 +1,8 @@
 //! Random runs of a receiver.
 
-use super::{compare_octets, compare_runs, damage, receiver_end, refusal, Counts, Report};
+use super::{compare_runs, damage, receiver_end, refusal, Counts, Report};
 use crate::check::Tally;
-use crate::inputs::farm1_frames::{self as inputs, Start};
-use crate::library;
+use crate::inputs::farm1_frames as inputs;
 use crate::octets::{no_receiver_state, RECEIVER_STATE};
 use crate::random::Random;
 use crate::settings::Settings;
@@ -80,53 +79,24 @@ pub fn compare(settings: &Settings) -> Report {
 /// A new receiver, where it is not refused.
 fn start(random: &mut Random, tally: &mut Tally, met: &mut Met) -> Option<Pair> {
     let start = inputs::start(random);
-    let Start {
-        spacecraft,
-        channel,
-        variables: [window, v_r, buffers],
-    } = start;
     let octets = match random.below(12) {
         0 => random.below(RECEIVER_STATE),
         1 => random.between(RECEIVER_STATE, RECEIVER_STATE + 20),
         _ => RECEIVER_STATE,
     };
-    let before = random.octets(octets);
-    let mut state = before.clone();
-    let number = library::receiver_new(spacecraft, channel, start.variables, &mut state);
-    let started = match spacecraft <= 1023 && channel <= 63 {
-        true => Farm1::start(window as usize, v_r as usize, buffers as usize),
-        false => Err(SETTING),
-    };
-    let expected = match &started {
-        Err(refusal) => *refusal,
-        Ok(_) if octets < RECEIVER_STATE => ROOM,
-        Ok(_) => DONE,
-    };
-    let mut differences = Vec::new();
-    if number != expected {
-        differences.push(format!("number {number}, not {expected}"));
-    }
-    let mut after = before;
-    if let (Ok(farm), DONE) = (&started, expected) {
-        let state = receiver_end::state(farm, spacecraft, channel);
-        after[..RECEIVER_STATE].copy_from_slice(&state);
-    }
-    compare_octets("state", &state, &after, &mut differences);
+    let (number, farm, differences) = receiver_end::start(&start, random.octets(octets));
     met.refusals.meet(&refusal(number));
     met.kinds
         .meet(if number == DONE { "new" } else { "new refused" });
     tally.compared(differences.is_empty(), || {
         format!("  new: {start:?}\n  {}\n", differences.join("\n  "))
     });
-    if expected != DONE || !differences.is_empty() {
-        return None;
-    }
-    let farm = started.ok()?;
+    let farm = farm?;
     Some(Pair {
-        state: receiver_end::state(&farm, spacecraft, channel),
+        state: receiver_end::state(&farm, start.spacecraft, start.channel),
         farm,
-        spacecraft,
-        channel,
+        spacecraft: start.spacecraft,
+        channel: start.channel,
     })
 }
 

@@ -1,12 +1,13 @@
 //! The library's receiver, and what it must be after an event.
 
-use super::compare_octets;
+use super::{compare_numbers, compare_octets};
+use crate::inputs::farm1_frames::Start;
 use crate::library::{self, Received};
-use crate::octets;
+use crate::octets::{self, CHANNEL_MOST, RECEIVER_STATE, SPACECRAFT_MOST};
 use independent::farm1::{Event, Farm1};
 use independent::frame::{AD, BD};
 use independent::output::Written;
-use independent::refusal::{DONE, ROOM};
+use independent::refusal::{DONE, ROOM, SETTING};
 use independent::session::{self, Carried};
 
 /// The octets of the primary header, of a control word.
@@ -16,6 +17,33 @@ const WORD: usize = 4;
 /// The octets of a receiver's state.
 pub fn state(farm: &Farm1, spacecraft: u16, channel: u8) -> Vec<u8> {
     octets::receiver_state(farm, spacecraft, channel).to_vec()
+}
+
+/// A new receiver of the library, compared with the independent one. Both must refuse it
+/// alike, or both give it: no receiver where they refuse, or differ.
+pub fn start(start: &Start, before: Vec<u8>) -> (u8, Option<Farm1>, Vec<String>) {
+    let (spacecraft, channel) = (start.spacecraft, start.channel);
+    let mut after = before.clone();
+    let number = library::receiver_new(spacecraft, channel, start.variables, &mut after);
+    let [window, v_r, buffers] = start.variables.map(usize::from);
+    let started = match spacecraft <= SPACECRAFT_MOST && channel <= CHANNEL_MOST {
+        true => Farm1::start(window, v_r, buffers),
+        false => Err(SETTING),
+    };
+    let started = started.and_then(|farm| match before.len() < RECEIVER_STATE {
+        true => Err(ROOM),
+        false => Ok(farm),
+    });
+    let mut expected = before;
+    if let Ok(farm) = &started {
+        expected[..RECEIVER_STATE].copy_from_slice(&state(farm, spacecraft, channel));
+    }
+    let mut differences = Vec::new();
+    let expected_number = started.err().unwrap_or(DONE);
+    compare_numbers(number, expected_number, &mut differences);
+    compare_octets("state", &after, &expected, &mut differences);
+    let farm = started.ok().filter(|_| differences.is_empty());
+    (number, farm, differences)
 }
 
 fn event_number(event: Result<Event, u8>) -> u8 {
@@ -53,7 +81,7 @@ pub fn expected_release(received: &session::Received) -> (u8, u8) {
 
 /// Nothing is said where the octets are no state.
 pub const NOTHING_RECEIVED: Received = Received {
-    number: independent::refusal::SETTING,
+    number: SETTING,
     event: 0,
     unit: 0,
     first: 0,

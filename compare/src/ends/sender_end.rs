@@ -1,6 +1,6 @@
 //! The library's sender: its state, its store, and what it must be after an event.
 
-use super::compare_octets;
+use super::{compare_numbers, compare_octets};
 use crate::library::{self, SenderEvent, SenderMemory, SenderSettings};
 use crate::octets::{self, no_sender_state, SenderState, ANSWER, SENDER_STATE};
 use crate::random::Random;
@@ -190,12 +190,6 @@ impl Call {
             &answer[..answer.len().min(ANSWER)],
             SenderState::read(&self.after.state),
         )
-    }
-}
-
-fn compare_numbers(library: u8, expected: u8, differences: &mut Vec<String>) {
-    if library != expected {
-        differences.push(format!("number {library}, not {expected}"));
     }
 }
 

@@ -5,7 +5,8 @@ use super::receiver_end::{self, expected_frame, expected_release};
 use super::sender_end::{self, call, Expected, SenderEnd};
 use super::{compare_runs, refusal, Counts, Report};
 use crate::check::Tally;
-use crate::library::{self, SenderEvent, SenderSettings};
+use crate::inputs::farm1_frames::Start;
+use crate::library::{SenderEvent, SenderSettings};
 use crate::octets::{ANSWER, RECEIVER_STATE, SENDER_STATE};
 use crate::random::Random;
 use crate::settings::Settings;
@@ -140,13 +141,45 @@ pub fn compare(settings: &Settings) -> Report {
 
 /// Both ends synchronised and active, and the independent session.
 fn start(settings: &session::Settings, random: &mut Random) -> Result<(Ends, Session), String> {
-    let (spacecraft, channel) = (settings.spacecraft as u16, settings.channel as u8);
+    let (sender, independent) = start_sender(settings, random)?;
+    let session = Session::start(settings).map_err(refusal)?;
+    if session.sender != independent || independent.state != State::S1 {
+        return Err("the sender is not active".to_string());
+    }
+    let (spacecraft, channel) = (independent.spacecraft, independent.channel);
+    let of_receiver = Start {
+        spacecraft,
+        channel,
+        variables: [settings.window, settings.number, settings.buffers].map(|x| x as u8),
+    };
+    let state = random.octets(RECEIVER_STATE);
+    let (_, farm, differences) = receiver_end::start(&of_receiver, state);
+    if farm != Some(session.receiver) {
+        return Err(format!(
+            "the receiver is not at its start\n  {}",
+            differences.join("\n  ")
+        ));
+    }
+    let ends = Ends {
+        sender,
+        receiver: receiver_end::state(&session.receiver, spacecraft, channel),
+        frames: VecDeque::new(),
+        words: VecDeque::new(),
+    };
+    Ok((ends, session))
+}
+
+/// Both senders, after Initiate without check.
+fn start_sender(
+    settings: &session::Settings,
+    random: &mut Random,
+) -> Result<(SenderEnd, Sender), String> {
     let of_sender = SenderSettings {
         k: settings.k as u8,
         t1_initial: settings.t1_initial as u16,
         transmission_limit: settings.transmission_limit as u8,
-        spacecraft,
-        channel,
+        spacecraft: settings.spacecraft as u16,
+        channel: settings.channel as u8,
         vs: settings.number as u8,
         nnr: settings.number as u8,
     };
@@ -166,32 +199,12 @@ fn start(settings: &session::Settings, random: &mut Random) -> Result<(Ends, Ses
         number: answer.refusal,
         answer: Some(answer),
     };
-    let mut differences = call.differences(&expected, &independent);
+    let differences = call.differences(&expected, &independent);
+    if !differences.is_empty() {
+        return Err(differences.join("\n  "));
+    }
     sender.keep(call);
-
-    let session = Session::start(settings).map_err(|number| format!("refusal {number}"))?;
-    if session.sender != independent || independent.state != State::S1 {
-        differences.push("the sender is not active".to_string());
-    }
-    let mut receiver = random.octets(RECEIVER_STATE);
-    let variables = [settings.window, settings.number, settings.buffers].map(|x| x as u8);
-    let number = library::receiver_new(spacecraft, channel, variables, &mut receiver);
-    let expected = receiver_end::state(&session.receiver, spacecraft, channel);
-    if number != DONE || receiver != expected {
-        differences.push(format!("receiver: {number}, {receiver:?}"));
-    }
-    match differences.is_empty() {
-        true => {
-            let ends = Ends {
-                sender,
-                receiver: expected,
-                frames: VecDeque::new(),
-                words: VecDeque::new(),
-            };
-            Ok((ends, session))
-        }
-        false => Err(differences.join("\n  ")),
-    }
+    Ok((sender, independent))
 }
 
 struct Run {
