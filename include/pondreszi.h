@@ -16,9 +16,11 @@
  *   - The library keeps nothing between calls and allocates nothing. All memory is lent by the caller for the call.
  *   - Octets cross as a pointer and a length. No pointer may be null. A length of 0 takes any pointer that is not null.
  *   - Buffers and numbers lent to one call must not overlap.
- *   - The number returned is 0 for done, otherwise a refusal (enum pondreszi_refusal).
- *   - A refusal changes no octet of any buffer of data (frames, units, store, output). The numbers that a function tells through
- *     pointers are always written, and are 0 where they mean nothing; so is the answer of a sender's event, where it was judged.
+ *   - The number returned is 0 for done, otherwise a refusal (enum pondreszi_refusal). Only codeblock_error_control, codeblock_is_good,
+ *     randomizer_octet and fecf refuse nothing: they return what they compute.
+ *   - A refusal changes no octet of any buffer of data (states, frames, units, store, output). The numbers that a function tells through
+ *     pointers are always written, and are 0 where they mean nothing. The answer of a sender's event is written where the event was
+ *     judged, refused or not.
  *   - A write touches only the octets that it needs, at the front of the output.
  *   - Sequence numbers are counted modulo 256, the FARM-B counter modulo 4.
  *
@@ -394,12 +396,12 @@ enum pondreszi_directive {
     PONDRESZI_INITIATE_WITH_UNLOCK = 3,
     PONDRESZI_INITIATE_WITH_SET_VR = 4, /* value 0 to 255 */
     PONDRESZI_TERMINATE = 5,
-    PONDRESZI_RESUME = 6,                 /* always rejected for now, since nothing suspends */
-    PONDRESZI_SET_VS = 7,                 /* value 0 to 255; sets NN(R) too; in Initial only */
-    PONDRESZI_SET_K = 8,                  /* value 1 to 32 */
-    PONDRESZI_SET_TIMER = 9,              /* T1_Initial: value 1 to 65,535 */
+    PONDRESZI_RESUME = 6,                  /* always rejected for now, since nothing suspends */
+    PONDRESZI_SET_VS = 7,                  /* value 0 to 255; sets NN(R) too; in Initial only */
+    PONDRESZI_SET_K = 8,                   /* value 1 to 32 */
+    PONDRESZI_SET_TIMER = 9,               /* T1_Initial: value 1 to 65,535 */
     PONDRESZI_SET_TRANSMISSION_LIMIT = 10, /* value 1 to 255 */
-    PONDRESZI_SET_TIMEOUT_TYPE = 11       /* value 0 only, for now */
+    PONDRESZI_SET_TIMEOUT_TYPE = 11        /* value 0 only, for now */
 };
 
 /*

@@ -1,23 +1,26 @@
-//! Links the static library `boundary`: from the folder that PONDRESZI_LIB names,
-//! otherwise from ../../target/staticlib.
+//! Says where the static library `boundary` is found: in the folder that PONDRESZI_LIB
+//! names, otherwise in target/staticlib of the repository. That it is linked, and
+//! statically, is said in src/library.rs.
 
 use std::env;
 use std::path::PathBuf;
 
-fn main() {
+pub fn main() {
     let folder = match env::var_os("PONDRESZI_LIB") {
         Some(folder) => PathBuf::from(folder),
         None => {
-            let here = env::var_os("CARGO_MANIFEST_DIR").unwrap();
-            PathBuf::from(here).join("../../target/staticlib")
+            let package = PathBuf::from(env::var_os("CARGO_MANIFEST_DIR").unwrap());
+            let mut folders = package.ancestors();
+            let repository = folders.find(|folder| folder.join("crates.txt").exists());
+            let repository = repository
+                .expect("PONDRESZI_LIB is not set, and no repository is around the package");
+            repository.join("target/staticlib")
         }
     };
     println!("cargo:rustc-link-search=native={}", folder.display());
-    println!("cargo:rustc-link-lib=static=boundary");
     println!("cargo:rerun-if-env-changed=PONDRESZI_LIB");
     println!(
         "cargo:rerun-if-changed={}",
         folder.join("libboundary.a").display()
     );
-    println!("cargo:rerun-if-changed=build.rs");
 }

@@ -1,231 +1,15 @@
 //! The proved library's functions, each wrapped in a safe one. All lent memory is lent
 //! mutable, so that an octet the library must not change can be compared afterwards.
-//! An output is a buffer of which only the first `lent` octets are lent.
 
+use crate::lending::{lend, lend_number};
 use independent::clcw::{self, Report};
 use independent::cltu;
+use independent::fop1;
 use independent::frame::{self, Content};
 use independent::output::Written;
 
-mod c {
-    #[link(name = "boundary", kind = "static")]
-    extern "C" {
-        pub fn codeblock_error_control(information: *const u8, information_len: usize) -> u8;
-        pub fn codeblock_is_good(block: *const u8, block_len: usize) -> u8;
-        pub fn randomizer_octet(k: u64) -> u8;
-        pub fn cltu_write(
-            frame: *const u8,
-            frame_len: usize,
-            output: *mut u8,
-            output_len: usize,
-            count: *mut u64,
-        ) -> u8;
-        pub fn cltu_read(
-            input: *const u8,
-            input_len: usize,
-            output: *mut u8,
-            output_len: usize,
-            count: *mut u64,
-            place: *mut u64,
-            corrected: *mut u64,
-        ) -> u8;
-        pub fn fecf(message: *const u8, len: usize) -> u16;
-        pub fn frame_write_ad(
-            spacecraft: u16,
-            channel: u8,
-            number: u8,
-            unit: *const u8,
-            unit_len: usize,
-            output: *mut u8,
-            output_len: usize,
-            count: *mut u64,
-        ) -> u8;
-        pub fn frame_write_bd(
-            spacecraft: u16,
-            channel: u8,
-            unit: *const u8,
-            unit_len: usize,
-            output: *mut u8,
-            output_len: usize,
-            count: *mut u64,
-        ) -> u8;
-        pub fn frame_write_unlock(
-            spacecraft: u16,
-            channel: u8,
-            output: *mut u8,
-            output_len: usize,
-            count: *mut u64,
-        ) -> u8;
-        pub fn frame_write_set_vr(
-            spacecraft: u16,
-            channel: u8,
-            value: u8,
-            output: *mut u8,
-            output_len: usize,
-            count: *mut u64,
-        ) -> u8;
-        pub fn frame_read(
-            octets: *const u8,
-            len: usize,
-            spacecraft: u16,
-            channel: u8,
-            kind: *mut u8,
-            value: *mut u8,
-            total: *mut u16,
-            field: *mut u16,
-        ) -> u8;
-        pub fn clcw_write(
-            channel: u8,
-            lockout: u8,
-            wait: u8,
-            retransmit: u8,
-            counter: u8,
-            report: u8,
-            output: *mut u8,
-            output_len: usize,
-            count: *mut u64,
-        ) -> u8;
-        pub fn clcw_read(
-            octets: *const u8,
-            len: usize,
-            channel: u8,
-            valid: *mut u8,
-            status: *mut u8,
-            rf: *mut u8,
-            flags: *mut u8,
-            counter: *mut u8,
-            report: *mut u8,
-        ) -> u8;
-        pub fn receiver_new(
-            spacecraft: u16,
-            channel: u8,
-            window: u8,
-            vr: u8,
-            buffers: u8,
-            state: *mut u8,
-            state_len: usize,
-        ) -> u8;
-        pub fn receiver_frame(
-            state: *mut u8,
-            state_len: usize,
-            frame: *const u8,
-            frame_len: usize,
-            event: *mut u8,
-            unit: *mut u8,
-            first: *mut u64,
-            count: *mut u64,
-        ) -> u8;
-        pub fn receiver_release(state: *mut u8, state_len: usize, event: *mut u8) -> u8;
-        pub fn receiver_word(
-            state: *const u8,
-            state_len: usize,
-            output: *mut u8,
-            output_len: usize,
-            count: *mut u64,
-        ) -> u8;
-        pub fn sender_new(
-            k: u8,
-            t1_initial: u16,
-            transmission_limit: u8,
-            spacecraft: u16,
-            channel: u8,
-            vs: u8,
-            nnr: u8,
-            store: *const u8,
-            store_len: usize,
-            state: *mut u8,
-            state_len: usize,
-        ) -> u8;
-        pub fn sender_request_ad(
-            state: *mut u8,
-            state_len: usize,
-            unit: *const u8,
-            unit_len: usize,
-            store: *mut u8,
-            store_len: usize,
-            output: *mut u8,
-            output_len: usize,
-            answer: *mut u8,
-            answer_len: usize,
-        ) -> u8;
-        pub fn sender_request_bd(
-            state: *mut u8,
-            state_len: usize,
-            unit: *const u8,
-            unit_len: usize,
-            store: *mut u8,
-            store_len: usize,
-            output: *mut u8,
-            output_len: usize,
-            answer: *mut u8,
-            answer_len: usize,
-        ) -> u8;
-        pub fn sender_directive(
-            state: *mut u8,
-            state_len: usize,
-            number: u32,
-            value: u32,
-            store: *mut u8,
-            store_len: usize,
-            output: *mut u8,
-            output_len: usize,
-            answer: *mut u8,
-            answer_len: usize,
-        ) -> u8;
-        pub fn sender_tick(
-            state: *mut u8,
-            state_len: usize,
-            store: *mut u8,
-            store_len: usize,
-            output: *mut u8,
-            output_len: usize,
-            answer: *mut u8,
-            answer_len: usize,
-        ) -> u8;
-        pub fn sender_lower_layer(
-            state: *mut u8,
-            state_len: usize,
-            number: u8,
-            store: *mut u8,
-            store_len: usize,
-            output: *mut u8,
-            output_len: usize,
-            answer: *mut u8,
-            answer_len: usize,
-        ) -> u8;
-        pub fn sender_control_word(
-            state: *mut u8,
-            state_len: usize,
-            word: *const u8,
-            word_len: usize,
-            store: *mut u8,
-            store_len: usize,
-            output: *mut u8,
-            output_len: usize,
-            answer: *mut u8,
-            answer_len: usize,
-        ) -> u8;
-    }
-}
-
-/// A buffer of which only the first `lent` octets are lent.
-#[derive(Clone, PartialEq, Eq, Debug)]
-pub struct Lent {
-    pub octets: Vec<u8>,
-    pub lent: usize,
-}
-
-impl Lent {
-    /// The lent octets.
-    pub fn seen(&self) -> &[u8] {
-        &self.octets[..self.lent]
-    }
-
-    fn pointer(&mut self) -> *mut u8 {
-        assert!(self.lent <= self.octets.len());
-        self.octets.as_mut_ptr()
-    }
-}
+#[path = "../../bindings/rust/src/library.rs"]
+mod c;
 
 /// What a returned number holds before the call: no answer is so large, so that one
 /// left unwritten is seen.
@@ -236,58 +20,65 @@ const UNWRITTEN_16: u16 = 0xDEAD;
 const UNWRITTEN_8: u8 = 0xDE;
 
 pub fn codeblock_error_control(information: &mut [u8]) -> u8 {
-    unsafe { c::codeblock_error_control(information.as_mut_ptr(), information.len()) }
+    let information = lend(information);
+    unsafe { c::codeblock_error_control(information.first(), information.len()) }
 }
 
+/// 1 or 0.
 pub fn codeblock_is_good(block: &mut [u8]) -> u8 {
-    unsafe { c::codeblock_is_good(block.as_mut_ptr(), block.len()) }
+    let block = lend(block);
+    unsafe { c::codeblock_is_good(block.first(), block.len()) }
 }
 
-pub fn randomizer_octet(k: u64) -> u8 {
-    unsafe { c::randomizer_octet(k) }
+pub fn randomizer_octet(place: u64) -> u8 {
+    unsafe { c::randomizer_octet(place) }
 }
 
-pub fn cltu_write(frame: &mut [u8], output: &mut [u8], lent: usize) -> Written {
-    assert!(lent <= output.len());
+/// Calls a function that tells a count of octets written.
+fn written(call: impl FnOnce(*mut u64) -> u8) -> Written {
     let mut count = UNWRITTEN;
-    let number = unsafe {
-        c::cltu_write(
-            frame.as_mut_ptr(),
-            frame.len(),
-            output.as_mut_ptr(),
-            lent,
-            &mut count,
-        )
-    };
+    let number = call(lend_number(&mut count).number());
     Written { number, count }
 }
 
-pub fn cltu_read(input: &mut [u8], output: &mut [u8], lent: usize) -> cltu::Read {
-    assert!(lent <= output.len());
-    let mut count = UNWRITTEN;
-    let mut place = UNWRITTEN;
-    let mut corrected = UNWRITTEN;
-    let number = unsafe {
+pub fn cltu_write(frame: &mut [u8], output: &mut [u8]) -> Written {
+    let (frame, output) = (lend(frame), lend(output));
+    written(|count| unsafe {
+        c::cltu_write(
+            frame.first(),
+            frame.len(),
+            output.first(),
+            output.len(),
+            count,
+        )
+    })
+}
+
+pub fn cltu_read(input: &mut [u8], output: &mut [u8]) -> cltu::Read {
+    let (input, output) = (lend(input), lend(output));
+    let mut read = cltu::Read {
+        number: UNWRITTEN_8,
+        count: UNWRITTEN,
+        place: UNWRITTEN,
+        corrected: UNWRITTEN,
+    };
+    read.number = unsafe {
         c::cltu_read(
-            input.as_mut_ptr(),
+            input.first(),
             input.len(),
-            output.as_mut_ptr(),
-            lent,
-            &mut count,
-            &mut place,
-            &mut corrected,
+            output.first(),
+            output.len(),
+            lend_number(&mut read.count).number(),
+            lend_number(&mut read.place).number(),
+            lend_number(&mut read.corrected).number(),
         )
     };
-    cltu::Read {
-        number,
-        count,
-        place,
-        corrected,
-    }
+    read
 }
 
 pub fn fecf(message: &mut [u8]) -> u16 {
-    unsafe { c::fecf(message.as_mut_ptr(), message.len()) }
+    let message = lend(message);
+    unsafe { c::fecf(message.first(), message.len()) }
 }
 
 /// Each content has its function.
@@ -296,81 +87,69 @@ pub fn frame_write(
     channel: u8,
     content: &mut Content,
     output: &mut [u8],
-    lent: usize,
 ) -> Written {
-    assert!(lent <= output.len());
-    let mut count = UNWRITTEN;
-    let number = match content {
+    let output = lend(output);
+    let (first, len) = (output.first(), output.len());
+    written(|count| match content {
         Content::Ad { number, unit } => unsafe {
+            let unit = lend(unit);
             c::frame_write_ad(
                 spacecraft,
                 channel,
                 *number,
-                unit.as_mut_ptr(),
+                unit.first(),
                 unit.len(),
-                output.as_mut_ptr(),
-                lent,
-                &mut count,
+                first,
+                len,
+                count,
             )
         },
         Content::Bd { unit } => unsafe {
+            let unit = lend(unit);
             c::frame_write_bd(
                 spacecraft,
                 channel,
-                unit.as_mut_ptr(),
+                unit.first(),
                 unit.len(),
-                output.as_mut_ptr(),
-                lent,
-                &mut count,
+                first,
+                len,
+                count,
             )
         },
-        Content::Unlock => unsafe {
-            c::frame_write_unlock(spacecraft, channel, output.as_mut_ptr(), lent, &mut count)
-        },
+        Content::Unlock => unsafe { c::frame_write_unlock(spacecraft, channel, first, len, count) },
         Content::SetVr { value } => unsafe {
-            c::frame_write_set_vr(
-                spacecraft,
-                channel,
-                *value,
-                output.as_mut_ptr(),
-                lent,
-                &mut count,
-            )
+            c::frame_write_set_vr(spacecraft, channel, *value, first, len, count)
         },
-    };
-    Written { number, count }
+    })
 }
 
 pub fn frame_read(octets: &mut [u8], spacecraft: u16, channel: u8) -> frame::Read {
-    let mut kind = UNWRITTEN_8;
-    let mut value = UNWRITTEN_8;
-    let mut total = UNWRITTEN_16;
-    let mut field = UNWRITTEN_16;
-    let number = unsafe {
+    let octets = lend(octets);
+    let mut read = frame::Read {
+        number: UNWRITTEN_8,
+        kind: UNWRITTEN_8,
+        value: UNWRITTEN_8,
+        total: UNWRITTEN_16,
+        field: UNWRITTEN_16,
+    };
+    read.number = unsafe {
         c::frame_read(
-            octets.as_mut_ptr(),
+            octets.first(),
             octets.len(),
             spacecraft,
             channel,
-            &mut kind,
-            &mut value,
-            &mut total,
-            &mut field,
+            lend_number(&mut read.kind).number(),
+            lend_number(&mut read.value).number(),
+            lend_number(&mut read.total).number(),
+            lend_number(&mut read.field).number(),
         )
     };
-    frame::Read {
-        number,
-        kind,
-        value,
-        total,
-        field,
-    }
+    read
 }
 
-pub fn clcw_write(report: &Report, output: &mut [u8], lent: usize) -> Written {
-    assert!(lent <= output.len());
-    let mut count = UNWRITTEN;
-    let number = unsafe {
+pub fn clcw_write(report: &Report, output: &mut [u8]) -> Written {
+    let output = lend(output);
+    written(|count| unsafe {
         c::clcw_write(
             report.channel,
             report.lockout,
@@ -378,43 +157,38 @@ pub fn clcw_write(report: &Report, output: &mut [u8], lent: usize) -> Written {
             report.retransmit,
             report.counter,
             report.value,
-            output.as_mut_ptr(),
-            lent,
-            &mut count,
+            output.first(),
+            output.len(),
+            count,
         )
-    };
-    Written { number, count }
+    })
 }
 
 pub fn clcw_read(octets: &mut [u8], channel: u8) -> clcw::Read {
-    let mut valid = UNWRITTEN_8;
-    let mut status = UNWRITTEN_8;
-    let mut rf = UNWRITTEN_8;
-    let mut flags = UNWRITTEN_8;
-    let mut counter = UNWRITTEN_8;
-    let mut report = UNWRITTEN_8;
-    let number = unsafe {
+    let octets = lend(octets);
+    let mut read = clcw::Read {
+        number: UNWRITTEN_8,
+        valid: UNWRITTEN_8,
+        status: UNWRITTEN_8,
+        rf: UNWRITTEN_8,
+        flags: UNWRITTEN_8,
+        counter: UNWRITTEN_8,
+        report: UNWRITTEN_8,
+    };
+    read.number = unsafe {
         c::clcw_read(
-            octets.as_mut_ptr(),
+            octets.first(),
             octets.len(),
             channel,
-            &mut valid,
-            &mut status,
-            &mut rf,
-            &mut flags,
-            &mut counter,
-            &mut report,
+            lend_number(&mut read.valid).number(),
+            lend_number(&mut read.status).number(),
+            lend_number(&mut read.rf).number(),
+            lend_number(&mut read.flags).number(),
+            lend_number(&mut read.counter).number(),
+            lend_number(&mut read.report).number(),
         )
     };
-    clcw::Read {
-        number,
-        valid,
-        status,
-        rf,
-        flags,
-        counter,
-        report,
-    }
+    read
 }
 
 /// What the receiver says of a frame.
@@ -434,8 +208,9 @@ pub fn receiver_new(
     spacecraft: u16,
     channel: u8,
     [window, vr, buffers]: [u8; 3],
-    state: &mut Lent,
+    state: &mut [u8],
 ) -> u8 {
+    let state = lend(state);
     unsafe {
         c::receiver_new(
             spacecraft,
@@ -443,57 +218,57 @@ pub fn receiver_new(
             window,
             vr,
             buffers,
-            state.pointer(),
-            state.lent,
+            state.first(),
+            state.len(),
         )
     }
 }
 
-pub fn receiver_frame(state: &mut Lent, frame: &mut [u8]) -> Received {
-    let mut event = UNWRITTEN_8;
-    let mut unit = UNWRITTEN_8;
-    let mut first = UNWRITTEN;
-    let mut count = UNWRITTEN;
-    let number = unsafe {
+pub fn receiver_frame(state: &mut [u8], frame: &mut [u8]) -> Received {
+    let (state, frame) = (lend(state), lend(frame));
+    let mut received = Received {
+        number: UNWRITTEN_8,
+        event: UNWRITTEN_8,
+        unit: UNWRITTEN_8,
+        first: UNWRITTEN,
+        count: UNWRITTEN,
+    };
+    received.number = unsafe {
         c::receiver_frame(
-            state.pointer(),
-            state.lent,
-            frame.as_mut_ptr(),
+            state.first(),
+            state.len(),
+            frame.first(),
             frame.len(),
-            &mut event,
-            &mut unit,
-            &mut first,
-            &mut count,
+            lend_number(&mut received.event).number(),
+            lend_number(&mut received.unit).number(),
+            lend_number(&mut received.first).number(),
+            lend_number(&mut received.count).number(),
         )
     };
-    Received {
-        number,
-        event,
-        unit,
-        first,
-        count,
-    }
+    received
 }
 
 /// The number, and the event.
-pub fn receiver_release(state: &mut Lent) -> (u8, u8) {
+pub fn receiver_release(state: &mut [u8]) -> (u8, u8) {
+    let state = lend(state);
     let mut event = UNWRITTEN_8;
-    let number = unsafe { c::receiver_release(state.pointer(), state.lent, &mut event) };
+    let number = unsafe {
+        c::receiver_release(state.first(), state.len(), lend_number(&mut event).number())
+    };
     (number, event)
 }
 
-pub fn receiver_word(state: &mut Lent, output: &mut Lent) -> Written {
-    let mut count = UNWRITTEN;
-    let number = unsafe {
+pub fn receiver_word(state: &mut [u8], output: &mut [u8]) -> Written {
+    let (state, output) = (lend(state), lend(output));
+    written(|count| unsafe {
         c::receiver_word(
-            state.pointer(),
-            state.lent,
-            output.pointer(),
-            output.lent,
-            &mut count,
+            state.first(),
+            state.len(),
+            output.first(),
+            output.len(),
+            count,
         )
-    };
-    Written { number, count }
+    })
 }
 
 /// What a new sender is given.
@@ -508,7 +283,23 @@ pub struct SenderSettings {
     pub nnr: u8,
 }
 
-pub fn sender_new(settings: &SenderSettings, store: &mut Lent, state: &mut Lent) -> u8 {
+impl SenderSettings {
+    /// The same for the independent sender.
+    pub fn independent(&self) -> fop1::Settings {
+        fop1::Settings {
+            spacecraft: self.spacecraft as usize,
+            channel: self.channel as usize,
+            v_s: self.vs as usize,
+            nn_r: self.nnr as usize,
+            k: self.k as usize,
+            t1_initial: self.t1_initial as usize,
+            transmission_limit: self.transmission_limit as usize,
+        }
+    }
+}
+
+pub fn sender_new(settings: &SenderSettings, store: &mut [u8], state: &mut [u8]) -> u8 {
+    let (store, state) = (lend(store), lend(state));
     unsafe {
         c::sender_new(
             settings.k,
@@ -518,10 +309,10 @@ pub fn sender_new(settings: &SenderSettings, store: &mut Lent, state: &mut Lent)
             settings.channel,
             settings.vs,
             settings.nnr,
-            store.pointer(),
-            store.lent,
-            state.pointer(),
-            state.lent,
+            store.first(),
+            store.len(),
+            state.first(),
+            state.len(),
         )
     }
 }
@@ -540,75 +331,74 @@ pub enum SenderEvent {
 /// What is lent with it.
 #[derive(Clone, PartialEq, Eq, Debug)]
 pub struct SenderMemory {
-    pub state: Lent,
-    pub store: Lent,
-    pub output: Lent,
-    pub answer: Lent,
+    pub state: Vec<u8>,
+    pub store: Vec<u8>,
+    pub output: Vec<u8>,
+    pub answer: Vec<u8>,
 }
 
 /// Each event has its function.
 pub fn sender_event(event: &mut SenderEvent, memory: &mut SenderMemory) -> u8 {
-    let (state, state_len) = (memory.state.pointer(), memory.state.lent);
-    let (store, store_len) = (memory.store.pointer(), memory.store.lent);
-    let (output, output_len) = (memory.output.pointer(), memory.output.lent);
-    let (answer, answer_len) = (memory.answer.pointer(), memory.answer.lent);
+    let (state, store) = (lend(&mut memory.state), lend(&mut memory.store));
+    let (output, answer) = (lend(&mut memory.output), lend(&mut memory.answer));
+    let with_octets = |function: c::SenderEventWithOctets, octets: &mut [u8]| {
+        let octets = lend(octets);
+        unsafe {
+            function(
+                state.first(),
+                state.len(),
+                octets.first(),
+                octets.len(),
+                store.first(),
+                store.len(),
+                output.first(),
+                output.len(),
+                answer.first(),
+                answer.len(),
+            )
+        }
+    };
     match event {
-        SenderEvent::RequestAd(unit) => unsafe {
-            c::sender_request_ad(
-                state,
-                state_len,
-                unit.as_mut_ptr(),
-                unit.len(),
-                store,
-                store_len,
-                output,
-                output_len,
-                answer,
-                answer_len,
-            )
-        },
-        SenderEvent::RequestBd(unit) => unsafe {
-            c::sender_request_bd(
-                state,
-                state_len,
-                unit.as_mut_ptr(),
-                unit.len(),
-                store,
-                store_len,
-                output,
-                output_len,
-                answer,
-                answer_len,
-            )
-        },
+        SenderEvent::RequestAd(unit) => with_octets(c::sender_request_ad, unit),
+        SenderEvent::RequestBd(unit) => with_octets(c::sender_request_bd, unit),
+        SenderEvent::ControlWord(word) => with_octets(c::sender_control_word, word),
         SenderEvent::Directive { number, value } => unsafe {
             c::sender_directive(
-                state, state_len, *number, *value, store, store_len, output, output_len, answer,
-                answer_len,
+                state.first(),
+                state.len(),
+                *number,
+                *value,
+                store.first(),
+                store.len(),
+                output.first(),
+                output.len(),
+                answer.first(),
+                answer.len(),
             )
         },
         SenderEvent::Tick => unsafe {
             c::sender_tick(
-                state, state_len, store, store_len, output, output_len, answer, answer_len,
+                state.first(),
+                state.len(),
+                store.first(),
+                store.len(),
+                output.first(),
+                output.len(),
+                answer.first(),
+                answer.len(),
             )
         },
         SenderEvent::LowerLayer(number) => unsafe {
             c::sender_lower_layer(
-                state, state_len, *number, store, store_len, output, output_len, answer, answer_len,
-            )
-        },
-        SenderEvent::ControlWord(word) => unsafe {
-            c::sender_control_word(
-                state,
-                state_len,
-                word.as_mut_ptr(),
-                word.len(),
-                store,
-                store_len,
-                output,
-                output_len,
-                answer,
-                answer_len,
+                state.first(),
+                state.len(),
+                *number,
+                store.first(),
+                store.len(),
+                output.first(),
+                output.len(),
+                answer.first(),
+                answer.len(),
             )
         },
     }

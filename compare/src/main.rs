@@ -2,8 +2,9 @@
 //! sender and receiver with the independent ones event by event, or the proved program of
 //! FARM-1 with the independent one.
 //!
-//!   compare [COUNT] [--seed N] [--fault NAME]
+//!   compare [COUNT] [--seed N] [--fault NAME] [--lending-fault NAME]
 //!   compare --faults
+//!   compare --lending-faults
 //!   compare --sender [EVENTS] [--seed N] [--fault NAME]
 //!   compare --receiver [EVENTS] [--seed N] [--fault NAME]
 //!   compare --session [EVENTS] [--seed N] [--fault NAME]
@@ -18,39 +19,48 @@
 //! told; EVENTS is the number of events of all runs. Exit status: 0 no difference; 1
 //! differences; 2 bad usage; 3 no difference, but no random input met a number, or a
 //! kind, that the operation can answer, or no run met something that FARM-1 or FOP-1 can
-//! come to; 4 the proved program can't be started, or does not end.
+//! come to; 4 the proved program can't be started, or does not end; 5 the library changed
+//! memory beside what it was lent. Where it touches a page beside what it was lent, the
+//! program ends by a fault of memory (src/lending.rs).
 
 mod cases;
 mod check;
 mod ends;
 mod inputs;
+mod lending;
 mod library;
 mod octets;
 mod program;
 mod random;
+mod settings;
 
 use cases::OPERATIONS;
 use check::Tally;
 use ends::Mode;
-use independent::fault::{Fault, FAULTS};
+use independent::fault::FAULTS;
+use lending::LENDING_FAULTS;
 use random::Random;
+use settings::{print_names, Settings};
 use std::process::ExitCode;
+
+const USAGE: &str = "usage: compare [COUNT] [--seed N] [--fault NAME] [--lending-fault NAME]
+       compare --faults
+       compare --lending-faults";
+
+/// So many inputs where the command line says no number.
+const INPUTS: u64 = 200_000;
 
 /// From so many inputs on, random ones must meet each number and each kind.
 const ENOUGH_TO_MEET_ALL: u64 = 20_000;
 
-struct Settings {
-    count: u64,
-    seed: u64,
-    fault: Fault,
-}
-
 fn main() -> ExitCode {
     let words: Vec<String> = std::env::args().skip(1).collect();
     if words == ["--faults"] {
-        for (name, _) in FAULTS {
-            println!("{name}");
-        }
+        print_names(FAULTS.iter().map(|fault| fault.0));
+        return ExitCode::from(0);
+    }
+    if words == ["--lending-faults"] {
+        print_names(LENDING_FAULTS.iter().map(|fault| fault.name));
         return ExitCode::from(0);
     }
     match words.first().map(String::as_str) {
@@ -60,8 +70,9 @@ fn main() -> ExitCode {
         Some("--session") => return ends::main(Mode::Session, &words[1..]),
         _ => (),
     }
-    let Some(settings) = read_settings(&words) else {
-        eprintln!("usage: compare [COUNT] [--seed N] [--fault NAME]\n       compare --faults");
+    let settings = settings::read(&words, INPUTS, &FAULTS, make_lending_fault);
+    let Some(settings) = settings else {
+        eprintln!("{USAGE}");
         eprintln!("{}", ends::USAGE);
         eprintln!("{}", program::USAGE);
         return ExitCode::from(2);
@@ -74,24 +85,13 @@ fn main() -> ExitCode {
     report(&settings, &tallies)
 }
 
-fn read_settings(words: &[String]) -> Option<Settings> {
-    let mut settings = Settings {
-        count: 200_000,
-        seed: 1,
-        fault: Fault::None,
-    };
-    let mut words = words.iter();
-    while let Some(word) = words.next() {
-        match word.as_str() {
-            "--seed" => settings.seed = words.next()?.parse().ok()?,
-            "--fault" => {
-                let name = words.next()?;
-                settings.fault = FAULTS.iter().find(|fault| fault.0 == name)?.1;
-            }
-            count => settings.count = count.parse().ok()?,
-        }
+/// The option of this comparison alone.
+fn make_lending_fault(option: &str, name: &str) -> Option<()> {
+    if option != "--lending-fault" {
+        return None;
     }
-    Some(settings)
+    lending::make_fault(*LENDING_FAULTS.iter().find(|fault| fault.name == name)?);
+    Some(())
 }
 
 /// A tally for each operation.

@@ -16,12 +16,13 @@ const LAYOUT: u8 = 1;
 
 /// The units of the store: 32 sent, one waiting.
 const PLACES: usize = K_MOST + 1;
-const LENGTHS: usize = 22;
+/// Where the lengths of these begin in the state.
+pub const LENGTHS: usize = 22;
 const RESPONSES: usize = 4;
 
 /// Document 01, Limits.
-const SPACECRAFT_MOST: u16 = 1023;
-const CHANNEL_MOST: u8 = 63;
+pub const SPACECRAFT_MOST: u16 = 1023;
+pub const CHANNEL_MOST: u8 = 63;
 const BUFFERS_MOST: u8 = 8;
 
 /// A sender's variables, settings and queues.
@@ -377,12 +378,12 @@ mod tests {
         ]);
         let state = SenderState::of(&sender);
         assert_eq!(SenderState::read(&octets), Some(state));
-        for (place, octet) in [(0, 0x52), (1, 2), (2, 0), (2, 7), (3, 0), (3, 33), (6, 0)] {
-            let good = std::mem::replace(&mut octets[place], octet);
-            assert!(no_sender_state(&octets));
-            octets[place] = good;
-        }
-        for (place, octet) in [(8, 4), (10, 64), (11, 233), (15, 0), (16, 32), (18, 1)] {
+        let bad_octets = [
+            [(0, 0x52), (1, 2), (2, 0), (2, 7), (3, 0), (3, 33)],
+            [(6, 0), (8, 4), (10, 64), (11, 233), (16, 32), (18, 1)],
+            [(7, 1), (15, 0), (17, 1), (19, 1), (20, 3), (22, 1)],
+        ];
+        for (place, octet) in bad_octets.into_iter().flatten() {
             let good = std::mem::replace(&mut octets[place], octet);
             assert!(no_sender_state(&octets));
             octets[place] = good;

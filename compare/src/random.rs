@@ -5,7 +5,7 @@ pub struct Random {
 }
 
 impl Random {
-    pub fn new(seed: u64) -> Random {
+    pub const fn new(seed: u64) -> Random {
         Random { state: seed }
     }
 

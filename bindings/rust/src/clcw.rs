@@ -11,9 +11,9 @@ pub struct Clcw {
     pub channel: u8,
     /// The receiver is in Lockout.
     pub lockout: bool,
-    /// The receiver has no free buffer.
+    /// The receiver is in Wait: a frame had to be left, since no buffer was free.
     pub wait: bool,
-    /// The receiver misses a frame.
+    /// A frame was lost or left, and is to be sent again.
     pub retransmit: bool,
     /// The FARM-B counter, 0 to 3.
     pub counter: u8,

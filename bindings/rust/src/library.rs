@@ -1,5 +1,20 @@
 //! The functions of the proved library, as include/pondreszi.h declares them.
 
+/// The events of a sender that bring octets: a unit or a control word.
+pub type SenderEventWithOctets = unsafe extern "C" fn(
+    state: *mut u8,
+    state_len: usize,
+    octets: *const u8,
+    octets_len: usize,
+    store: *mut u8,
+    store_len: usize,
+    output: *mut u8,
+    output_len: usize,
+    answer: *mut u8,
+    answer_len: usize,
+) -> u8;
+
+#[link(name = "boundary", kind = "static")]
 extern "C" {
     pub fn codeblock_error_control(information: *const u8, information_len: usize) -> u8;
     pub fn codeblock_is_good(block: *const u8, block_len: usize) -> u8;

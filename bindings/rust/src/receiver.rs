@@ -2,6 +2,11 @@ use crate::library;
 use crate::refusal::judged;
 use crate::{Refused, CLCW_OCTETS, RECEIVER_STATE_OCTETS};
 
+/// Where the parts of a state stand.
+const STATE: usize = 2;
+const TAKEN: usize = 8;
+const VR: usize = 9;
+
 /// What a receiver starts with.
 #[derive(Clone, Copy, PartialEq, Eq, Debug)]
 pub struct ReceiverSettings {
@@ -228,7 +233,7 @@ impl Receiver {
 
     /// The state of table 7-9.
     pub fn state(&self) -> ReceiverState {
-        match self.state[2] {
+        match self.state[STATE] {
             1 => ReceiverState::Open,
             2 => ReceiverState::Wait,
             _ => ReceiverState::Lockout,
@@ -237,12 +242,12 @@ impl Receiver {
 
     /// V(R), the number expected next.
     pub fn vr(&self) -> u8 {
-        self.state[9]
+        self.state[VR]
     }
 
     /// The buffers for AD units that are taken.
     pub fn buffers_taken(&self) -> u8 {
-        self.state[8]
+        self.state[TAKEN]
     }
 }
 

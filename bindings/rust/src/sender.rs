@@ -5,10 +5,21 @@ use crate::library;
 use crate::refusal::judged;
 use crate::{Refusal, Refused, LARGEST_FRAME, SENDER_STATE_OCTETS, STORE_OCTETS};
 
-/// The octets of an answer, and where its parts stand.
+/// Where the parts of a state stand.
+const STATE: usize = 2;
+const VS: usize = 11;
+const NNR: usize = 12;
+const TIMER: usize = 13;
+const FLAGS: usize = 16;
+const SENT: usize = 18;
+const MARKED: usize = 19;
+
+/// The flag of a unit that waits.
+const UNIT_WAITS: u8 = 8;
+
+/// The octets of an answer, and where its parts stand; its state too is octet 2.
 const ANSWER_OCTETS: usize = 17;
 const EVENT: usize = 1;
-const STATE: usize = 2;
 const FRAME: usize = 3;
 const ABORT: usize = 5;
 const ALERT: usize = 6;
@@ -61,6 +72,7 @@ impl SenderState {
             3 => SenderState::RetransmitWithWait,
             4 => SenderState::InitialisingWithoutBc,
             5 => SenderState::InitialisingWithBc,
+            // 6, or 0 in an answer that is not written.
             _ => SenderState::Initial,
         }
     }
@@ -394,10 +406,10 @@ impl Sender {
             return Err(Refusal::Setting.into());
         };
         let mut sender = Sender { state, store };
-        // An empty control word is refused with `Length` by every sender, and changes
-        // nothing; octets that are no state are refused before.
-        let refused = sender.control_word_raw(&[]).0;
-        if refused == Refusal::Setting.number() {
+        // An empty control word is refused by every sender, and changes nothing: with
+        // `Setting` where the octets are no state, otherwise with `Length`.
+        let refused = sender.control_word(&[]).map_err(|refused| refused.refusal);
+        if refused == Err(Refusal::Setting) {
             return Err(Refusal::Setting.into());
         }
         if sender.store.len() < STORE_OCTETS {
@@ -441,20 +453,7 @@ impl Sender {
     /// # Ok::<(), pondreszi::Refused>(())
     /// ```
     pub fn request_ad(&mut self, unit: &[u8]) -> Result<Answer, RefusedEvent> {
-        self.event(|lent| unsafe {
-            library::sender_request_ad(
-                lent.state,
-                SENDER_STATE_OCTETS,
-                unit.as_ptr(),
-                unit.len(),
-                lent.store,
-                lent.store_len,
-                lent.output,
-                LARGEST_FRAME,
-                lent.answer,
-                ANSWER_OCTETS,
-            )
-        })
+        self.event_with_octets(library::sender_request_ad, unit)
     }
 
     /// A unit of 1 to 249 octets for the BD service: sent once, in any state, never confirmed.
@@ -473,20 +472,7 @@ impl Sender {
     /// # Ok::<(), pondreszi::Refused>(())
     /// ```
     pub fn request_bd(&mut self, unit: &[u8]) -> Result<Answer, RefusedEvent> {
-        self.event(|lent| unsafe {
-            library::sender_request_bd(
-                lent.state,
-                SENDER_STATE_OCTETS,
-                unit.as_ptr(),
-                unit.len(),
-                lent.store,
-                lent.store_len,
-                lent.output,
-                LARGEST_FRAME,
-                lent.answer,
-                ANSWER_OCTETS,
-            )
-        })
+        self.event_with_octets(library::sender_request_bd, unit)
     }
 
     /// A directive.
@@ -629,17 +615,20 @@ impl Sender {
     /// # Ok::<(), pondreszi::Refused>(())
     /// ```
     pub fn control_word(&mut self, word: &[u8]) -> Result<Answer, RefusedEvent> {
-        let (number, answer) = self.control_word_raw(word);
-        concluded(number, answer)
+        self.event_with_octets(library::sender_control_word, word)
     }
 
-    fn control_word_raw(&mut self, word: &[u8]) -> (u8, Answer) {
-        self.call(|lent| unsafe {
-            library::sender_control_word(
+    fn event_with_octets(
+        &mut self,
+        function: library::SenderEventWithOctets,
+        octets: &[u8],
+    ) -> Result<Answer, RefusedEvent> {
+        self.event(|lent| unsafe {
+            function(
                 lent.state,
                 SENDER_STATE_OCTETS,
-                word.as_ptr(),
-                word.len(),
+                octets.as_ptr(),
+                octets.len(),
                 lent.store,
                 lent.store_len,
                 lent.output,
@@ -650,13 +639,8 @@ impl Sender {
         })
     }
 
-    fn event(&mut self, call: impl FnOnce(Lent) -> u8) -> Result<Answer, RefusedEvent> {
-        let (number, answer) = self.call(call);
-        concluded(number, answer)
-    }
-
     /// Room for any frame is lent, so that no event is short of it.
-    fn call(&mut self, call: impl FnOnce(Lent) -> u8) -> (u8, Answer) {
+    fn event(&mut self, call: impl FnOnce(Lent) -> u8) -> Result<Answer, RefusedEvent> {
         let mut output = [0; LARGEST_FRAME];
         let mut answer = [0; ANSWER_OCTETS];
         let number = call(Lent {
@@ -666,27 +650,31 @@ impl Sender {
             output: output.as_mut_ptr(),
             answer: answer.as_mut_ptr(),
         });
-        (number, Answer::of(&answer, &output))
+        let answer = Answer::of(&answer, &output);
+        match judged(number) {
+            Ok(()) => Ok(answer),
+            Err(refusal) => Err(RefusedEvent { refusal, answer }),
+        }
     }
 
     /// The state of table 7-8.
     pub fn state(&self) -> SenderState {
-        SenderState::from_number(self.state[2])
+        SenderState::from_number(self.state[STATE])
     }
 
     /// V(S), the number that the next AD unit gets.
     pub fn vs(&self) -> u8 {
-        self.state[11]
+        self.state[VS]
     }
 
     /// NN(R), the number of the oldest AD unit not confirmed.
     pub fn nnr(&self) -> u8 {
-        self.state[12]
+        self.state[NNR]
     }
 
     /// The ticks left of the timer; none where it is stopped.
     pub fn timer(&self) -> Option<u16> {
-        match u16::from_be_bytes([self.state[13], self.state[14]]) {
+        match u16::from_be_bytes([self.state[TIMER], self.state[TIMER + 1]]) {
             0 => None,
             ticks => Some(ticks),
         }
@@ -694,23 +682,16 @@ impl Sender {
 
     /// The units on the sent queue: sent, neither confirmed nor denied.
     pub fn sent(&self) -> u8 {
-        self.state[18]
+        self.state[SENT]
     }
 
     /// Those of them that are to be sent again, always the last ones.
     pub fn marked(&self) -> u8 {
-        self.state[19]
+        self.state[MARKED]
     }
 
     /// Whether a unit waits.
     pub fn waiting(&self) -> bool {
-        self.state[16] & 8 != 0
-    }
-}
-
-fn concluded(number: u8, answer: Answer) -> Result<Answer, RefusedEvent> {
-    match judged(number) {
-        Ok(()) => Ok(answer),
-        Err(refusal) => Err(RefusedEvent { refusal, answer }),
+        self.state[FLAGS] & UNIT_WAITS != 0
     }
 }

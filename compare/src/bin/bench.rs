@@ -12,6 +12,35 @@ mod octets;
 #[path = "../random.rs"]
 mod random;
 
+/// Lends memory as it is, in the place of ../lending.rs, which would be measured too.
+mod lending {
+    pub struct Lent<'a, T: ?Sized>(&'a mut T);
+
+    pub fn lend(octets: &mut [u8]) -> Lent<'_, [u8]> {
+        Lent(octets)
+    }
+
+    pub fn lend_number<T>(number: &mut T) -> Lent<'_, T> {
+        Lent(number)
+    }
+
+    impl Lent<'_, [u8]> {
+        pub fn first(&self) -> *mut u8 {
+            self.0.as_ptr().cast_mut()
+        }
+
+        pub fn len(&self) -> usize {
+            self.0.len()
+        }
+    }
+
+    impl<T> Lent<'_, T> {
+        pub fn number(&mut self) -> *mut T {
+            self.0
+        }
+    }
+}
+
 use std::hint::black_box;
 use std::time::{Duration, Instant};
 
@@ -21,10 +50,10 @@ use independent::cltu::{self, START_SEQUENCE, TAIL_SEQUENCE};
 use independent::codeblock::{self, CODEBLOCK_BITS, INFORMATION_BITS};
 use independent::farm1::{Arrival, Farm1};
 use independent::fault::Fault;
-use independent::fop1::{self, Sender, Settings, STORE, UNIT_MOST};
+use independent::fop1::{self, Sender, STORE, UNIT_MOST};
 use independent::frame::{self, Content};
 use independent::refusal::DONE;
-use library::{Lent, Received, SenderEvent, SenderMemory, SenderSettings};
+use library::{Received, SenderEvent, SenderMemory, SenderSettings};
 use octets::{SenderState, ANSWER, RECEIVER_STATE, SENDER_STATE};
 use random::Random;
 
@@ -208,7 +237,7 @@ fn cltu_write() -> Row {
         "CLTU write, frame of 256 octets",
         samples(|seed| sample(seed, FRAME)),
         CLTU,
-        |frame, output| library::cltu_write(frame, output, CLTU),
+        |frame, output| library::cltu_write(frame, output),
         |frame, output| cltu::write(frame, output, Fault::None),
     )
 }
@@ -223,7 +252,7 @@ fn cltu_read(name: &str, inputs: Vec<Vec<u8>>, codeblocks: usize) -> Row {
         name,
         inputs,
         room,
-        |input, output| library::cltu_read(input, output, room),
+        |input, output| library::cltu_read(input, output),
         |input, output| cltu::read(input, output, Fault::None),
     )
 }
@@ -245,7 +274,7 @@ fn frame_write() -> Row {
         "frame write, 256 octets",
         samples(|number| ad_content(number as u8, UNIT_MOST)),
         FRAME,
-        |content, output| library::frame_write(SPACECRAFT, CHANNEL, content, output, FRAME),
+        |content, output| library::frame_write(SPACECRAFT, CHANNEL, content, output),
         |content, output| frame::write(SPACECRAFT, CHANNEL, content, output, Fault::None),
     )
 }
@@ -270,7 +299,7 @@ const RECEIVER: [u8; 3] = [20, 0, 8];
 
 /// The library's receiver. Each AD frame is the one expected, and its unit is released.
 struct LibraryReceiver {
-    state: Lent,
+    state: Vec<u8>,
     frames: Vec<Vec<u8>>,
     next: u8,
 }
@@ -286,7 +315,7 @@ impl LibraryReceiver {
 
 impl Side for LibraryReceiver {
     fn clear(&mut self) {
-        self.state.octets.fill(0);
+        self.state.fill(0);
         self.next = 0;
         let number = library::receiver_new(SPACECRAFT, CHANNEL, RECEIVER, &mut self.state);
         assert!(number == DONE);
@@ -344,7 +373,7 @@ impl Side for IndependentReceiver {
 fn receiver(name: &str, unit: usize) -> Row {
     let frames: Vec<Vec<u8>> = (0..=255).map(|number| ad_frame(number, unit)).collect();
     let library = LibraryReceiver {
-        state: lent(RECEIVER_STATE),
+        state: vec![0; RECEIVER_STATE],
         frames: frames.clone(),
         next: 0,
     };
@@ -358,15 +387,8 @@ fn receiver(name: &str, unit: usize) -> Row {
         let accepted = answers.0.event == 1;
         let same = answers == independent.frame_and_release();
         let state = octets::receiver_state(&independent.farm, SPACECRAFT, CHANNEL);
-        accepted && same && library.state.seen() == state
+        accepted && same && library.state == state
     })
-}
-
-fn lent(length: usize) -> Lent {
-    Lent {
-        octets: vec![0; length],
-        lent: length,
-    }
 }
 
 const SENDER: SenderSettings = SenderSettings {
@@ -414,7 +436,7 @@ impl Side for LibrarySender {
             &mut memory.output,
             &mut memory.answer,
         ] {
-            lent.octets.fill(0);
+            lent.fill(0);
         }
         self.next = 0;
         let number = library::sender_new(&SENDER, &mut memory.store, &mut memory.state);
@@ -443,16 +465,7 @@ struct IndependentSender {
 
 impl IndependentSender {
     fn start() -> Sender {
-        let settings = Settings {
-            spacecraft: SENDER.spacecraft as usize,
-            channel: SENDER.channel as usize,
-            v_s: SENDER.vs as usize,
-            nn_r: SENDER.nnr as usize,
-            k: SENDER.k as usize,
-            t1_initial: SENDER.t1_initial as usize,
-            transmission_limit: SENDER.transmission_limit as usize,
-        };
-        let mut sender = Sender::start(&settings, STORE).unwrap();
+        let mut sender = Sender::start(&SENDER.independent(), STORE).unwrap();
         let initiate = fop1::Event::Directive {
             number: INITIATE as usize,
             value: 0,
@@ -488,15 +501,15 @@ fn senders_alike(library: &mut LibrarySender, independent: &mut IndependentSende
         let event = &independent.events[number][place];
         let answer = independent.sender.take(event, FRAME, Fault::None);
         let frame = answer.frame.as_deref().unwrap_or(&[]);
-        let mut store = memory.store.octets.clone();
+        let mut store = memory.store.clone();
         octets::put_stored(&independent.sender, &mut store);
-        let state = SenderState::read(memory.state.seen());
+        let state = SenderState::read(&memory.state);
         alike &= refusal == DONE
-            && memory.answer.octets == octets::answer(&answer)
-            && memory.output.octets[..frame.len()] == *frame
+            && memory.answer == octets::answer(&answer)
+            && memory.output[..frame.len()] == *frame
             && frame.is_empty() == (place != 0)
             && state == Some(SenderState::of(&independent.sender))
-            && memory.store.octets == store;
+            && memory.store == store;
     }
     alike && independent.sender.unacknowledged() == 0
 }
@@ -521,10 +534,10 @@ fn sender(name: &str, unit: usize) -> Row {
     };
     let library = LibrarySender {
         memory: SenderMemory {
-            state: lent(SENDER_STATE),
-            store: lent(STORE),
-            output: lent(FRAME),
-            answer: lent(ANSWER),
+            state: vec![0; SENDER_STATE],
+            store: vec![0; STORE],
+            output: vec![0; FRAME],
+            answer: vec![0; ANSWER],
         },
         events: (0..=255).map(of_library).collect(),
         next: 0,

@@ -1,6 +1,6 @@
 //! Writing a CLCW.
 
-use super::{Operation, GUARD, ROOMS};
+use super::{Operation, ROOMS};
 use crate::check::{agree, show_answers, show_first_difference, show_octets, Tally};
 use crate::inputs;
 use crate::library;
@@ -63,7 +63,7 @@ fn write_fixed(tally: &mut Tally, fault: Fault) {
             number: DONE,
             count: NEED as u64,
         };
-        let buffer = vec![0xA5; NEED + GUARD];
+        let buffer = vec![0xA5; NEED];
         write(&report, buffer, Some((answer, &word)), tally, fault);
     }
     for (channel, counter, lent, number) in FIXED {
@@ -77,7 +77,7 @@ fn write_fixed(tally: &mut Tally, fault: Fault) {
         };
         let count = if number == DONE { NEED as u64 } else { 0 };
         let answer = Written { number, count };
-        let buffer = vec![0xA5; lent + GUARD];
+        let buffer = vec![0xA5; lent];
         write(&report, buffer, Some((answer, &[])), tally, fault);
     }
 }
@@ -93,12 +93,11 @@ fn write_random(random: &mut Random, tally: &mut Tally, fault: Fault) {
         _ => {}
     }
     let lent = random.pick(&ROOMS).octets(NEED, random);
-    let buffer = random.octets(lent + GUARD);
+    let buffer = random.octets(lent);
     write(&report, buffer, None, tally, fault);
 }
 
-/// All of the buffer but its guard is lent. The paper says the answer, and octets with
-/// which the output begins.
+/// The paper says the answer, and octets with which the output begins.
 fn write(
     report: &Report,
     buffer: Vec<u8>,
@@ -106,13 +105,12 @@ fn write(
     tally: &mut Tally,
     fault: Fault,
 ) {
-    let lent = buffer.len() - GUARD;
-
+    let lent = buffer.len();
     let mut library_buffer = buffer.clone();
-    let library = library::clcw_write(report, &mut library_buffer, lent);
+    let library = library::clcw_write(report, &mut library_buffer);
 
     let mut independent_buffer = buffer;
-    let independent = clcw::write(report, &mut independent_buffer[..lent], fault);
+    let independent = clcw::write(report, &mut independent_buffer, fault);
 
     tally.meet(library.number);
     let (paper, word) = match paper {
@@ -126,7 +124,7 @@ fn write(
         format!("  {report:?}, lent output: {lent} octets\n")
             + &show_answers(&library, &independent, &paper)
             + &show_first_difference("output", &library_buffer, &independent_buffer)
-            + &show_octets("output of the library", &library_buffer[..lent])
+            + &show_octets("output of the library", &library_buffer)
             + &show_octets("output by the paper", word)
     });
 }

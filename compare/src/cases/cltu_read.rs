@@ -1,6 +1,6 @@
 //! Reading a CLTU.
 
-use super::{Operation, Room, GUARD, ROOMS};
+use super::{Operation, Room, ROOMS};
 use crate::check::{agree, show_answers, show_first_difference, show_octets, Tally};
 use crate::inputs;
 use crate::library;
@@ -51,7 +51,7 @@ fn read_fixed(tally: &mut Tally, fault: Fault) {
         (&[0; 65_536], 20, LENGTH, 0, 0),
     ];
     for (input, lent, number, count, place) in fixed {
-        let buffer = vec![0xA5; lent + GUARD];
+        let buffer = vec![0xA5; lent];
         let paper = Read {
             number,
             count,
@@ -78,21 +78,18 @@ fn read_random(random: &mut Random, tally: &mut Tally, fault: Fault) {
         *random.pick(&ROOMS)
     };
     let lent = room.octets(need, random);
-
-    let buffer = random.octets(lent + GUARD);
+    let buffer = random.octets(lent);
     read(&input, buffer, None, tally, fault);
 }
 
-/// All of the buffer but its guard is lent.
 fn read(input: &[u8], buffer: Vec<u8>, paper: Option<Read>, tally: &mut Tally, fault: Fault) {
-    let lent = buffer.len() - GUARD;
-
+    let lent = buffer.len();
     let mut library_input = input.to_vec();
     let mut library_buffer = buffer.clone();
-    let library = library::cltu_read(&mut library_input, &mut library_buffer, lent);
+    let library = library::cltu_read(&mut library_input, &mut library_buffer);
 
     let mut independent_buffer = buffer;
-    let independent = cltu::read(input, &mut independent_buffer[..lent], fault);
+    let independent = cltu::read(input, &mut independent_buffer, fault);
 
     tally.meet(library.number);
     let same = agree(&library, &independent, &paper)

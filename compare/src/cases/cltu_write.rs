@@ -1,6 +1,6 @@
 //! Writing a CLTU.
 
-use super::{Operation, GUARD, ROOMS};
+use super::{Operation, ROOMS};
 use crate::check::{agree, show_answers, show_first_difference, show_octets, Tally};
 use crate::library;
 use crate::random::Random;
@@ -34,7 +34,7 @@ const FIXED: [(usize, usize, u8, u64); 9] = [
 
 fn write_fixed(tally: &mut Tally, fault: Fault) {
     for (length, lent, number, count) in FIXED {
-        let buffer = vec![0xA5; lent + GUARD];
+        let buffer = vec![0xA5; lent];
         write(
             &vec![0; length],
             buffer,
@@ -54,20 +54,18 @@ fn write_random(random: &mut Random, tally: &mut Tally, fault: Fault) {
     let lent = room.octets(need, random);
 
     let frame = random.octets(length);
-    let buffer = random.octets(lent + GUARD);
+    let buffer = random.octets(lent);
     write(&frame, buffer, None, tally, fault);
 }
 
-/// All of the buffer but its guard is lent.
 fn write(frame: &[u8], buffer: Vec<u8>, paper: Option<Written>, tally: &mut Tally, fault: Fault) {
-    let lent = buffer.len() - GUARD;
-
+    let lent = buffer.len();
     let mut library_frame = frame.to_vec();
     let mut library_buffer = buffer.clone();
-    let library = library::cltu_write(&mut library_frame, &mut library_buffer, lent);
+    let library = library::cltu_write(&mut library_frame, &mut library_buffer);
 
     let mut independent_buffer = buffer;
-    let independent = cltu::write(frame, &mut independent_buffer[..lent], fault);
+    let independent = cltu::write(frame, &mut independent_buffer, fault);
 
     tally.meet(library.number);
     let same = agree(&library, &independent, &paper)

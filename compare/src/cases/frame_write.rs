@@ -1,6 +1,6 @@
 //! Writing frames of the four contents.
 
-use super::{Operation, GUARD, ROOMS};
+use super::{Operation, ROOMS};
 use crate::check::{agree, show_answers, show_first_difference, show_octets, Tally};
 use crate::inputs;
 use crate::library;
@@ -99,12 +99,6 @@ const COMMAND_FIXED: [(u16, u8, isize, u8); 11] = [
     (1, 64, -8, SETTING),
 ];
 
-/// What the paper says: the answer, and octets with which the output begins.
-struct Paper {
-    answer: Written,
-    octets: Vec<u8>,
-}
-
 /// Document 01, Frame: spacecraft 2A5 hex, channel 3, AD, N(S) 255, data AB.
 fn ad_fixed(tally: &mut Tally, fault: Fault) {
     let printed = Content::Ad {
@@ -115,14 +109,14 @@ fn ad_fixed(tally: &mut Tally, fault: Fault) {
     write_printed(0x2A5, 3, printed, &octets, tally, fault);
     for (number, unit_fixed) in (0..).zip(UNIT_FIXED) {
         let unit = vec![number; unit_fixed.2];
-        write_unit_fixed(unit_fixed, Content::Ad { number, unit }, tally, fault);
+        write_fixed(unit_fixed, &Content::Ad { number, unit }, &[], tally, fault);
     }
 }
 
 fn bd_fixed(tally: &mut Tally, fault: Fault) {
     for unit_fixed in UNIT_FIXED {
         let unit = vec![0; unit_fixed.2];
-        write_unit_fixed(unit_fixed, Content::Bd { unit }, tally, fault);
+        write_fixed(unit_fixed, &Content::Bd { unit }, &[], tally, fault);
     }
 }
 
@@ -149,50 +143,27 @@ fn write_printed(
     tally: &mut Tally,
     fault: Fault,
 ) {
-    let count = octets.len() + 2;
-    let paper = Paper {
-        answer: Written {
-            number: DONE,
-            count: count as u64,
-        },
-        octets: octets.to_vec(),
-    };
-    let buffer = vec![0xA5; count + GUARD];
-    write(
-        spacecraft,
-        channel,
-        &content,
-        buffer,
-        Some(paper),
-        tally,
-        fault,
-    );
+    let length = content.data().len();
+    let fixed = (spacecraft, channel, length, length + OVERHEAD, DONE);
+    write_fixed(fixed, &content, octets, tally, fault);
 }
 
-fn write_unit_fixed(
+/// The paper says octets with which the output begins.
+fn write_fixed(
     (spacecraft, channel, length, lent, number): (u16, u8, usize, usize, u8),
-    content: Content,
+    content: &Content,
+    octets: &[u8],
     tally: &mut Tally,
     fault: Fault,
 ) {
     let count = if number == DONE { length + OVERHEAD } else { 0 };
-    let paper = Paper {
-        answer: Written {
-            number,
-            count: count as u64,
-        },
-        octets: Vec::new(),
+    let answer = Written {
+        number,
+        count: count as u64,
     };
-    let buffer = vec![0xA5; lent + GUARD];
-    write(
-        spacecraft,
-        channel,
-        &content,
-        buffer,
-        Some(paper),
-        tally,
-        fault,
-    );
+    let buffer = vec![0xA5; lent];
+    let paper = Some((answer, octets));
+    write(spacecraft, channel, content, buffer, paper, tally, fault);
 }
 
 fn write_command_fixed(content: Content, tally: &mut Tally, fault: Fault) {
@@ -201,7 +172,7 @@ fn write_command_fixed(content: Content, tally: &mut Tally, fault: Fault) {
     for (spacecraft, channel, beyond, number) in COMMAND_FIXED {
         let lent = need.saturating_add_signed(beyond);
         let fixed = (spacecraft, channel, length, lent, number);
-        write_unit_fixed(fixed, content.clone(), tally, fault);
+        write_fixed(fixed, &content, &[], tally, fault);
     }
 }
 
@@ -240,22 +211,21 @@ fn write_random(content: Content, random: &mut Random, tally: &mut Tally, fault:
     let (spacecraft, channel) = inputs::frame::any_address(random);
     let need = content.data().len() + OVERHEAD;
     let lent = random.pick(&ROOMS).octets(need, random);
-    let buffer = random.octets(lent + GUARD);
+    let buffer = random.octets(lent);
     write(spacecraft, channel, &content, buffer, None, tally, fault);
 }
 
-/// All of the buffer but its guard is lent.
+/// The paper says the answer, and octets with which the output begins.
 fn write(
     spacecraft: u16,
     channel: u8,
     content: &Content,
     buffer: Vec<u8>,
-    paper: Option<Paper>,
+    paper: Option<(Written, &[u8])>,
     tally: &mut Tally,
     fault: Fault,
 ) {
-    let lent = buffer.len() - GUARD;
-
+    let lent = buffer.len();
     let mut library_content = content.clone();
     let mut library_buffer = buffer.clone();
     let library = library::frame_write(
@@ -263,34 +233,27 @@ fn write(
         channel,
         &mut library_content,
         &mut library_buffer,
-        lent,
     );
 
     let mut independent_buffer = buffer;
-    let independent = frame::write(
-        spacecraft,
-        channel,
-        content,
-        &mut independent_buffer[..lent],
-        fault,
-    );
+    let independent = frame::write(spacecraft, channel, content, &mut independent_buffer, fault);
 
     tally.meet(library.number);
     let (paper, octets) = match paper {
-        Some(paper) => (Some(paper.answer), paper.octets),
-        None => (None, Vec::new()),
+        Some((answer, octets)) => (Some(answer), octets),
+        None => (None, &[][..]),
     };
     let same = agree(&library, &independent, &paper)
         && library_buffer == independent_buffer
-        && library_buffer.starts_with(&octets)
+        && library_buffer.starts_with(octets)
         && library_content == *content;
     tally.compared(same, || {
         format!("  spacecraft {spacecraft}, channel {channel}, lent output: {lent} octets\n")
             + &show_content(content)
             + &show_answers(&library, &independent, &paper)
             + &show_first_difference("output", &library_buffer, &independent_buffer)
-            + &show_octets("output of the library", &library_buffer[..lent])
-            + &show_octets("output by the paper", &octets)
+            + &show_octets("output of the library", &library_buffer)
+            + &show_octets("output by the paper", octets)
             + &show_first_difference("data", &library_content.data(), &content.data())
     });
 }

@@ -46,9 +46,6 @@ pub const OPERATIONS: [Operation; 13] = [
     clcw_read::READ,
 ];
 
-/// So many octets of an output buffer lie behind the lent part.
-const GUARD: usize = 16;
-
 /// The length of a lent output, against the octets needed.
 #[derive(Clone, Copy)]
 enum Room {

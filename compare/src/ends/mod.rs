@@ -8,9 +8,9 @@ mod sender_end;
 mod session;
 
 use crate::check::Tally;
-use crate::inputs::GUARD;
-use crate::library::Lent;
+use crate::octets::LENGTHS;
 use crate::random::Random;
+use crate::settings::{self, print_names, Settings};
 use independent::fault::{Fault, FOP_FAULTS, PROGRAM_FAULTS};
 use std::process::ExitCode;
 use std::time::Instant;
@@ -31,28 +31,23 @@ pub enum Mode {
     Session,
 }
 
-struct Settings {
-    events: u64,
-    seed: u64,
-    fault: Fault,
-}
+/// So many events where the command line says no number.
+const EVENTS: u64 = 200_000;
 
 /// The exit status is as in src/main.rs.
 pub fn main(mode: Mode, words: &[String]) -> ExitCode {
     let faults = faults(&mode);
     if words == ["--faults"] {
-        for (name, _) in faults {
-            println!("{name}");
-        }
+        print_names(faults.iter().map(|fault| fault.0));
         return ExitCode::from(0);
     }
-    let Some(settings) = read_settings(words, &faults) else {
+    let Some(settings) = settings::read(words, EVENTS, &faults, |_, _| None) else {
         eprintln!("usage:\n{USAGE}");
         return ExitCode::from(2);
     };
     println!(
         "{} events, seed {}, fault {:?}",
-        settings.events, settings.seed, settings.fault
+        settings.count, settings.seed, settings.fault
     );
     let begin = Instant::now();
     let report = match mode {
@@ -76,24 +71,19 @@ fn faults(mode: &Mode) -> Vec<(&'static str, Fault)> {
     }
 }
 
-fn read_settings(words: &[String], faults: &[(&str, Fault)]) -> Option<Settings> {
-    let mut settings = Settings {
-        events: 200_000,
-        seed: 1,
-        fault: Fault::None,
-    };
-    let mut words = words.iter();
-    while let Some(word) = words.next() {
-        match word.as_str() {
-            "--seed" => settings.seed = words.next()?.parse().ok()?,
-            "--fault" => {
-                let name = words.next()?;
-                settings.fault = faults.iter().find(|fault| fault.0 == name)?.1;
-            }
-            events => settings.events = events.parse().ok()?,
-        }
+/// Compares runs until the events are enough. Answers what they gave and how many began;
+/// a run says whether it did.
+fn compare_runs(
+    settings: &Settings,
+    mut run: impl FnMut(&mut Random, &mut Tally) -> bool,
+) -> (Tally, u64) {
+    let mut random = Random::new(settings.seed);
+    let mut tally = Tally::new();
+    let mut runs = 0;
+    while tally.inputs < settings.count {
+        runs += run(&mut random, &mut tally) as u64;
     }
-    Some(settings)
+    (tally, runs)
 }
 
 /// How often each of some things was met, by name.
@@ -168,7 +158,7 @@ impl Report {
         }
         let required = self.counts.iter().filter(|counts| counts.required);
         let never_met: usize = required.map(Counts::never_met).sum();
-        if never_met > 0 && settings.events >= ENOUGH_TO_MEET_ALL {
+        if never_met > 0 && settings.count >= ENOUGH_TO_MEET_ALL {
             println!(
                 "compared {events} events in {runs} runs, 0 differences, but {never_met} things never met"
             );
@@ -184,43 +174,47 @@ fn refusal(number: u8) -> String {
     format!("refusal {number}")
 }
 
+fn compare_numbers(library: u8, expected: u8, differences: &mut Vec<String>) {
+    if library != expected {
+        differences.push(format!("number {library}, not {expected}"));
+    }
+}
+
 /// Says which of two parts differ, with the first octet that does.
-fn compare_octets(name: &str, library: &Lent, expected: &[u8], differences: &mut Vec<String>) {
-    if library.octets != expected {
-        let place = library
-            .octets
-            .iter()
-            .zip(expected)
-            .position(|(a, b)| a != b);
-        let place = place.unwrap_or(0);
+fn compare_octets(name: &str, library: &[u8], expected: &[u8], differences: &mut Vec<String>) {
+    if library != expected {
+        let place = library.iter().zip(expected).position(|(a, b)| a != b);
+        let place = place.expect("as many are expected as are lent");
         differences.push(format!(
             "{name}: octet {place} is {:02X}, not {:02X} ({} lent)",
-            library.octets[place], expected[place], library.lent
+            library[place],
+            expected[place],
+            library.len()
         ));
     }
 }
 
 /// Damages octets that are a state: some octets or bits, or the length lent.
-fn damage(random: &mut Random, state: &mut Lent) {
-    let octets = state.lent;
+fn damage(random: &mut Random, state: &mut Vec<u8>) {
+    let octets = state.len();
     match random.below(8) {
-        0 => state.lent = *random.pick(&[0, 1, octets - 1, octets + 1]),
-        1 => state.octets = random.octets(octets + GUARD),
+        0 => state.resize(*random.pick(&[0, 1, octets - 1, octets + 1]), 0),
+        1 => *state = random.octets(octets),
         2 => {
             let place = random.below(octets);
-            state.octets[place] = *random.pick(&[0, 1, 32, 64, 255]);
+            state[place] = *random.pick(&[0, 1, 32, 64, 255]);
         }
         3 => {
             for _ in 0..random.between(1, 8) {
                 let place = random.below(octets);
-                state.octets[place] = random.number() as u8;
+                state[place] = random.number() as u8;
             }
         }
         4 | 5 => {
             // The octets before the lengths.
-            let place = random.below(octets.min(22));
-            state.octets[place] = random.number() as u8;
+            let place = random.below(octets.min(LENGTHS));
+            state[place] = random.number() as u8;
         }
-        _ => random.flip_a_bit(&mut state.octets[..octets]),
+        _ => random.flip_a_bit(state),
     }
 }

@@ -1,21 +1,18 @@
 //! Random runs of a receiver.
 
-use super::{compare_octets, damage, receiver_end, refusal, Counts, Report, Settings};
+use super::{compare_runs, damage, receiver_end, refusal, Counts, Report};
 use crate::check::Tally;
-use crate::inputs::farm1_frames::{self as inputs, Start};
-use crate::inputs::lent;
-use crate::library::{self, Lent};
+use crate::inputs::farm1_frames as inputs;
 use crate::octets::{no_receiver_state, RECEIVER_STATE};
 use crate::random::Random;
-use independent::bits;
-use independent::clcw;
-use independent::farm1::{self, Arrival, Farm1, EVENTS, STATES};
+use crate::settings::Settings;
+use independent::farm1::{self, Farm1, EVENTS, STATES};
 use independent::fault::Fault;
 use independent::frame;
 use independent::refusal::{
     ADDRESS, CHECK, COMMAND, DONE, FILL, HEADER, LENGTH, RELEASE, ROOM, SETTING, SHORT,
 };
-use independent::session::{carried, Received};
+use independent::session::{word_of, Received};
 
 const REFUSALS: [u8; 11] = [
     DONE, SHORT, FILL, HEADER, ADDRESS, CHECK, COMMAND, LENGTH, ROOM, SETTING, RELEASE,
@@ -34,7 +31,7 @@ const KINDS: [&str; 8] = [
 
 /// Both receivers, and their address.
 struct Pair {
-    state: Lent,
+    state: Vec<u8>,
     farm: Farm1,
     spacecraft: u16,
     channel: u8,
@@ -64,16 +61,14 @@ impl Met {
 }
 
 pub fn compare(settings: &Settings) -> Report {
-    let mut random = Random::new(settings.seed);
     let mut met = Met::new();
-    let mut tally = Tally::new();
-    let mut runs = 0;
-    while tally.inputs < settings.events {
-        if let Some(pair) = start(&mut random, &mut tally, &mut met) {
-            runs += 1;
-            run(pair, settings, &mut random, &mut tally, &mut met);
-        }
-    }
+    let (tally, runs) = compare_runs(settings, |random, tally| {
+        let Some(pair) = start(random, tally, &mut met) else {
+            return false;
+        };
+        run(pair, settings, random, tally, &mut met);
+        true
+    });
     Report {
         tally,
         runs,
@@ -84,53 +79,24 @@ pub fn compare(settings: &Settings) -> Report {
 /// A new receiver, where it is not refused.
 fn start(random: &mut Random, tally: &mut Tally, met: &mut Met) -> Option<Pair> {
     let start = inputs::start(random);
-    let Start {
-        spacecraft,
-        channel,
-        variables: [window, v_r, buffers],
-    } = start;
     let octets = match random.below(12) {
         0 => random.below(RECEIVER_STATE),
         1 => random.between(RECEIVER_STATE, RECEIVER_STATE + 20),
         _ => RECEIVER_STATE,
     };
-    let before = lent(random, octets);
-    let mut state = before.clone();
-    let number = library::receiver_new(spacecraft, channel, start.variables, &mut state);
-    let started = match spacecraft <= 1023 && channel <= 63 {
-        true => Farm1::start(window as usize, v_r as usize, buffers as usize),
-        false => Err(SETTING),
-    };
-    let expected = match &started {
-        Err(refusal) => *refusal,
-        Ok(_) if octets < RECEIVER_STATE => ROOM,
-        Ok(_) => DONE,
-    };
-    let mut differences = Vec::new();
-    if number != expected {
-        differences.push(format!("number {number}, not {expected}"));
-    }
-    let mut after = before.octets.clone();
-    if let (Ok(farm), DONE) = (&started, expected) {
-        let state = receiver_end::state(farm, spacecraft, channel);
-        after[..RECEIVER_STATE].copy_from_slice(state.seen());
-    }
-    compare_octets("state", &state, &after, &mut differences);
+    let (number, farm, differences) = receiver_end::start(&start, random.octets(octets));
     met.refusals.meet(&refusal(number));
     met.kinds
         .meet(if number == DONE { "new" } else { "new refused" });
     tally.compared(differences.is_empty(), || {
         format!("  new: {start:?}\n  {}\n", differences.join("\n  "))
     });
-    if expected != DONE || !differences.is_empty() {
-        return None;
-    }
-    let farm = started.ok()?;
+    let farm = farm?;
     Some(Pair {
-        state: receiver_end::state(&farm, spacecraft, channel),
+        state: receiver_end::state(&farm, start.spacecraft, start.channel),
         farm,
-        spacecraft,
-        channel,
+        spacecraft: start.spacecraft,
+        channel: start.channel,
     })
 }
 
@@ -138,7 +104,7 @@ fn start(random: &mut Random, tally: &mut Tally, met: &mut Met) -> Option<Pair> 
 fn run(mut pair: Pair, settings: &Settings, random: &mut Random, tally: &mut Tally, met: &mut Met) {
     let harm = *random.pick(&[4, 30, 300]);
     for n in 0..random.between(50, 800) {
-        if tally.inputs >= settings.events {
+        if tally.inputs >= settings.count {
             return;
         }
         let before = pair.farm;
@@ -163,7 +129,7 @@ fn run(mut pair: Pair, settings: &Settings, random: &mut Random, tally: &mut Tal
 }
 
 impl Pair {
-    fn expected_state(&self) -> Lent {
+    fn expected_state(&self) -> Vec<u8> {
         receiver_end::state(&self.farm, self.spacecraft, self.channel)
     }
 
@@ -182,58 +148,36 @@ impl Pair {
     ) -> Vec<String> {
         let octets = inputs::frame(random, harm, &self.farm, self.spacecraft, self.channel);
         let before = self.farm.state;
-        let read = frame::read(&octets, self.spacecraft, self.channel, Fault::None);
-        let arrival = match (read.number, read.kind) {
-            (DONE, frame::AD) => Arrival::Ad(read.value),
-            (DONE, frame::BD) => Arrival::Bd,
-            (DONE, frame::BC_UNLOCK) => Arrival::Unlock,
-            (DONE, _) => Arrival::SetVr(read.value),
-            _ => Arrival::InvalidFrame,
-        };
-        let event = self.farm.take(arrival, fault);
-        let is_unit = match event {
-            Ok(farm1::Event::E1) => before == farm1::State::Open,
-            Ok(farm1::Event::E6) => true,
-            _ => false,
-        };
-        let accepted = carried(&octets, self.spacecraft, self.channel).filter(|_| is_unit);
-        let received = Received {
-            event,
-            state: self.farm.state,
-            accepted,
-        };
-        let expected = receiver_end::expected_frame(read.number, &received);
+        let address = (self.spacecraft, self.channel);
+        let number = frame::read(&octets, address.0, address.1, Fault::None).number;
+        let received = Received::frame(&mut self.farm, &octets, address, fault);
+        let expected = receiver_end::expected_frame(number, &received);
         met.kinds.meet("frame");
-        met.refusals.meet(&refusal(read.number));
+        met.refusals.meet(&refusal(number));
         match expected.unit {
             1 => met.kinds.meet("AD unit"),
             2 => met.kinds.meet("BD unit"),
             _ => (),
         }
-        self.meet_cell(event, before, met);
+        self.meet_cell(received.event, before, met);
         let state = self.expected_state();
         receiver_end::frame(&mut self.state, &octets, &expected, &state)
     }
 
     fn release(&mut self, fault: Fault, met: &mut Met) -> Vec<String> {
         let before = self.farm.state;
-        let event = self.farm.take(Arrival::Release, fault);
-        let received = Received {
-            event,
-            state: self.farm.state,
-            accepted: None,
-        };
+        let received = Received::release(&mut self.farm, fault);
         let expected = receiver_end::expected_release(&received);
         met.kinds.meet("release");
         met.refusals.meet(&refusal(expected.0));
-        self.meet_cell(event, before, met);
+        self.meet_cell(received.event, before, met);
         let state = self.expected_state();
         receiver_end::release(&mut self.state, expected, &state)
     }
 
     fn word(&mut self, random: &mut Random, met: &mut Met) -> Vec<String> {
         let room = random.between(0, 8);
-        let output = lent(random, room);
+        let output = random.octets(room);
         met.kinds.meet("word");
         met.refusals
             .meet(&refusal(if room < 4 { ROOM } else { DONE }));
@@ -245,7 +189,7 @@ impl Pair {
     fn no_state(&mut self, random: &mut Random, met: &mut Met) -> Vec<String> {
         let mut state = self.state.clone();
         damage(random, &mut state);
-        if !no_receiver_state(state.seen()) {
+        if !no_receiver_state(&state) {
             return Vec::new();
         }
         met.kinds.meet("no state");
@@ -260,22 +204,9 @@ impl Pair {
             1 => receiver_end::release(&mut state, (SETTING, 0), &before),
             _ => {
                 let room = random.between(0, 8);
-                let output = lent(random, room);
+                let output = random.octets(room);
                 receiver_end::word(&mut state, output, Err(SETTING)).1
             }
         }
     }
-}
-
-/// The control word of a receiver.
-fn word_of(farm: &Farm1, channel: u8) -> Vec<u8> {
-    let report = clcw::Report {
-        channel,
-        lockout: farm.lockout_flag as u8,
-        wait: farm.wait_flag as u8,
-        retransmit: farm.retransmit_flag as u8,
-        counter: farm.farm_b_counter,
-        value: farm.v_r,
-    };
-    bits::to_octets(&clcw::encode(&report, Fault::None))
 }

@@ -1,27 +1,49 @@
 //! The library's receiver, and what it must be after an event.
 
-use super::compare_octets;
-use crate::inputs::GUARD;
-use crate::library::{self, Lent, Received};
-use crate::octets::{self, RECEIVER_STATE};
+use super::{compare_numbers, compare_octets};
+use crate::inputs::farm1_frames::Start;
+use crate::library::{self, Received};
+use crate::octets::{self, CHANNEL_MOST, RECEIVER_STATE, SPACECRAFT_MOST};
 use independent::farm1::{Event, Farm1};
 use independent::frame::{AD, BD};
 use independent::output::Written;
-use independent::refusal::{DONE, ROOM};
+use independent::refusal::{DONE, ROOM, SETTING};
 use independent::session::{self, Carried};
 
 /// The octets of the primary header, of a control word.
 const HEADER: u64 = 5;
 const WORD: usize = 4;
 
-/// The octets of a receiver's state in a longer buffer.
-pub fn state(farm: &Farm1, spacecraft: u16, channel: u8) -> Lent {
-    let mut octets = octets::receiver_state(farm, spacecraft, channel).to_vec();
-    octets.resize(RECEIVER_STATE + GUARD, 0xA5);
-    Lent {
-        octets,
-        lent: RECEIVER_STATE,
+/// The octets of a receiver's state.
+pub fn state(farm: &Farm1, spacecraft: u16, channel: u8) -> Vec<u8> {
+    octets::receiver_state(farm, spacecraft, channel).to_vec()
+}
+
+/// A new receiver of the library, compared with the independent one. Both must refuse it
+/// alike, or both give it: no receiver where they refuse, or differ.
+pub fn start(start: &Start, before: Vec<u8>) -> (u8, Option<Farm1>, Vec<String>) {
+    let (spacecraft, channel) = (start.spacecraft, start.channel);
+    let mut after = before.clone();
+    let number = library::receiver_new(spacecraft, channel, start.variables, &mut after);
+    let [window, v_r, buffers] = start.variables.map(usize::from);
+    let started = match spacecraft <= SPACECRAFT_MOST && channel <= CHANNEL_MOST {
+        true => Farm1::start(window, v_r, buffers),
+        false => Err(SETTING),
+    };
+    let started = started.and_then(|farm| match before.len() < RECEIVER_STATE {
+        true => Err(ROOM),
+        false => Ok(farm),
+    });
+    let mut expected = before;
+    if let Ok(farm) = &started {
+        expected[..RECEIVER_STATE].copy_from_slice(&state(farm, spacecraft, channel));
     }
+    let mut differences = Vec::new();
+    let expected_number = started.err().unwrap_or(DONE);
+    compare_numbers(number, expected_number, &mut differences);
+    compare_octets("state", &after, &expected, &mut differences);
+    let farm = started.ok().filter(|_| differences.is_empty());
+    (number, farm, differences)
 }
 
 fn event_number(event: Result<Event, u8>) -> u8 {
@@ -59,7 +81,7 @@ pub fn expected_release(received: &session::Received) -> (u8, u8) {
 
 /// Nothing is said where the octets are no state.
 pub const NOTHING_RECEIVED: Received = Received {
-    number: independent::refusal::SETTING,
+    number: SETTING,
     event: 0,
     unit: 0,
     first: 0,
@@ -68,10 +90,10 @@ pub const NOTHING_RECEIVED: Received = Received {
 
 /// A frame comes to the library's receiver; its state is compared with the expected one.
 pub fn frame(
-    state: &mut Lent,
+    state: &mut [u8],
     octets: &[u8],
     expected: &Received,
-    expected_state: &Lent,
+    expected_state: &[u8],
 ) -> Vec<String> {
     let mut frame = octets.to_vec();
     let received = library::receiver_frame(state, &mut frame);
@@ -82,30 +104,30 @@ pub fn frame(
     if frame != octets {
         differences.push("the frame is changed".to_string());
     }
-    compare_octets("state", state, &expected_state.octets, &mut differences);
+    compare_octets("state", state, expected_state, &mut differences);
     differences
 }
 
-pub fn release(state: &mut Lent, expected: (u8, u8), expected_state: &Lent) -> Vec<String> {
+pub fn release(state: &mut [u8], expected: (u8, u8), expected_state: &[u8]) -> Vec<String> {
     let released = library::receiver_release(state);
     let mut differences = Vec::new();
     if released != expected {
         differences.push(format!("release: {released:?}, not {expected:?}"));
     }
-    compare_octets("state", state, &expected_state.octets, &mut differences);
+    compare_octets("state", state, expected_state, &mut differences);
     differences
 }
 
 /// The control word, written into the output where it has room, or refused.
 pub fn word(
-    state: &mut Lent,
-    mut output: Lent,
+    state: &mut [u8],
+    mut output: Vec<u8>,
     expected: Result<&[u8], u8>,
 ) -> (Vec<u8>, Vec<String>) {
-    let (state_before, mut output_after) = (state.octets.clone(), output.octets.clone());
+    let (state_before, mut output_after) = (state.to_vec(), output.clone());
     let written = library::receiver_word(state, &mut output);
     let expected = match expected {
-        Ok(word) if output.lent >= WORD => {
+        Ok(word) if output.len() >= WORD => {
             output_after[..WORD].copy_from_slice(word);
             Written {
                 number: DONE,
@@ -121,5 +143,5 @@ pub fn word(
     }
     compare_octets("state", state, &state_before, &mut differences);
     compare_octets("output", &output, &output_after, &mut differences);
-    (output.octets[..WORD].to_vec(), differences)
+    (output, differences)
 }

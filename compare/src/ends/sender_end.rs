@@ -1,8 +1,7 @@
 //! The library's sender: its state, its store, and what it must be after an event.
 
-use super::compare_octets;
-use crate::inputs::{lent, GUARD};
-use crate::library::{self, Lent, SenderEvent, SenderMemory, SenderSettings};
+use super::{compare_numbers, compare_octets};
+use crate::library::{self, SenderEvent, SenderMemory, SenderSettings};
 use crate::octets::{self, no_sender_state, SenderState, ANSWER, SENDER_STATE};
 use crate::random::Random;
 use independent::fop1::{self, Answer, Sender};
@@ -11,8 +10,8 @@ use independent::refusal::{DONE, ROOM, SETTING};
 /// Between the events.
 #[derive(Clone)]
 pub struct SenderEnd {
-    pub state: Lent,
-    pub store: Lent,
+    pub state: Vec<u8>,
+    pub store: Vec<u8>,
 }
 
 /// A call of the library: the memory before and after it, and its number.
@@ -28,19 +27,6 @@ pub struct Call {
 pub struct Expected {
     pub number: u8,
     pub answer: Option<Answer>,
-}
-
-/// The settings of the independent sender.
-pub fn independent_settings(settings: &SenderSettings) -> fop1::Settings {
-    fop1::Settings {
-        spacecraft: settings.spacecraft as usize,
-        channel: settings.channel as usize,
-        v_s: settings.vs as usize,
-        nn_r: settings.nnr as usize,
-        k: settings.k as usize,
-        t1_initial: settings.t1_initial as usize,
-        transmission_limit: settings.transmission_limit as usize,
-    }
 }
 
 /// The event of the independent sender, none for a number that the lower layer has not.
@@ -68,33 +54,32 @@ pub fn independent_event(event: &SenderEvent) -> Option<fop1::Event> {
 /// alike, or both give it: no sender where they refuse, or differ.
 pub fn start(
     settings: &SenderSettings,
-    store: Lent,
-    state: Lent,
+    store: Vec<u8>,
+    state: Vec<u8>,
 ) -> (u8, Option<(SenderEnd, Sender)>, Vec<String>) {
     let mut after = SenderEnd {
         state: state.clone(),
         store: store.clone(),
     };
     let number = library::sender_new(settings, &mut after.store, &mut after.state);
-    let started = Sender::start(&independent_settings(settings), store.lent);
+    let started = Sender::start(&settings.independent(), store.len());
     let expected = match &started {
         Err(refusal) => *refusal,
-        Ok(_) if state.lent < SENDER_STATE => ROOM,
+        Ok(_) if state.len() < SENDER_STATE => ROOM,
         Ok(_) => DONE,
     };
     let mut differences = Vec::new();
     compare_numbers(number, expected, &mut differences);
-    compare_octets("store", &after.store, &store.octets, &mut differences);
+    compare_octets("store", &after.store, &store, &mut differences);
     let sender = match started {
         Ok(sender) if expected == DONE => sender,
         _ => {
-            compare_octets("state", &after.state, &state.octets, &mut differences);
+            compare_octets("state", &after.state, &state, &mut differences);
             return (number, None, differences);
         }
     };
     compare_state(&sender, &after.state, &state, &mut differences);
-    after.state.octets.truncate(SENDER_STATE + GUARD);
-    after.state.lent = SENDER_STATE;
+    after.state.truncate(SENDER_STATE);
     let pair = differences.is_empty().then_some((after, sender));
     (number, pair, differences)
 }
@@ -105,15 +90,18 @@ impl SenderEnd {
         SenderMemory {
             state: self.state.clone(),
             store: self.store.clone(),
-            output: lent(random, output),
-            answer: lent(random, answer),
+            output: random.octets(output),
+            answer: random.octets(answer),
         }
     }
 
-    /// The state and the store become those after the call.
+    /// The state and the store become those after the call. Of a store that is lent in
+    /// part nothing changes, since the call is refused.
     pub fn keep(&mut self, call: Call) {
         self.state = call.after.state;
-        self.store.octets = call.after.store.octets;
+        if call.after.store.len() == self.store.len() {
+            self.store = call.after.store;
+        }
     }
 }
 
@@ -134,11 +122,10 @@ impl Call {
     /// What must come of a call that doesn't reach the sender: 12 for a number that the
     /// lower layer has not and for octets that are no state, 11 for the answer's room.
     pub fn refused_at_once(&self) -> Option<Expected> {
-        let number = if independent_event(&self.event).is_none() {
+        let unknown = independent_event(&self.event).is_none();
+        let number = if unknown || no_sender_state(&self.before.state) {
             SETTING
-        } else if no_sender_state(self.before.state.seen()) {
-            SETTING
-        } else if self.before.answer.lent < ANSWER {
+        } else if self.before.answer.len() < ANSWER {
             ROOM
         } else {
             return None;
@@ -158,8 +145,8 @@ impl Call {
         if self.event != self.event_after {
             differences.push("the input is changed".to_string());
         }
-        let mut answer = before.answer.octets.clone();
-        let mut output = before.output.octets.clone();
+        let mut answer = before.answer.clone();
+        let mut output = before.output.clone();
         if let Some(expected) = &expected.answer {
             answer[..ANSWER].copy_from_slice(&octets::answer(expected));
             if let Some(frame) = &expected.frame {
@@ -170,76 +157,59 @@ impl Call {
         compare_octets("output", &after.output, &output, &mut differences);
         if expected.number == DONE {
             compare_state(sender, &after.state, &before.state, &mut differences);
-            compare_store(sender, &after.store, &before.store, &mut differences);
+            compare_store(sender, &after.store, &mut differences);
         } else {
-            let (state, store) = (&before.state.octets, &before.store.octets);
-            compare_octets("state", &after.state, state, &mut differences);
-            compare_octets("store", &after.store, store, &mut differences);
+            compare_octets("state", &after.state, &before.state, &mut differences);
+            compare_octets("store", &after.store, &before.store, &mut differences);
         }
         differences
     }
 
-    /// Octets behind the lent ones are changed.
-    pub fn beyond_lent(&self) -> bool {
-        let beyond = |memory: &SenderMemory| {
-            [&memory.state, &memory.store, &memory.output, &memory.answer]
-                .map(|lent| lent.octets[lent.lent..].to_vec())
-        };
-        beyond(&self.before) != beyond(&self.after)
-    }
-
     /// The frame handed down, as the answer's octets say.
     pub fn frame(&self) -> Option<Vec<u8>> {
-        let answer = &self.after.answer.octets;
+        let answer = &self.after.answer;
         match u16::from_be_bytes([answer[3], answer[4]]) as usize {
             0 => None,
-            octets => Some(self.after.output.octets[..octets].to_vec()),
+            octets => Some(self.after.output[..octets].to_vec()),
         }
     }
 
     pub fn show(&self, expected: &Expected, before: &Sender) -> String {
-        let (state, output) = (&self.before.state, &self.before.output);
+        let (lent, answer) = (&self.before, &self.after.answer);
         format!(
             "  event: {:?}\n  lent: state {}, store {}, output {}, answer {}\n  before: {:?}\n  expected: {}, {:?}\n  library: {}, answer {:?}\n  library's state: {:?}\n",
             self.event,
-            state.lent,
-            self.before.store.lent,
-            output.lent,
-            self.before.answer.lent,
+            lent.state.len(),
+            lent.store.len(),
+            lent.output.len(),
+            lent.answer.len(),
             SenderState::of(before),
             expected.number,
             expected.answer,
             self.number,
-            &self.after.answer.seen()[..self.after.answer.lent.min(ANSWER)],
-            SenderState::read(self.after.state.seen()),
+            &answer[..answer.len().min(ANSWER)],
+            SenderState::read(&self.after.state),
         )
     }
 }
 
-fn compare_numbers(library: u8, expected: u8, differences: &mut Vec<String>) {
-    if library != expected {
-        differences.push(format!("number {library}, not {expected}"));
-    }
-}
-
 /// The state's octets, read back; those behind it untouched.
-fn compare_state(sender: &Sender, after: &Lent, before: &Lent, differences: &mut Vec<String>) {
-    let state = SenderState::read(&after.octets[..SENDER_STATE]);
+fn compare_state(sender: &Sender, after: &[u8], before: &[u8], differences: &mut Vec<String>) {
+    let state = SenderState::read(&after[..SENDER_STATE]);
     let expected = SenderState::of(sender);
     if state.as_ref() != Some(&expected) {
         differences.push(format!(
             "state: library {state:?}\n      independent {expected:?}"
         ));
     }
-    if after.octets[SENDER_STATE..] != before.octets[SENDER_STATE..] {
+    if after[SENDER_STATE..] != before[SENDER_STATE..] {
         differences.push("octets behind the state are changed".to_string());
     }
 }
 
 /// The units at their places; what else is lent is free.
-fn compare_store(sender: &Sender, after: &Lent, before: &Lent, differences: &mut Vec<String>) {
-    let mut expected = after.octets.clone();
+fn compare_store(sender: &Sender, after: &[u8], differences: &mut Vec<String>) {
+    let mut expected = after.to_vec();
     octets::put_stored(sender, &mut expected);
-    expected[before.lent..].copy_from_slice(&before.octets[before.lent..]);
     compare_octets("store", after, &expected, differences);
 }

@@ -3,12 +3,13 @@
 
 use super::receiver_end::{self, expected_frame, expected_release};
 use super::sender_end::{self, call, Expected, SenderEnd};
-use super::{refusal, Counts, Report, Settings};
+use super::{compare_runs, refusal, Counts, Report};
 use crate::check::Tally;
-use crate::inputs::lent;
-use crate::library::{self, Lent, SenderEvent, SenderSettings};
+use crate::inputs::farm1_frames::Start;
+use crate::library::{SenderEvent, SenderSettings};
 use crate::octets::{ANSWER, RECEIVER_STATE, SENDER_STATE};
 use crate::random::Random;
+use crate::settings::Settings;
 use independent::farm1::Event as FarmEvent;
 use independent::fault::Fault;
 use independent::fop1::{self, Sender, STORE};
@@ -30,7 +31,7 @@ const ROWS: [u8; 18] = [
 /// The library's ends and channels.
 struct Ends {
     sender: SenderEnd,
-    receiver: Lent,
+    receiver: Vec<u8>,
     frames: VecDeque<Vec<u8>>,
     words: VecDeque<Vec<u8>>,
 }
@@ -108,23 +109,17 @@ impl Met {
 }
 
 pub fn compare(settings: &Settings) -> Report {
-    let mut random = Random::new(settings.seed);
     let mut met = Met::new();
-    let mut tally = Tally::new();
-    let mut runs = 0;
-    while tally.inputs < settings.events {
+    let (tally, runs) = compare_runs(settings, |random, tally| {
         let of_session = session_random::settings(&mut |limit| random.below(limit));
         let manner = session_random::manner(&mut |limit| random.below(limit));
-        runs += 1;
-        let started = start(&of_session, &mut random);
-        tally.compared(started.is_ok(), || {
-            format!(
-                "  start: {of_session:?}\n  {}\n",
-                started.as_ref().err().unwrap()
-            )
+        let started = start(&of_session, random);
+        let difference = started.as_ref().err();
+        tally.compared(difference.is_none(), || {
+            format!("  start: {of_session:?}\n  {}\n", difference.unwrap())
         });
         let Ok((ends, session)) = started else {
-            continue;
+            return false;
         };
         let mut run = Run {
             ends,
@@ -132,10 +127,11 @@ pub fn compare(settings: &Settings) -> Report {
             checker: Checker::new(&of_session).expect("good settings"),
             fault: settings.fault,
         };
-        let most = settings.events.saturating_sub(tally.inputs) as usize;
+        let most = settings.count.saturating_sub(tally.inputs) as usize;
         let events = random.between(200, 2000).min(most);
-        run.all(events, &manner, &mut random, &mut tally, &mut met);
-    }
+        run.all(events, &manner, random, tally, &mut met);
+        true
+    });
     Report {
         tally,
         runs,
@@ -145,17 +141,49 @@ pub fn compare(settings: &Settings) -> Report {
 
 /// Both ends synchronised and active, and the independent session.
 fn start(settings: &session::Settings, random: &mut Random) -> Result<(Ends, Session), String> {
-    let (spacecraft, channel) = (settings.spacecraft as u16, settings.channel as u8);
+    let (sender, independent) = start_sender(settings, random)?;
+    let session = Session::start(settings).map_err(refusal)?;
+    if session.sender != independent || independent.state != State::S1 {
+        return Err("the sender is not active".to_string());
+    }
+    let (spacecraft, channel) = (independent.spacecraft, independent.channel);
+    let of_receiver = Start {
+        spacecraft,
+        channel,
+        variables: [settings.window, settings.number, settings.buffers].map(|x| x as u8),
+    };
+    let state = random.octets(RECEIVER_STATE);
+    let (_, farm, differences) = receiver_end::start(&of_receiver, state);
+    if farm != Some(session.receiver) {
+        return Err(format!(
+            "the receiver is not at its start\n  {}",
+            differences.join("\n  ")
+        ));
+    }
+    let ends = Ends {
+        sender,
+        receiver: receiver_end::state(&session.receiver, spacecraft, channel),
+        frames: VecDeque::new(),
+        words: VecDeque::new(),
+    };
+    Ok((ends, session))
+}
+
+/// Both senders, after Initiate without check.
+fn start_sender(
+    settings: &session::Settings,
+    random: &mut Random,
+) -> Result<(SenderEnd, Sender), String> {
     let of_sender = SenderSettings {
         k: settings.k as u8,
         t1_initial: settings.t1_initial as u16,
         transmission_limit: settings.transmission_limit as u8,
-        spacecraft,
-        channel,
+        spacecraft: settings.spacecraft as u16,
+        channel: settings.channel as u8,
         vs: settings.number as u8,
         nnr: settings.number as u8,
     };
-    let (store, state) = (lent(random, STORE), lent(random, SENDER_STATE));
+    let (store, state) = (random.octets(STORE), random.octets(SENDER_STATE));
     let (_, pair, differences) = sender_end::start(&of_sender, store, state);
     let Some((mut sender, mut independent)) = pair else {
         return Err(differences.join("\n  "));
@@ -171,32 +199,12 @@ fn start(settings: &session::Settings, random: &mut Random) -> Result<(Ends, Ses
         number: answer.refusal,
         answer: Some(answer),
     };
-    let mut differences = call.differences(&expected, &independent);
+    let differences = call.differences(&expected, &independent);
+    if !differences.is_empty() {
+        return Err(differences.join("\n  "));
+    }
     sender.keep(call);
-
-    let session = Session::start(settings).map_err(|number| format!("refusal {number}"))?;
-    if session.sender != independent || independent.state != State::S1 {
-        differences.push("the sender is not active".to_string());
-    }
-    let mut receiver = lent(random, RECEIVER_STATE);
-    let variables = [settings.window, settings.number, settings.buffers].map(|x| x as u8);
-    let number = library::receiver_new(spacecraft, channel, variables, &mut receiver);
-    let expected = receiver_end::state(&session.receiver, spacecraft, channel);
-    if number != DONE || receiver.seen() != expected.seen() {
-        differences.push(format!("receiver: {number}, {:?}", receiver.seen()));
-    }
-    match differences.is_empty() {
-        true => {
-            let ends = Ends {
-                sender,
-                receiver: expected,
-                frames: VecDeque::new(),
-                words: VecDeque::new(),
-            };
-            Ok((ends, session))
-        }
-        false => Err(differences.join("\n  ")),
-    }
+    Ok((sender, independent))
 }
 
 struct Run {
@@ -306,7 +314,7 @@ impl Run {
         differences
     }
 
-    fn expected_receiver(&self) -> Lent {
+    fn expected_receiver(&self) -> Vec<u8> {
         let sender = &self.session.sender;
         receiver_end::state(&self.session.receiver, sender.spacecraft, sender.channel)
     }
@@ -337,7 +345,7 @@ impl Run {
         let Some(word) = &outcome.report else {
             return vec!["the independent receiver reports nothing".to_string()];
         };
-        let output = lent(random, WORD);
+        let output = random.octets(WORD);
         let (word, differences) = receiver_end::word(&mut self.ends.receiver, output, Ok(word));
         self.ends.words.push_back(word);
         differences

@@ -67,6 +67,7 @@ mod tests {
         let octets: Vec<u8> = (0..=255).collect();
         assert_eq!(to_octets(&from_octets(&octets)), octets);
     }
+
     #[test]
     fn a_field_is_laid_out_and_taken() {
         let mut bits = vec![true; 16];

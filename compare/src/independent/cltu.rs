@@ -31,7 +31,7 @@ pub struct Read {
     pub count: u64,
     /// The place in the input, in octets.
     pub place: u64,
-    /// The bits corrected: none, since error correction is out (document 01, Extent).
+    /// The codeblocks corrected: none, since error correction is out (document 01, Extent).
     pub corrected: u64,
 }
 

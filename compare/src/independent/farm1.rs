@@ -333,7 +333,7 @@ mod tests {
     }
 
     fn event(farm: &Farm1, arrival: Arrival) -> Event {
-        farm.clone().take(arrival, Fault::None).unwrap()
+        take(&mut farm.clone(), arrival)
     }
 
     /// The numbers whose frames are this event.

@@ -522,10 +522,9 @@ fn assert_answer(before: &Sender, after: &Sender, answer: &Answer, room: usize) 
         assert!(answer.frame.is_none() && answer.alert.is_none() && !answer.abort);
     }
     // Confirmed, denied and kept make up the units sent.
-    let sent = (queued(before), after.v_s);
     let mut told = [numbers(answer.confirmed), numbers(answer.denied)].concat();
     told.extend(queued(after));
-    let mut all = sent.0.clone();
+    let mut all = queued(before);
     if answer.responses.contains(&AdAccept) {
         all.push(before.v_s);
     }

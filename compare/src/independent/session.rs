@@ -116,6 +116,60 @@ pub fn carried(octets: &[u8], spacecraft: u16, channel: u8) -> Option<Carried> {
     })
 }
 
+impl Received {
+    /// A frame comes to a receiver of this address.
+    pub fn frame(
+        receiver: &mut Farm1,
+        octets: &[u8],
+        (spacecraft, channel): (u16, u8),
+        fault: Fault,
+    ) -> Received {
+        let carried = carried(octets, spacecraft, channel);
+        let arrival = match &carried {
+            Some(frame) if frame.kind == frame::AD => Arrival::Ad(frame.value),
+            Some(frame) if frame.kind == frame::BD => Arrival::Bd,
+            Some(frame) if frame.kind == frame::BC_UNLOCK => Arrival::Unlock,
+            Some(frame) => Arrival::SetVr(frame.value),
+            None => Arrival::InvalidFrame,
+        };
+        let open = receiver.state == farm1::State::Open;
+        let event = receiver.take(arrival, fault);
+        let accepted = match event {
+            Ok(farm1::Event::E1) if open => carried,
+            Ok(farm1::Event::E6) => carried,
+            _ => None,
+        };
+        Received {
+            event,
+            state: receiver.state,
+            accepted,
+        }
+    }
+
+    /// A buffer of a receiver is released.
+    pub fn release(receiver: &mut Farm1, fault: Fault) -> Received {
+        let event = receiver.take(Arrival::Release, fault);
+        Received {
+            event,
+            state: receiver.state,
+            accepted: None,
+        }
+    }
+}
+
+/// The control word of a receiver on this channel (E11 of Table 7-9).
+pub fn word_of(receiver: &Farm1, channel: u8) -> Vec<u8> {
+    let report = clcw::Report {
+        channel,
+        lockout: receiver.lockout_flag as u8,
+        wait: receiver.wait_flag as u8,
+        retransmit: receiver.retransmit_flag as u8,
+        counter: receiver.farm_b_counter,
+        value: receiver.v_r,
+    };
+    bits::to_octets(&clcw::encode(&report, Fault::None))
+}
+
 impl Session {
     /// Synchronised and active, the channels empty; refusal 12 where a setting is
     /// outside its limit or K above PW.
@@ -203,55 +257,24 @@ impl Session {
         let Some(octets) = self.frames.pop_front() else {
             return Outcome::default();
         };
-        let carried = carried(&octets, self.sender.spacecraft, self.sender.channel);
-        let arrival = match &carried {
-            Some(frame) if frame.kind == frame::AD => Arrival::Ad(frame.value),
-            Some(frame) if frame.kind == frame::BD => Arrival::Bd,
-            Some(frame) if frame.kind == frame::BC_UNLOCK => Arrival::Unlock,
-            Some(frame) => Arrival::SetVr(frame.value),
-            None => Arrival::InvalidFrame,
-        };
-        let open = self.receiver.state == farm1::State::Open;
-        let event = self.receiver.take(arrival, fault);
-        let accepted = match event {
-            Ok(farm1::Event::E1) if open => carried,
-            Ok(farm1::Event::E6) => carried,
-            _ => None,
-        };
+        let address = (self.sender.spacecraft, self.sender.channel);
+        let received = Received::frame(&mut self.receiver, &octets, address, fault);
         Outcome {
             frame: Some(octets),
-            receiver: Some(Received {
-                event,
-                state: self.receiver.state,
-                accepted,
-            }),
+            receiver: Some(received),
             ..Outcome::default()
         }
     }
 
     fn release(&mut self, fault: Fault) -> Outcome {
-        let event = self.receiver.take(Arrival::Release, fault);
         Outcome {
-            receiver: Some(Received {
-                event,
-                state: self.receiver.state,
-                accepted: None,
-            }),
+            receiver: Some(Received::release(&mut self.receiver, fault)),
             ..Outcome::default()
         }
     }
 
-    /// E11 of Table 7-9.
     fn report(&mut self) -> Outcome {
-        let report = clcw::Report {
-            channel: self.sender.channel,
-            lockout: self.receiver.lockout_flag as u8,
-            wait: self.receiver.wait_flag as u8,
-            retransmit: self.receiver.retransmit_flag as u8,
-            counter: self.receiver.farm_b_counter,
-            value: self.receiver.v_r,
-        };
-        let word = bits::to_octets(&clcw::encode(&report, Fault::None));
+        let word = word_of(&self.receiver, self.sender.channel);
         self.words.push_back(word.clone());
         Outcome {
             report: Some(word),

@@ -39,62 +39,20 @@ fn good_codeblock(random: &mut Random) -> Vec<u8> {
 }
 
 const KINDS: [Kind<Vec<u8>>; 14] = [
-    Kind {
-        share: 14,
-        make: surrounded,
-    },
-    Kind {
-        share: 14,
-        make: damaged,
-    },
-    Kind {
-        share: 10,
-        make: cut_short,
-    },
-    Kind {
-        share: 6,
-        make: joined,
-    },
-    Kind {
-        share: 8,
-        make: fragments,
-    },
-    Kind {
-        share: 3,
-        make: only_noise,
-    },
-    Kind {
-        share: 6,
-        make: biased_noise,
-    },
-    Kind {
-        share: 8,
-        make: wrong_filler,
-    },
-    Kind {
-        share: 5,
-        make: damaged_start,
-    },
-    Kind {
-        share: 2,
-        make: off_the_boundary,
-    },
-    Kind {
-        share: 18,
-        make: run_of_codeblocks,
-    },
-    Kind {
-        share: 2,
-        make: about_the_limit,
-    },
-    Kind {
-        share: 1,
-        make: late_start,
-    },
-    Kind {
-        share: 1,
-        make: over_long,
-    },
+    (14, surrounded),
+    (14, damaged),
+    (10, cut_short),
+    (6, joined),
+    (8, fragments),
+    (3, only_noise),
+    (6, biased_noise),
+    (8, wrong_filler),
+    (5, damaged_start),
+    (2, off_the_boundary),
+    (18, run_of_codeblocks),
+    (2, about_the_limit),
+    (1, late_start),
+    (1, over_long),
 ];
 
 /// An input to the CLTU reader.

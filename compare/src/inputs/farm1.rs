@@ -209,41 +209,11 @@ pub fn all_pairs(window: usize) -> Vec<u8> {
     steered.text
 }
 
-/// How a random run goes on for a while, as shares: the next frame and a release, and
-/// any other line.
-struct Mood {
-    next: usize,
-    release: usize,
-    other: usize,
-}
+/// The shares of the lines of a random run for a while: the next frame, a release, any
+/// other line.
+type Shares = [usize; 3];
 
-const MOODS: [Mood; 5] = [
-    Mood {
-        next: 10,
-        release: 9,
-        other: 1,
-    },
-    Mood {
-        next: 12,
-        release: 4,
-        other: 4,
-    },
-    Mood {
-        next: 4,
-        release: 8,
-        other: 8,
-    },
-    Mood {
-        next: 3,
-        release: 1,
-        other: 16,
-    },
-    Mood {
-        next: 0,
-        release: 0,
-        other: 20,
-    },
-];
+const SHARES: [Shares; 5] = [[10, 9, 1], [12, 4, 4], [4, 8, 8], [3, 1, 16], [0, 0, 20]];
 
 /// A good SET.
 pub fn any_set(random: &mut Random) -> Steered {
@@ -262,26 +232,25 @@ pub fn any_set(random: &mut Random) -> Steered {
 pub fn random_lines(lines: usize, random: &mut Random) -> Vec<u8> {
     let mut steered = any_set(random);
     while steered.lines < lines {
-        let mood = random.pick(&MOODS);
+        let shares = *random.pick(&SHARES);
         let until = lines.min(steered.lines + random.between(20, 400));
         while steered.lines < until {
-            random_line(&mut steered, mood, random);
+            random_line(&mut steered, shares, random);
         }
     }
     steered.text
 }
 
-fn random_line(steered: &mut Steered, mood: &Mood, random: &mut Random) {
+fn random_line(steered: &mut Steered, [next, release, other]: Shares, random: &mut Random) {
     if steered.farm.state == State::Lockout && random.once_in(6) {
         return steered.send(Arrival::Unlock);
     }
-    let turn = random.below(mood.next + mood.release + mood.other);
-    if turn >= mood.next + mood.release {
+    let turn = random.below(next + release + other);
+    if turn >= next + release {
         return other_line(steered, random);
     }
     // A release that is refused comes now and then only.
-    let release = turn >= mood.next && (steered.farm.taken > 0 || random.once_in(10));
-    if release {
+    if turn >= next && (steered.farm.taken > 0 || random.once_in(10)) {
         steered.send(Arrival::Release);
     } else {
         steered.send_at_distance(0);

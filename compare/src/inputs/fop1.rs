@@ -1,7 +1,6 @@
 //! Random runs of a sender: what it starts with, and its events.
 
-use super::lent;
-use crate::library::{Lent, SenderEvent, SenderSettings};
+use crate::library::{SenderEvent, SenderSettings};
 use crate::octets::SENDER_STATE;
 use crate::random::Random;
 use independent::bits;
@@ -11,7 +10,7 @@ use independent::fop1::{Sender, STORE, UNIT_MOST};
 use independent::table_7_8::State;
 
 /// Settings, store and the room for a state, some of them beyond their limits.
-pub fn start(random: &mut Random) -> (SenderSettings, Lent, Lent) {
+pub fn start(random: &mut Random) -> (SenderSettings, Vec<u8>, Vec<u8>) {
     let mut settings = settings(random);
     if random.once_in(2) {
         for _ in 0..random.between(1, 2) {
@@ -30,7 +29,7 @@ pub fn start(random: &mut Random) -> (SenderSettings, Lent, Lent) {
         2 => random.between(SENDER_STATE, SENDER_STATE + 20),
         _ => SENDER_STATE,
     };
-    (settings, lent(random, store), lent(random, state))
+    (settings, random.octets(store), random.octets(state))
 }
 
 /// Settings within their limits.

@@ -120,62 +120,20 @@ fn plain(random: &mut Random) -> Input {
 }
 
 const KINDS: [Kind<Input>; 14] = [
-    Kind {
-        share: 14,
-        make: whole,
-    },
-    Kind {
-        share: 8,
-        make: other_address,
-    },
-    Kind {
-        share: 10,
-        make: damaged,
-    },
-    Kind {
-        share: 14,
-        make: damaged_and_repaired,
-    },
-    Kind {
-        share: 8,
-        make: wrong_header,
-    },
-    Kind {
-        share: 8,
-        make: wrong_command,
-    },
-    Kind {
-        share: 6,
-        make: numbered_type_b,
-    },
-    Kind {
-        share: 10,
-        make: wrong_length,
-    },
-    Kind {
-        share: 2,
-        make: too_long,
-    },
-    Kind {
-        share: 6,
-        make: cut_short,
-    },
-    Kind {
-        share: 20,
-        make: several_rules_broken,
-    },
-    Kind {
-        share: 2,
-        make: only_noise,
-    },
-    Kind {
-        share: 5,
-        make: noise_with_a_header,
-    },
-    Kind {
-        share: 4,
-        make: short,
-    },
+    (14, whole),
+    (8, other_address),
+    (10, damaged),
+    (14, damaged_and_repaired),
+    (8, wrong_header),
+    (8, wrong_command),
+    (6, numbered_type_b),
+    (10, wrong_length),
+    (2, too_long),
+    (6, cut_short),
+    (20, several_rules_broken),
+    (2, only_noise),
+    (5, noise_with_a_header),
+    (4, short),
 ];
 
 /// An input to the frame reader.

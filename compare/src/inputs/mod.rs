@@ -1,6 +1,5 @@
 //! Inputs made by the independent side, always without a fault.
 
-use crate::library::Lent;
 use crate::random::Random;
 
 pub mod clcw;
@@ -11,26 +10,12 @@ pub mod fop1;
 pub mod frame;
 pub mod text;
 
-/// So many octets of a buffer lie behind the lent part.
-pub const GUARD: usize = 16;
-
-/// Random octets, so many of them lent.
-pub fn lent(random: &mut Random, lent: usize) -> Lent {
-    Lent {
-        octets: random.octets(lent + GUARD),
-        lent,
-    }
-}
-
-/// A kind of input to a reader, and its share of these inputs.
-struct Kind<T> {
-    share: usize,
-    make: fn(&mut Random) -> T,
-}
+/// A kind of input to a reader: its share of these inputs, and what makes one.
+type Kind<T> = (usize, fn(&mut Random) -> T);
 
 fn any_of<T>(kinds: &[Kind<T>], random: &mut Random) -> T {
-    let kind = random.pick_by_share(kinds, |kind| kind.share);
-    (kind.make)(random)
+    let (_, make) = random.pick_by_share(kinds, |kind| kind.0);
+    make(random)
 }
 
 fn noise(random: &mut Random, most: usize) -> Vec<u8> {

@@ -348,10 +348,8 @@ fn all_octets() -> Vec<u8> {
     text
 }
 
-/// A line of this length which begins with a good one.
-type Fill = fn(usize) -> Vec<u8>;
-
-const FILLS: [Fill; 7] = [
+/// Lines of a given length, some of which begin with a good one.
+const FILLS: [fn(usize) -> Vec<u8>; 7] = [
     |length| vec![b'X'; length],
     |length| vec![b'\t'; length],
     |length| vec![0; length],
@@ -398,26 +396,11 @@ fn long_lines() -> Vec<Vec<u8>> {
 }
 
 const KINDS: [Kind<Vec<u8>>; 5] = [
-    Kind {
-        share: 30,
-        make: damaged,
-    },
-    Kind {
-        share: 30,
-        make: mixture,
-    },
-    Kind {
-        share: 15,
-        make: few_octets,
-    },
-    Kind {
-        share: 15,
-        make: any_settings,
-    },
-    Kind {
-        share: 10,
-        make: any_octets,
-    },
+    (30, damaged),
+    (30, mixture),
+    (15, few_octets),
+    (15, any_settings),
+    (10, any_octets),
 ];
 
 /// A random text.

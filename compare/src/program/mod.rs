@@ -7,6 +7,7 @@ mod process;
 use crate::check::Tally;
 use crate::inputs::{farm1, text};
 use crate::random::Random;
+use crate::settings::{self, print_names, Settings};
 use independent::fault::{Fault, PROGRAM_FAULTS};
 use independent::program::{answers, lines, output};
 use met::Met;
@@ -30,13 +31,15 @@ E4 S1 251 000 1
 E5 S3 251 100 1
 ";
 
-struct Settings {
+/// So many runs where the command line says no number.
+const RUNS: u64 = 400;
+
+/// What is to be compared.
+struct Task {
     program: PathBuf,
-    runs: u64,
     /// One run of so many lines, in place of all others.
     lines: Option<usize>,
-    seed: u64,
-    fault: Fault,
+    settings: Settings,
 }
 
 /// One input to the program.
@@ -77,61 +80,52 @@ impl Kind {
 /// The exit status is as in src/main.rs.
 pub fn main(words: &[String]) -> ExitCode {
     if words == ["--faults"] {
-        for (name, _) in PROGRAM_FAULTS {
-            println!("{name}");
-        }
+        print_names(PROGRAM_FAULTS.iter().map(|fault| fault.0));
         return ExitCode::from(0);
     }
-    let Some(settings) = read_settings(words) else {
+    let Some(task) = read_task(words) else {
         eprintln!("usage:\n{USAGE}");
         return ExitCode::from(2);
     };
-    let compared = match settings.lines {
-        Some(lines) => compare_one_run(&settings, lines),
-        None => compare(&settings),
+    let compared = match task.lines {
+        Some(lines) => compare_one_run(&task, lines),
+        None => compare(&task),
     };
     match compared {
         Ok(status) => status,
         Err(error) => {
-            println!("no run of {}: {error}", settings.program.display());
+            println!("no run of {}: {error}", task.program.display());
             ExitCode::from(4)
         }
     }
 }
 
-fn read_settings(words: &[String]) -> Option<Settings> {
-    let mut settings = Settings {
-        program: process::path(),
-        runs: 400,
-        lines: None,
-        seed: 1,
-        fault: Fault::None,
-    };
-    let mut words = words.iter();
-    while let Some(word) = words.next() {
-        match word.as_str() {
-            "--seed" => settings.seed = words.next()?.parse().ok()?,
-            "--lines" => settings.lines = Some(words.next()?.parse().ok()?),
-            "--fault" => {
-                let name = words.next()?;
-                settings.fault = PROGRAM_FAULTS.iter().find(|fault| fault.0 == name)?.1;
-            }
-            runs => settings.runs = runs.parse().ok()?,
+fn read_task(words: &[String]) -> Option<Task> {
+    let mut lines = None;
+    let settings = settings::read(words, RUNS, &PROGRAM_FAULTS, |option, value| {
+        if option != "--lines" {
+            return None;
         }
-    }
-    Some(settings)
+        lines = Some(value.parse().ok()?);
+        Some(())
+    })?;
+    Some(Task {
+        program: process::path(),
+        lines,
+        settings,
+    })
 }
 
 /// The fixed runs, which are always compared, and random ones.
-fn compare(settings: &Settings) -> io::Result<ExitCode> {
+fn compare(task: &Task) -> io::Result<ExitCode> {
     println!(
         "{} runs of {}, seed {}, fault {:?}",
-        settings.runs,
-        settings.program.display(),
-        settings.seed,
-        settings.fault
+        task.settings.count,
+        task.program.display(),
+        task.settings.seed,
+        task.settings.fault
     );
-    let mut random = Random::new(settings.seed);
+    let mut random = Random::new(task.settings.seed);
     let mut met = Met::new();
     let mut kinds = [
         Kind::new("example"),
@@ -143,28 +137,28 @@ fn compare(settings: &Settings) -> io::Result<ExitCode> {
     let [example, windows, texts, random_runs, random_texts] = &mut kinds;
 
     for run in example_runs() {
-        compare_run(&run, example, &mut met, settings)?;
+        compare_run(&run, example, &mut met, task)?;
     }
     for window in (2..=254).step_by(2) {
         let run = Run::whole(farm1::window(window));
-        compare_run(&run, windows, &mut met, settings)?;
+        compare_run(&run, windows, &mut met, task)?;
     }
     let run = Run::whole(farm1::all_pairs(20));
-    compare_run(&run, windows, &mut met, settings)?;
+    compare_run(&run, windows, &mut met, task)?;
     for text in text::fixed() {
         let run = Run {
             feed: Feed::pieces(7, &text),
             text,
             paper: None,
         };
-        compare_run(&run, texts, &mut met, settings)?;
+        compare_run(&run, texts, &mut met, task)?;
     }
     let fixed = example.tally.inputs + windows.tally.inputs + texts.tally.inputs;
-    for turn in fixed..settings.runs {
+    for turn in fixed..task.settings.count {
         if turn % 4 == 0 {
             let lines = random.between(1000, 8000);
             let run = Run::whole(farm1::random_lines(lines, &mut random));
-            compare_run(&run, random_runs, &mut met, settings)?;
+            compare_run(&run, random_runs, &mut met, task)?;
         } else {
             let text = text::random(&mut random);
             let run = Run {
@@ -172,7 +166,7 @@ fn compare(settings: &Settings) -> io::Result<ExitCode> {
                 text,
                 paper: None,
             };
-            compare_run(&run, random_texts, &mut met, settings)?;
+            compare_run(&run, random_texts, &mut met, task)?;
         }
     }
     Ok(report(&kinds, &met))
@@ -194,15 +188,10 @@ fn example_runs() -> Vec<Run> {
     runs
 }
 
-fn compare_run(
-    run: &Run,
-    kind: &mut Kind,
-    met: &mut Met,
-    settings: &Settings,
-) -> io::Result<Ended> {
-    let answers = answers(&run.text, settings.fault);
+fn compare_run(run: &Run, kind: &mut Kind, met: &mut Met, task: &Task) -> io::Result<Ended> {
+    let answers = answers(&run.text, task.settings.fault);
     let independent = output(&answers);
-    let program = process::run(&settings.program, &run.text, run.feed, independent.len())?;
+    let program = process::run(&task.program, &run.text, run.feed, independent.len())?;
 
     let by_paper = run.paper.as_ref().unwrap_or(&program.output);
     let same =
@@ -252,11 +241,11 @@ fn report(kinds: &[Kind], met: &Met) -> ExitCode {
 }
 
 /// One long run, for its speed.
-fn compare_one_run(settings: &Settings, lines: usize) -> io::Result<ExitCode> {
-    let mut random = Random::new(settings.seed);
+fn compare_one_run(task: &Task, lines: usize) -> io::Result<ExitCode> {
+    let mut random = Random::new(task.settings.seed);
     let run = Run::whole(farm1::random_lines(lines, &mut random));
     let mut kind = Kind::new("one run");
-    let program = compare_run(&run, &mut kind, &mut Met::new(), settings)?;
+    let program = compare_run(&run, &mut kind, &mut Met::new(), task)?;
     for shown in &kind.tally.shown {
         print!("difference: farm1 {}\n{shown}", kind.name);
     }
