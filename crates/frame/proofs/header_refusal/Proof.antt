@@ -26,7 +26,10 @@ returns-2 : tie.Need-returns-2
 returns-2 c = judged (c .before .before .before) (search tests)
 
 returns-3 : tie.Need-returns-3
-returns-3 c = judged (c .before .before .before .before) (search tests)
+returns-3 c =
+    let k = c .before .before .before .before in
+    let t : o (now (k .before .args .octets)) 0 / 16 % 4 ≡ 1 = c .if3 .taken in
+    judged k (search tests)
 
 shared-slice-read-pair : tie.Need-shared-slice-read-pair
 shared-slice-read-pair c = search needs
