@@ -1,7 +1,8 @@
 -- Each arm is the unit that its event accepts; E1 by the state too.
 use borrow.Author.Needs.{needs}
+use mathlib.Core.Path.{refl}
 use Rattle.farm.specs.Table.{table, accepts}
-use Rattle.farm.proofs.Told.{units}
+use Rattle.farm.proofs.Told.{unit-told, units}
 use Rattle.farm.proofs.unit_of.Statement.{statement}
 use Rattle.farm.proofs.unit_of.Tie as tie
 
@@ -24,9 +25,9 @@ unit-of-spec =
     (λ c. search needs)
     (λ c. search needs)
     (λ c. search needs)
-    (λ c. search units)
-    (λ c. search units)
-    (λ c. search units)
+    (λ c. unit-told _ _ _ _ _ (c .before .before .enum-told .given .1) (c .enum-told2 .given .1) refl)
+    (λ c. unit-told _ _ _ _ _ (c .before .before .enum-told .given .1) (c .enum-told3 .given .1) refl)
+    (λ c. unit-told _ _ _ _ _ (c .before .before .enum-told .given .1) (c .enum-told4 .given .1) refl)
     (λ c. search needs)
     (λ c. search needs)
     (λ c. search needs)

@@ -1,7 +1,10 @@
 -- Each arm is the cell of row E1 in its state.
 use borrow.Author.Needs.{needs}
+use mathlib.Core.Path.{refl}
+use Rattle.farm.specs.declared.State.the-variants.{Open}
+use Rattle.farm.specs.declared.Event.the-variants.{E1}
 use Rattle.farm.specs.Table.{table, perform, performAll, stepOf}
-use Rattle.farm.proofs.Cells.{cells}
+use Rattle.farm.proofs.Cells.{told, cells}
 use Rattle.farm.proofs.Variables.e1.Statement.{statement}
 use Rattle.farm.proofs.Variables.e1.Tie as tie
 
@@ -14,6 +17,6 @@ e1-spec =
     (λ c. search needs)
     (λ c. search needs)
     (λ c. search needs)
-    (λ c. search (cells, c .before .before .wrapping-add-u8 .ensures))
+    (λ c. told E1 0 (c .before .before .before .args .self) _ Open (c .enum-told .given .1) (rw (c .before .before .wrapping-add-u8 .ensures) refl))
     (λ c. search cells)
     (λ c. search cells))

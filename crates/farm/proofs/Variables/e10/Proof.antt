@@ -1,7 +1,10 @@
 -- Each arm is the cell of row E10 in its state.
 use borrow.Author.Needs.{needs}
+use mathlib.Core.Path.{refl}
+use Rattle.farm.specs.declared.State.the-variants.{Wait, Lockout}
+use Rattle.farm.specs.declared.Event.the-variants.{E10}
 use Rattle.farm.specs.Table.{table, perform, performAll, stepOf}
-use Rattle.farm.proofs.Cells.{cells}
+use Rattle.farm.proofs.Cells.{told, cells}
 use Rattle.farm.proofs.Variables.e10.Statement.{statement}
 use Rattle.farm.proofs.Variables.e10.Tie as tie
 
@@ -14,5 +17,5 @@ e10-spec =
     (λ c. search needs)
     (λ c. search needs)
     (λ c. search cells)
-    (λ c. search cells)
-    (λ c. search cells))
+    (λ c. told E10 0 (c .before .before .args .self) _ Wait (c .enum-told2 .given .1) refl)
+    (λ c. told E10 0 (c .before .before .args .self) _ Lockout (c .enum-told3 .given .1) refl))

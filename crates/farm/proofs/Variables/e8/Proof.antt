@@ -1,7 +1,9 @@
 -- Each arm is the cell of row E8 in its state.
 use borrow.Author.Needs.{needs}
-use Rattle.farm.specs.Table.{table, perform, performAll, stepOf}
-use Rattle.farm.proofs.Cells.{cells}
+use Rattle.farm.specs.declared.State.the-variants.{Lockout}
+use Rattle.farm.specs.declared.Event.the-variants.{E8}
+use Rattle.farm.specs.Table.{Action.IncrementFarmBCounter, table, perform, performAll, stepOf}
+use Rattle.farm.proofs.Cells.{told, same, cells}
 use Rattle.farm.proofs.Variables.e8.Statement.{statement}
 use Rattle.farm.proofs.Variables.e8.Tie as tie
 
@@ -16,4 +18,6 @@ e8-spec =
     (λ c. search needs)
     (λ c. search (cells, c .before .before .counted .ensures))
     (λ c. search (cells, c .before .before .counted .ensures))
-    (λ c. search (cells, c .before .before .counted .ensures, c .enum-told3 .given .1)))
+    (λ c.
+    let a = c .before .before .before .args in
+    told E8 (a .star) (a .self) _ Lockout (c .enum-told3 .given .1) (rw (c .before .before .counted .ensures) (same (perform (a .star) IncrementFarmBCounter (a .self)) Lockout (c .enum-told3 .given .1)))))
