@@ -1,5 +1,6 @@
 -- Each event's name is E and its number.
 use borrow.Author.Needs.{needs}
+use mathlib.Core.Path.{refl}
 use native.Mathlib.Omega.{arith}
 use Rattle.text.specs.Decimal.{digitsBelow}
 use Rattle.console.proofs.Told.{event-told}
@@ -22,14 +23,14 @@ number-of-spec =
     (λ c. search needs)
     (λ c. search needs)
     (λ c. search needs)
-    (λ c. (search event-told, omega arith))
-    (λ c. (search event-told, omega arith))
-    (λ c. (search event-told, omega arith))
-    (λ c. (search event-told, omega arith))
-    (λ c. (search event-told, omega arith))
-    (λ c. (search event-told, omega arith))
-    (λ c. (search event-told, omega arith))
-    (λ c. (search event-told, omega arith))
-    (λ c. (search event-told, omega arith))
-    (λ c. (search event-told, omega arith))
-    (λ c. (search event-told, omega arith)))
+    (λ c. (event-told _ _ _ (c .enum-told .given .1) refl, omega arith))
+    (λ c. (event-told _ _ _ (c .enum-told2 .given .1) refl, omega arith))
+    (λ c. (event-told _ _ _ (c .enum-told3 .given .1) refl, omega arith))
+    (λ c. (event-told _ _ _ (c .enum-told4 .given .1) refl, omega arith))
+    (λ c. (event-told _ _ _ (c .enum-told5 .given .1) refl, omega arith))
+    (λ c. (event-told _ _ _ (c .enum-told6 .given .1) refl, omega arith))
+    (λ c. (event-told _ _ _ (c .enum-told7 .given .1) refl, omega arith))
+    (λ c. (event-told _ _ _ (c .enum-told8 .given .1) refl, omega arith))
+    (λ c. (event-told _ _ _ (c .enum-told9 .given .1) refl, omega arith))
+    (λ c. (event-told _ _ _ (c .enum-told10 .given .1) refl, omega arith))
+    (λ c. (event-told _ _ _ (c .enum-told11 .given .1) refl, omega arith)))

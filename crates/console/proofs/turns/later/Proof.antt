@@ -1,7 +1,7 @@
 -- Each arm is the definition's case.
 use borrow.Author.Needs.{needs}
 use Rattle.console.specs.Console.{laterOf}
-use Rattle.console.proofs.Told.{laters}
+use Rattle.console.proofs.Told.{later-told, laters}
 use Rattle.console.proofs.turns.later.Statement.{statement}
 use Rattle.console.proofs.turns.later.Tie as tie
 
@@ -35,7 +35,7 @@ later-spec =
     (λ c κs. search needs)
     (λ c. search needs)
     (λ c κs. search needs)
-    (λ c. search laters)
+    (λ c. later-told _ _ _ _ (c .before .enum-told .given .1) (c .refused .ensures))
     (λ c. search laters)
     (λ c. search laters)
     (λ c. search laters)
