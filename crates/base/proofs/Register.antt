@@ -1,16 +1,15 @@
--- The register keeps its width; and the register bit by bit and octet by octet, as a loop goes through them.
-use mathlib.Core.Path.{_≡_, sym, ap, subst}
+-- The register keeps its width; and the invariants of the loops that shift an octet in bit by bit, and octets one by one.
+use mathlib.Core.Path.{_≡_, sym, ap, _∙_, subst}
 use mathlib.Core.List.{List, [], _∷_}
 use Prim.Native.Nat.{ℕ, zero, suc, _+_, _-_, _*_, _/_, _%_, _^_, _<_, _≤_}
 use native.Mathlib.Nat.{mul-comm, zero-mul, one-mul, mod-lt, pow-suc, div-lt-iff-lt-mul}
-use native.Mathlib.Numerals.{add-one}
 use native.Mathlib.Omega.{arith}
 use lib.Bits.{bitXor, xor-lt}
 use lib.Pow.{pow-pos}
 use lib.ListN.{length, drop, getD, drop-of-length-le}
-use lib.Seq.{drop-cons}
 use Rattle.base.specs.Octets.{Octets}
 use Rattle.base.specs.Register.{shiftBit, shiftBits, register}
+use Rattle.base.proofs.Lists.{next}
 
 -- the bit that leaves, and what it adds
 pub top : (k v : ℕ) → v < 2 ^ k * 2 → v / 2 ^ k < 2
@@ -42,20 +41,46 @@ module _ (k g : ℕ) (hg : g < 2 ^ k * 2) where
   register-lt [] r hr h = hr
   register-lt (o ∷ s) r hr h = register-lt s (shiftBits k g 8 r o) (shiftBits-lt 8 r o hr (h .0)) (h .1)
 
-module _ (k g : ℕ) where
-  -- a bit of an octet more
-  pub shift-next : (n r o : ℕ) → 0 < n → shiftBits k g n r o ≡ shiftBits k g (n - 1) (shiftBit k g r (o / 128)) (o % 128 * 2)
+-- A loop over the bits of an octet: those that are left, shifted into the register so far, give what all eight give.
+pub record BitsLeft (k g start octet r bits left : ℕ) : Type 0 where
+  pub same : shiftBits k g left r bits ≡ shiftBits k g 8 start octet
+  pub within : bits < 256
+  pub few : left ≤ 8
+
+module _ {k g start octet r bits left : ℕ} (h : BitsLeft k g start octet r bits left) where
+  pub bit-shifted : {q : ℕ} → 0 < left → q ≡ shiftBit k g r (bits / 128) → BitsLeft k g start octet q (bits % 128 * 2) (left - 1)
   unfolding shiftBits
-  shift-next zero r o h = absurd (omega arith)
-  shift-next (suc n) r o h =
-      let e : n ≡ suc n - 1 = omega arith in
-      ap (λ (j : ℕ). shiftBits k g j (shiftBit k g r (o / 128)) (o % 128 * 2)) e
+  bit-shifted {q} l e = record {
+    same = rw e (sym (one-less left l) ∙ h .same);
+    within = omega arith;
+    few = omega (arith, h .few);
+  }
+    where
+      one-less : (n : ℕ) → 0 < n → shiftBits k g n r bits ≡ shiftBits k g (n - 1) (shiftBit k g r (bits / 128)) (bits % 128 * 2)
+      one-less zero l = absurd (omega arith)
+      one-less (suc n) l =
+          let e : n ≡ suc n - 1 = omega arith in
+          ap (λ (j : ℕ). shiftBits k g j (shiftBit k g r (bits / 128)) (bits % 128 * 2)) e
 
-  -- the register over the octets from place i on, and over none
-  pub register-next : (s : List ℕ) (i r : ℕ) → i < length s → register k g r (drop i s) ≡ register k g (shiftBits k g 8 r (getD s i 0)) (drop (i + 1) s)
-  unfolding register
-  register-next s i r h = rw (add-one, drop-cons s i 0)
+  pub bits-shifted : left ≤ 0 → r ≡ shiftBits k g 8 start octet
+  unfolding shiftBits
+  bits-shifted l =
+      let z : left ≡ 0 = omega arith in
+      rw z at (h .same)
 
-  pub register-end : (s : List ℕ) (i r : ℕ) → length s ≤ i → register k g r (drop i s) ≡ r
+-- A loop over octets: those from place i on, shifted into the register so far, give what all give.
+pub record OctetsLeft (k g start : ℕ) (s : List ℕ) (r i : ℕ) : Type 0 where
+  pub same : register k g r (drop i s) ≡ register k g start s
+  pub within : i ≤ length s
+
+module _ {k g start : ℕ} {s : List ℕ} {r i : ℕ} (h : OctetsLeft k g start s r i) where
+  pub octet-shifted : {q : ℕ} → i < length s → q ≡ shiftBits k g 8 r (getD s i 0) → OctetsLeft k g start s q (i + 1)
   unfolding register
-  register-end s i r h = ap (register k g r) (drop-of-length-le s h)
+  octet-shifted {q} l e = record {
+    same = rw e (sym (ap (register k g r) (next s i l)) ∙ h .same);
+    within = omega arith;
+  }
+
+  pub octets-shifted : length s ≤ i → r ≡ register k g start s
+  unfolding register
+  octets-shifted l = sym (ap (register k g r) (drop-of-length-le s l)) ∙ h .same

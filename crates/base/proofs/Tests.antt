@@ -2,10 +2,11 @@
 use mathlib.Core.Path.{_≡_, refl, sym, ap}
 use mathlib.Core.Bool.{Bool, true, false}
 use mathlib.Core.List.{List}
-use Prim.Native.Nat.{ℕ}
+use Prim.Native.Nat.{ℕ, _≤_}
 use native.Mathlib.Omega.{arith}
 use borrow.Author.Tests.{lt-ltb, le-ltb, le-leb, lt-leb, eq-eqb, ne-eqb}
 use Rattle.base.specs.Choice.{must, both}
+use Rattle.base.specs.Flags.{bitOf}
 use Rattle.base.specs.Outcome.{Outcome, answer, after}
 
 pub ruleset tests = (lt-ltb, le-ltb, le-leb, lt-leb, eq-eqb, ne-eqb)
@@ -41,6 +42,11 @@ not-so false h = refl
 pub must-on : (t : Bool) (refusal on : ℕ) → (refusal ≡ 0 → ⊥) → must t refusal on ≡ 0 → (t ≡ true) × (on ≡ 0)
 must-on true refusal on n e = (refl, e)
 must-on false refusal on n e = absurd (n e)
+
+-- a flag's bit is there once at the most
+pub bit-le : (b : Bool) → bitOf b ≤ 1
+bit-le true = omega arith
+bit-le false = omega arith
 
 -- an equation of outcomes says what the caller is told, and what the lent output holds
 pub told : {A : Type 0} {o p : Outcome A} → o ≡ p → (old : List ℕ) → (answer p ≡ answer o) × (after p old ≡ after o old)

@@ -1,7 +1,7 @@
 -- The fields of table 6-4 as arithmetic on the four octets: what a reader finds (`valid-is`, `word-is`, `received-is`), and what
 -- a writer puts (`octets-are`).
 use mathlib.Core.Path.{_≡_, refl, sym, ap₂, _∙_}
-use mathlib.Core.Bool.{Bool, true, false, not}
+use mathlib.Core.Bool.{Bool, false, not}
 use mathlib.Core.List.{List, [], _∷_, _++_}
 use Prim.Native.Nat.{ℕ, zero, suc, _+_, _*_, _/_, _%_, _^_, _<_, _≤_}
 use native.Mathlib.Nat.{zero-mul, one-mul}
@@ -14,6 +14,7 @@ use lib.Pow.{pow-pos}
 use Rattle.base.specs.Choice.{both}
 use Rattle.base.specs.Fields.{digitsOf, valueOf, packed, octetsOf, fieldAt}
 use Rattle.base.proofs.Fields.{value-field, field-in-octet, field-joined}
+use Rattle.base.proofs.Tests.{bit-le}
 use Rattle.base.specs.Flags.{bitOf}
 use Rattle.clcw.specs.declared.Clcw.{Clcw}
 use Rattle.clcw.specs.Clcw.{at, controlWordType, versionNumber, statusField, copInEffect, virtualChannel, firstSpare, noRfAvailable, noBitLock, lockoutFlag, waitFlag, retransmitFlag, farmBCounter, secondSpare, reportValue, wordFields, clcwOf, isValid, wordOf}
@@ -106,10 +107,6 @@ module _ (s : List ℕ) (four : length s ≡ 4) (octet : (i : ℕ) → getD s i 
       let f : fieldAt noRfAvailable s ≡ getD s 2 0 / 128 = field 2 0 1 7 (omega arith) refl ∙ omega (arith, octet 2) in
       let b : fieldAt noBitLock s ≡ getD s 2 0 / 64 % 2 = field 2 1 1 6 (omega arith) refl in
       simp (u, f, b)
-
-pub bit-le : (b : Bool) → bitOf b ≤ 1
-bit-le true = omega arith
-bit-le false = omega arith
 
 -- the second octet's fields, and the third's
 second : (channel : ℕ) → channel ≤ 63 → valueOf 0 (digitsOf 6 channel ++ digitsOf 2 0) ≡ channel * 4

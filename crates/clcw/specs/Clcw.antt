@@ -1,6 +1,6 @@
 -- Clause 6.3, table 6-4, and document 01, "CLCW": the communications link control word.
 use Prim.Native.Nat.{ℕ}
-use mathlib.Core.Bool.{Bool, true, false}
+use mathlib.Core.Bool.{Bool}
 use mathlib.Core.List.{List, [], _∷_}
 use lib.Dec.{leb, eqb}
 use Rattle.base.specs.Choice.{must, both}

@@ -10,6 +10,7 @@ use Rattle.base.specs.Octets.{same}
 use Rattle.base.proofs.Lists.{rest}
 use Rattle.text.specs.Fields.{fieldsOf}
 use Rattle.text.specs.Cut.{cutOf}
+use Rattle.text.specs.Decimal.{Number}
 use Rattle.text.specs.Answers.{numberTold}
 use Rattle.text.specs.declared.Decimal.{Decimal}
 use Rattle.text.specs.declared.Decimal.the-variants.{Is, None}
@@ -75,11 +76,9 @@ number-told d d′ t p q = sym p ∙ ap numberTold q
 pub octet : (d : Decimal) (t : List ℕ) (n : ℕ) → numberTold d ≡ numberOf t → d ≡ Is n → n ≤ 255
 octet d t n p q = number-within 255 n t (number-told d (Is n) t p q)
 
-pub ad-told : (d d′ : Decimal) (t : List ℕ) (x : Line) → numberTold d ≡ numberOf t → d ≡ d′ → x ≡ adLine (numberTold d′) → x ≡ adLine (numberOf t)
-ad-told d d′ t x p q h = h ∙ ap adLine (sym (number-told d d′ t p q))
-
-pub set-vr-told : (d d′ : Decimal) (t : List ℕ) (x : Line) → numberTold d ≡ numberOf t → d ≡ d′ → x ≡ setVrLine (numberTold d′) → x ≡ setVrLine (numberOf t)
-set-vr-told d d′ t x p q h = h ∙ ap setVrLine (sym (number-told d d′ t p q))
+-- a line that is made of a number: AD's or SETVR's
+pub line-told : (line : Number → Line) (d d′ : Decimal) (t : List ℕ) (x : Line) → numberTold d ≡ numberOf t → d ≡ d′ → x ≡ line (numberTold d′) → x ≡ line (numberOf t)
+line-told line d d′ t x p q h = h ∙ ap line (sym (number-told d d′ t p q))
 
 module _ (t u v : List ℕ) (d : Decimal) (p : numberTold d ≡ numberOf t) where
   pub set-window : d ≡ None → Malformed ≡ setLine (numberOf t) (numberOf u) (numberOf v)

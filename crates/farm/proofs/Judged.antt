@@ -14,7 +14,7 @@ use Rattle.base.specs.Choice.{pick, must, both}
 use Rattle.base.specs.Octets.{same}
 use Rattle.base.proofs.Computed.{tabulate, below}
 use Rattle.base.proofs.Lists.{same-equal, same-self}
-use Rattle.base.proofs.Tests.{not-so}
+use Rattle.base.proofs.Tests.{not-so, bit-le}
 use Rattle.base.specs.Flags.{bitOf, isSet}
 use Rattle.farm.specs.declared.State.{State}
 use Rattle.farm.specs.declared.State.the-variants.{Open, Wait, Lockout}
@@ -56,10 +56,6 @@ state-high Open = omega arith
 state-high Wait = omega arith
 state-high Lockout = omega arith
 
-truth-le : (b : Bool) → bitOf b ≤ 1
-truth-le true = omega arith
-truth-le false = omega arith
-
 -- what octets have that are those of the receiver that they would hold
 pub record Marked (o : List ℕ) : Type 0 where
   pub mark : getD o 0 0 ≡ 0x52
@@ -80,7 +76,7 @@ module _ (o : List ℕ) where
         layout = at 1;
         low = omega (arith, at 2, state-low (v .state));
         high = omega (arith, at 2, state-high (v .state));
-        flags = omega (arith, at 10, truth-le (v .lockout), truth-le (v .wait), truth-le (v .retransmit));
+        flags = omega (arith, at 10, bit-le (v .lockout), bit-le (v .wait), bit-le (v .retransmit));
       }
 
   pub not-kept : (Marked o → ⊥) → same o (octetsOf (receiverIn o)) ≡ false

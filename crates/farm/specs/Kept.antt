@@ -5,7 +5,7 @@
 --   2 state: 1 Open, 2 Wait, 3 Lockout                                 10 flags: 4 lockout, 2 wait, 1 retransmit
 --                 6 W, 7 buffers                                       11 FARM-B counter
 use Prim.Native.Nat.{ℕ, _+_, _*_, _/_, _%_}
-use mathlib.Core.Bool.{Bool, true, false, not}
+use mathlib.Core.Bool.{Bool, true, not}
 use mathlib.Core.List.{List, [], _∷_}
 use lib.Dec.{leb, ltb, eqb}
 use lib.ListN.{getD}

@@ -4,7 +4,7 @@ use mathlib.Core.Bool.{Bool, true, false, not}
 use mathlib.Core.List.{List, []}
 use Prim.Native.Nat.{ℕ, _+_, _-_, _/_, _%_, _<_, _≤_}
 use native.Mathlib.Omega.{arith}
-use borrow.Author.Tests.{leb-true, eqb-true, eqb-false, eq-eqb, ne-eqb}
+use borrow.Author.Tests.{not-true, leb-true, eqb-true, eqb-false, eq-eqb, ne-eqb}
 use lib.Dec.{leb, eqb}
 use lib.ListN.{length, take, drop, getD}
 use lib.Seq.{getD-take, getD-drop}
@@ -37,10 +37,6 @@ pub record Accepted (s : List ℕ) (spacecraft channel : ℕ) : Type 0 where
 
 four : _≡_ {A = ℕ} 4 0 → ⊥
 four e = omega arith
-
-not-true : (b : Bool) → not b ≡ true → b ≡ false
-not-true true e = absurd (apart e)
-not-true false e = refl
 
 pub accepted : (s : List ℕ) (spacecraft channel : ℕ) → refusalOf s spacecraft channel ≡ 0 → Accepted s spacecraft channel
 unfolding refusalOf contentRefusal headerRefusal

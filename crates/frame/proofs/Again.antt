@@ -39,6 +39,19 @@ abbrev kindFor : ℕ → ℕ → ℕ → List ℕ → Kind
 kindFor bypass control number data′ =
     pick (eqb control 1) (pick (same data′ unlockCommand) Unlock (SetVr (getD data′ 2 0))) (pick (eqb bypass 1) Bd (Ad number))
 
+-- a type-B frame carries no number: it is written as zero
+type-b : (kind : Kind) {control number : ℕ} {data′ : List ℕ} → control ≤ 1 → bypassOf kind ≡ 1 → controlOf kind ≡ control → numberOf kind ≡ 0 → dataOf kind data′ ≡ data′
+    → Told kind 1 control number data′
+type-b kind c b e z k = record {
+  bypassed = b;
+  controlled = e;
+  ordered = c;
+  kept = k;
+  numbered = λ n a. absurd (omega (arith, sym b ∙ ap bypassOf a));
+  zeroed = λ n. z ∙ sym n;
+  small = λ l. omega arith;
+}
+
 told : (bypass control number : ℕ) (data′ : List ℕ) → bypass ≤ 1 → control ≤ 1 → both (eqb bypass 0) (eqb control 1) ≡ false
     → pick (eqb control 1) (isCommand data′) true ≡ true → Told (kindFor bypass control number data′) bypass control number data′
 unfolding isCommand
@@ -51,38 +64,14 @@ told zero zero number data′ hb hc type held = record {
   zeroed = λ z. refl;
   small = λ l. l;
 }
-told (suc zero) zero number data′ hb hc type held = record {
-  bypassed = refl;
-  controlled = refl;
-  ordered = omega arith;
-  kept = refl;
-  numbered = λ k e. absurd (let z : _≡_ {A = ℕ} 0 1 = cc in omega arith);
-  zeroed = λ z. sym z;
-  small = λ l. omega arith;
-}
+told (suc zero) zero number data′ hb hc type held = type-b Bd (omega arith) refl refl refl refl
 told zero (suc zero) number data′ hb hc type held = absurd (apart (sym type))
 told (suc zero) (suc zero) number data′ hb hc type held = go (same data′ unlockCommand) refl held
   where
     go : (b : Bool) → same data′ unlockCommand ≡ b → pick b true (same data′ (setVrCommand (getD data′ 2 0))) ≡ true
         → Told (pick b Unlock (SetVr (getD data′ 2 0))) 1 1 number data′
-    go true e t = record {
-      bypassed = refl;
-      controlled = refl;
-      ordered = omega arith;
-      kept = sym (same-equal data′ unlockCommand e);
-      numbered = λ k d. absurd (let z : _≡_ {A = ℕ} 0 1 = cc in omega arith);
-      zeroed = λ z. sym z;
-      small = λ l. omega arith;
-    }
-    go false e t = record {
-      bypassed = refl;
-      controlled = refl;
-      ordered = omega arith;
-      kept = sym (same-equal data′ (setVrCommand (getD data′ 2 0)) t);
-      numbered = λ k d. absurd (let z : _≡_ {A = ℕ} 0 1 = cc in omega arith);
-      zeroed = λ z. sym z;
-      small = λ l. omega arith;
-    }
+    go true e t = type-b Unlock (omega arith) refl refl refl (sym (same-equal data′ unlockCommand e))
+    go false e t = type-b (SetVr (getD data′ 2 0)) (omega arith) refl refl refl (sym (same-equal data′ (setVrCommand (getD data′ 2 0)) t))
 told zero (suc (suc control)) number data′ hb hc type held = absurd (omega arith)
 told (suc zero) (suc (suc control)) number data′ hb hc type held = absurd (omega arith)
 told (suc (suc bypass)) control number data′ hb hc type held = absurd (omega arith)

@@ -21,7 +21,7 @@ use Rattle.frame.specs.declared.Kind.the-variants.{Ad, Bd, Unlock, SetVr
 use Rattle.frame.specs.declared.Reading.the-variants.{Frame}
 use Rattle.frame.proofs.Octets.{spacecraft-is, channel-is}
 use Rattle.frame.proofs.Accepted.{accepted, reading-frame, part-frame}
-use Rattle.frame.proofs.Written.{Fits, total-back, field-back, refusal-left, kind-left}
+use Rattle.frame.proofs.Written.{Fits, fitting, total-back, field-back, refusal-left, kind-left}
 
 -- what may be written: N(S) and the value of Set V(R) are octets, a unit has 1 to 249 octets
 abbrev pub Legal : Kind → List ℕ → Type 0
@@ -33,46 +33,11 @@ Legal (SetVr value) unit = value < 256
 -- it fits, and reads back as itself
 pub legal-fits : (spacecraft channel : ℕ) (kind : Kind) (unit : List ℕ) → spacecraft ≤ 1023 → channel ≤ 63 → Legal kind unit
     → Fits (bypassOf kind) (controlOf kind) (numberOf kind) spacecraft channel (dataOf kind unit)
-legal-fits spacecraft channel (Ad number) unit hs hv l = record {
-  flag = omega arith;
-  type = omega arith;
-  ns = l .0;
-  address = hs;
-  virtual = hv;
-  low = l .1;
-  high = l .2;
-  octets = l .3;
-}
-legal-fits spacecraft channel Bd unit hs hv l = record {
-  flag = omega arith;
-  type = omega arith;
-  ns = omega arith;
-  address = hs;
-  virtual = hv;
-  low = l .0;
-  high = l .1;
-  octets = l .2;
-}
-legal-fits spacecraft channel Unlock unit hs hv l = record {
-  flag = omega arith;
-  type = omega arith;
-  ns = omega arith;
-  address = hs;
-  virtual = hv;
-  low = omega arith;
-  high = omega arith;
-  octets = (omega arith, tt);
-}
-legal-fits spacecraft channel (SetVr value) unit hs hv l = record {
-  flag = omega arith;
-  type = omega arith;
-  ns = omega arith;
-  address = hs;
-  virtual = hv;
-  low = omega arith;
-  high = omega arith;
-  octets = (omega arith, (omega arith, (l, tt)));
-}
+legal-fits spacecraft channel (Ad number) unit hs hv l = fitting (omega arith) (omega arith) (l .0) hs hv (l .1) (l .2) (l .3)
+legal-fits spacecraft channel Bd unit hs hv l = fitting (omega arith) (omega arith) (omega arith) hs hv (l .0) (l .1) (l .2)
+legal-fits spacecraft channel Unlock unit hs hv l = fitting (omega arith) (omega arith) (omega arith) hs hv (omega arith) (omega arith) (omega arith, tt)
+legal-fits spacecraft channel (SetVr value) unit hs hv l =
+    fitting (omega arith) (omega arith) (omega arith) hs hv (omega arith) (omega arith) (omega arith, (omega arith, (l, tt)))
 
 command-held : (kind : Kind) (unit : List ℕ) → pick (eqb (controlOf kind) 1) (isCommand (dataOf kind unit)) true ≡ true
 unfolding isCommand

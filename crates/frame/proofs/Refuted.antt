@@ -15,7 +15,7 @@ use Rattle.fecf.specs.Fecf.{fecfOf, syndromeOf}
 use Rattle.frame.specs.Header.{spacecraftIdentifier, headerFields, headerOf}
 use Rattle.frame.specs.Frame.{bodyOf, rawFrame, totalOf, dataField, isCommand, commandHeld, headerRefusal, contentRefusal, refusalOf, kindOf}
 use Rattle.frame.specs.declared.Kind.the-variants.{Bd}
-use Rattle.frame.proofs.Written.{Fits, refusal-left}
+use Rattle.frame.proofs.Written.{fitting, refusal-left}
 use Rattle.frame.proofs.Examples.{checked, unlock, accepted}
 
 -- a reader agrees with the definition
@@ -33,20 +33,8 @@ pub number-of-type-b : (reader : List ℕ → ℕ → ℕ → ℕ) (number space
 number-of-type-b reader number spacecraft channel unit fill hn hs hv low high hu few hf refuses agrees =
     refuses
     (agrees (rawFrame 1 0 number spacecraft channel unit ++ fill) spacecraft channel
-    ∙ refusal-left 1 0 number spacecraft channel unit fits fill few hf spacecraft channel
+    ∙ refusal-left 1 0 number spacecraft channel unit (fitting (omega arith) (omega arith) hn hs hv low high hu) fill few hf spacecraft channel
     ∙ rw (eq-eqb spacecraft spacecraft refl, eq-eqb channel channel refl))
-  where
-    fits : Fits 1 0 number spacecraft channel unit
-    fits = record {
-      flag = omega arith;
-      type = omega arith;
-      ns = hn;
-      address = hs;
-      virtual = hv;
-      low = low;
-      high = high;
-      octets = hu;
-    }
 
 -- its witness: a BD frame whose octet 4 is 1, with its FECF
 abbrev pub numbered : List ℕ

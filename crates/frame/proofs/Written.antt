@@ -40,6 +40,19 @@ pub record Fits (bypass control number spacecraft channel : ℕ) (field : List �
   pub high : length field ≤ 249
   pub octets : Octets field
 
+pub fitting : {bypass control number spacecraft channel : ℕ} {field : List ℕ} → bypass ≤ 1 → control ≤ bypass → number < 256 → spacecraft ≤ 1023 → channel ≤ 63
+    → 1 ≤ length field → length field ≤ 249 → Octets field → Fits bypass control number spacecraft channel field
+fitting flag type ns address virtual low high octets = record {
+  flag = flag;
+  type = type;
+  ns = ns;
+  address = address;
+  virtual = virtual;
+  low = low;
+  high = high;
+  octets = octets;
+}
+
 module _ (bypass control number spacecraft channel : ℕ) (field : List ℕ) (fits : Fits bypass control number spacecraft channel field) where
   -- header and data, octet by octet
   pub body-is : bodyOf bypass control number spacecraft channel field

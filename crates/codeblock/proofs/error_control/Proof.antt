@@ -1,27 +1,25 @@
 -- The loop's invariant: the octets that are left, shifted into the register so far, give what all give.
 use borrow.Author.Needs.{needs}
-use mathlib.Core.Path.{_≡_, refl, sym, ap, _∙_}
-use Prim.Native.Nat.{ℕ, _+_, _-_, _*_, _<_, _≤_}
+use mathlib.Core.Path.{refl, sym, ap, _∙_}
+use Prim.Native.Nat.{ℕ, _-_, _*_, _<_}
 use native.Mathlib.Nat.{add-zero}
 use native.Mathlib.Omega.{arith}
 use lib.Bits.{bitXor, xor-lt}
-use lib.ListN.{length, drop}
+use lib.ListN.{length}
 use denote.Ref.{now}
-use Rattle.base.specs.Register.{register}
-use Rattle.base.proofs.Register.{register-next, register-end}
+use Rattle.base.proofs.Register.{OctetsLeft, octet-shifted, octets-shifted}
 use Rattle.codeblock.specs.Codeblock.{generator, parity, errorControl}
 use Rattle.codeblock.proofs.error_control.Statement.{statement}
 use Rattle.codeblock.proofs.error_control.Tie as tie
 
 abbrev Inv-loop : tie.InvT-loop
-Inv-loop information r₀ i₀ r i =
-    (i ≤ length information) × (r < 128) × (register 6 generator r (drop i information) ≡ register 6 generator 0 information)
+Inv-loop information r₀ i₀ r i = (r < 128) × OctetsLeft 6 generator 0 information r i
 
 abbrev μ-loop : tie.MeasureT-loop
 μ-loop information r₀ i₀ r i = length information - i
 
 loop-holds : tie.Need-loop-holds Inv-loop μ-loop
-loop-holds c = (search needs, search needs, refl)
+loop-holds c = (search needs, record { same = refl; within = search needs })
 
 shared-slice-read-shift-octet : tie.Need-shared-slice-read-shift-octet Inv-loop μ-loop
 shared-slice-read-shift-octet c = search needs
@@ -37,14 +35,8 @@ loop-less c = search needs
 
 loop-again : tie.Need-loop-again Inv-loop μ-loop
 loop-again c =
-    let l = c .before .before .before .loop in
-    let s = now (c .before .before .before .before .before .args .information) in (
-      search needs,
-      c .shift-octet .ensures .1,
-      ap (λ (x : ℕ). register 6 generator x (drop (l .i + 1) s)) (c .shift-octet .ensures .0)
-          ∙ sym (register-next 6 generator s (l .i) (l .r) (c .before .before .loop-test .taken))
-          ∙ l .inv .2,
-    )
+    let e = c .shift-octet .ensures in
+    (e .1, octet-shifted (c .before .before .before .loop .inv .1) (c .before .before .loop-test .taken) (e .0))
 
 mul-result : tie.Need-mul-result Inv-loop μ-loop
 mul-result c = omega (arith, xor-lt 7 (c .before .loop .r) 127 (search needs) (search needs))
@@ -52,10 +44,8 @@ mul-result c = omega (arith, xor-lt 7 (c .before .loop .r) 127 (search needs) (s
 returns : tie.Need-returns Inv-loop μ-loop
 unfolding errorControl parity
 returns c =
-    let l = c .before .loop in
-    let s = now (c .before .before .before .args .information) in
-    ap (λ (x : ℕ). bitXor x 127 * 2) (sym (register-end 6 generator s (l .i) (l .r) (c .loop-test .left)) ∙ l .inv .2)
-    ∙ sym (add-zero (bitXor (register 6 generator 0 s) 127 * 2))
+    ap (λ (x : ℕ). bitXor x 127 * 2) (octets-shifted (c .before .loop .inv .1) (c .loop-test .left))
+    ∙ sym (add-zero (bitXor (parity (now (c .before .before .before .args .information))) 127 * 2))
 
 pub error-control-spec : {M : Type 1} → statement M
 error-control-spec =

@@ -1,23 +1,20 @@
 -- The loop's invariant: the bits that are left, shifted into the register so far, give what all eight give.
 use borrow.Author.Needs.{needs}
-use mathlib.Core.Path.{_≡_, refl, sym, ap, _∙_}
-use Prim.Native.Nat.{ℕ, _-_, _*_, _%_, _<_, _≤_}
-use native.Mathlib.Omega.{arith}
-use Rattle.base.specs.Register.{shiftBits}
-use Rattle.base.proofs.Register.{shift-next}
+use mathlib.Core.Path.{refl}
+use Prim.Native.Nat.{_<_}
+use Rattle.base.proofs.Register.{BitsLeft, bit-shifted, bits-shifted}
 use Rattle.codeblock.specs.Codeblock.{generator}
 use Rattle.codeblock.proofs.shift_octet.Statement.{statement}
 use Rattle.codeblock.proofs.shift_octet.Tie as tie
 
 abbrev Inv-loop : tie.InvT-loop
-Inv-loop register octet r₀ bits₀ left₀ r bits left =
-    (r < 128) × (bits < 256) × (shiftBits 6 generator left r bits ≡ shiftBits 6 generator 8 register octet) × (left ≤ 8)
+Inv-loop register octet r₀ bits₀ left₀ r bits left = (r < 128) × BitsLeft 6 generator register octet r bits left
 
 abbrev μ-loop : tie.MeasureT-loop
 μ-loop register octet r₀ bits₀ left₀ r bits left = left
 
 loop-holds : tie.Need-loop-holds Inv-loop μ-loop
-loop-holds c = (search needs, search needs, refl, search needs)
+loop-holds c = (search needs, record { same = refl; within = search needs; few = search needs })
 
 shift-bit-requires : tie.Need-shift-bit-requires Inv-loop μ-loop
 shift-bit-requires c κs = search needs
@@ -33,21 +30,11 @@ loop-less c = search needs
 
 loop-again : tie.Need-loop-again Inv-loop μ-loop
 loop-again c =
-    let l = c .before .before .loop in (
-      c .shift-bit .ensures .1,
-      search needs,
-      ap (λ (x : ℕ). shiftBits 6 generator (l .left - 1) x (l .bits % 128 * 2)) (c .shift-bit .ensures .0)
-          ∙ sym (shift-next 6 generator (l .left) (l .r) (l .bits) (c .before .loop-test .taken))
-          ∙ l .inv .2,
-      search needs,
-    )
+    let e = c .shift-bit .ensures in
+    (e .1, bit-shifted (c .before .before .loop .inv .1) (c .before .loop-test .taken) (e .0))
 
 returns : tie.Need-returns Inv-loop μ-loop
-unfolding shiftBits
-returns c =
-    let i = c .before .loop .inv in
-    let z : c .before .loop .left ≡ 0 = omega arith in
-    (rw z at (i .2), i .0)
+returns c = (bits-shifted (c .before .loop .inv .1) (search needs), c .before .loop .inv .0)
 
 pub shift-octet-spec : {M : Type 1} → statement M
 shift-octet-spec =

@@ -1,13 +1,21 @@
 -- With room for a row the writing is never refused.
 use borrow.Author.Needs.{needs}
 use Prim.Native.Nat.{ℕ, _+_}
-use mathlib.Core.Path.{ap}
+use mathlib.Core.Path.{_≡_, ap}
 use native.Mathlib.Omega.{arith}
 use denote.Ref.{now}
+use lib.ListN.{length}
 use Rattle.console.specs.Console.{textOf}
 use Rattle.console.proofs.Placing.{placed-part, part-done, part-never}
 use Rattle.console.proofs.put.Statement.{statement}
 use Rattle.console.proofs.put.Tie as tie
+
+-- the octets written are the text's
+counted : (c : tie.After-known-told) → c .before .n .given .0 .0 ≡ length (textOf (c .before .before .before .before .before .before .before .before .args .output))
+counted c =
+    let a = c .before .before .before .before .before .before .before .before .args in
+    let w = c .before .before .before .before .before .write in
+    part-done (now (a .out)) (a .at) (textOf (a .output)) (omega (arith, w .ensures .1 .1)) (w .result) (w .ensures .0) _ (c .before .n .given .1)
 
 sub-write : tie.Need-sub-write
 sub-write c = search needs
@@ -25,11 +33,7 @@ enum-known-n : tie.Need-enum-known-n
 enum-known-n c = search needs
 
 add-result : tie.Need-add-result
-add-result c =
-    let a = c .before .before .before .before .before .before .before .before .args in
-    let w = c .before .before .before .before .before .write in
-    let n = part-done (now (a .out)) (a .at) (textOf (a .output)) (omega (arith, w .ensures .1 .1)) (w .result) (w .ensures .0) (c .before .n .given .0 .0) (c .before .n .given .1) in
-    omega (arith, w .ensures .1 .1)
+add-result c = omega (arith, counted c, c .before .before .before .before .before .write .ensures .1 .1)
 
 enum-told : tie.Need-enum-told
 enum-told c = search needs
@@ -40,11 +44,10 @@ same-length c = search needs
 returns : tie.Need-returns
 returns c =
     let a = c .before .before .before .before .before .before .before .before .args in
-    let w = c .before .before .before .before .before .write in
-    let n = part-done (now (a .out)) (a .at) (textOf (a .output)) (omega (arith, w .ensures .1 .1)) (w .result) (w .ensures .0) (c .before .n .given .0 .0) (c .before .n .given .1) in (
+    let w = c .before .before .before .before .before .write in (
       placed-part (now (a .out)) (a .at) (textOf (a .output)) (omega (arith, w .ensures .1 .1)) (w .last .1 .0) (w .ensures .1 .0),
-      ap (λ (k : ℕ). a .at + k) n,
-      omega (arith, w .ensures .1 .1),
+      ap (λ (k : ℕ). a .at + k) (counted c),
+      omega (arith, counted c, w .ensures .1 .1),
     )
 
 same-length-2 : tie.Need-same-length-2

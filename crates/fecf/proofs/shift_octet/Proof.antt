@@ -1,23 +1,19 @@
 -- The loop's invariant: the bits that are left, shifted into the register so far, give what all eight give.
 use borrow.Author.Needs.{needs}
-use mathlib.Core.Path.{_≡_, refl, sym, ap, _∙_}
-use Prim.Native.Nat.{ℕ, _-_, _*_, _%_, _<_, _≤_}
-use native.Mathlib.Omega.{arith}
-use Rattle.base.specs.Register.{shiftBits}
-use Rattle.base.proofs.Register.{shift-next}
+use mathlib.Core.Path.{refl}
+use Rattle.base.proofs.Register.{BitsLeft, bit-shifted, bits-shifted}
 use Rattle.fecf.specs.Fecf.{generator}
 use Rattle.fecf.proofs.shift_octet.Statement.{statement}
 use Rattle.fecf.proofs.shift_octet.Tie as tie
 
 abbrev Inv-loop : tie.InvT-loop
-Inv-loop register octet r₀ bits₀ left₀ r bits left =
-    (bits < 256) × (shiftBits 15 generator left r bits ≡ shiftBits 15 generator 8 register octet) × (left ≤ 8)
+Inv-loop register octet r₀ bits₀ left₀ r bits left = BitsLeft 15 generator register octet r bits left
 
 abbrev μ-loop : tie.MeasureT-loop
 μ-loop register octet r₀ bits₀ left₀ r bits left = left
 
 loop-holds : tie.Need-loop-holds Inv-loop μ-loop
-loop-holds c = (search needs, refl, search needs)
+loop-holds c = record { same = refl; within = search needs; few = search needs }
 
 cast-shift-bit : tie.Need-cast-shift-bit Inv-loop μ-loop
 cast-shift-bit c = search needs
@@ -35,21 +31,10 @@ loop-less : tie.Need-loop-less Inv-loop μ-loop
 loop-less c = search needs
 
 loop-again : tie.Need-loop-again Inv-loop μ-loop
-loop-again c =
-    let l = c .before .before .loop in (
-      search needs,
-      ap (λ (x : ℕ). shiftBits 15 generator (l .left - 1) x (l .bits % 128 * 2)) (c .shift-bit .ensures)
-          ∙ sym (shift-next 15 generator (l .left) (l .r) (l .bits) (c .before .loop-test .taken))
-          ∙ l .inv .1,
-      search needs,
-    )
+loop-again c = bit-shifted (c .before .before .loop .inv) (c .before .loop-test .taken) (c .shift-bit .ensures)
 
 returns : tie.Need-returns Inv-loop μ-loop
-unfolding shiftBits
-returns c =
-    let i = c .before .loop .inv in
-    let z : c .before .loop .left ≡ 0 = omega arith in
-    rw z at (i .1)
+returns c = bits-shifted (c .before .loop .inv) (search needs)
 
 pub shift-octet-spec : {M : Type 1} → statement M
 shift-octet-spec =

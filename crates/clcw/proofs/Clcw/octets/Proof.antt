@@ -2,7 +2,8 @@
 use borrow.Author.Needs.{needs}
 use mathlib.Core.Path.{sym}
 use native.Mathlib.Omega.{arith}
-use Rattle.clcw.proofs.Word.{bit-le, octets-are}
+use Rattle.base.proofs.Tests.{bit-le}
+use Rattle.clcw.proofs.Word.{octets-are}
 use Rattle.clcw.proofs.Clcw.octets.Statement.{statement}
 use Rattle.clcw.proofs.Clcw.octets.Tie as tie
 

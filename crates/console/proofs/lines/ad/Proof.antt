@@ -2,7 +2,8 @@
 use borrow.Author.Needs.{needs}
 use native.Mathlib.Omega.{arith}
 use denote.Ref.{now}
-use Rattle.console.proofs.Words.{octet, ad-told}
+use Rattle.console.specs.Line.{adLine}
+use Rattle.console.proofs.Words.{octet, line-told}
 use Rattle.console.proofs.lines.ad.Statement.{statement}
 use Rattle.console.proofs.lines.ad.Tie as tie
 
@@ -21,10 +22,10 @@ enum-told : tie.Need-enum-told
 enum-told c = search needs
 
 returns : tie.Need-returns
-returns c = search ad-told
+returns c = search (line-told adLine)
 
 returns-2 : tie.Need-returns-2
-returns-2 c = search ad-told
+returns-2 c = search (line-told adLine)
 
 pub ad-spec : {M : Type 1} → statement M
 ad-spec = tie.close (tie.spec number-requires enum-known-n cast-t5 enum-told returns returns-2)

@@ -24,7 +24,9 @@ same-length : tie.Need-same-length
 same-length c = search needs
 
 returns : tie.Need-returns
-returns c = (search flags-told, omega arith)
+returns c =
+    let f = c .before .before .before .before .before in
+    (flags-told (f .before .before .before .before .args .v) _ _ _ _ _ _ (f .before .before .flag .ensures) (f .before .flag2 .ensures) (f .flag3 .ensures) (c .before .before .put .ensures .0), omega arith)
 
 pub put-flags-spec : {M : Type 1} → statement M
 put-flags-spec =

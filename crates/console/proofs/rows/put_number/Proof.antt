@@ -1,16 +1,39 @@
 -- The digits fit, and the end stands behind them.
 use borrow.Author.Needs.{needs}
-use Prim.Native.Nat.{ℕ, _+_}
-use mathlib.Core.Path.{ap, ap₂, _∙_}
+use Prim.Native.Nat.{ℕ, _+_, _-_, _≤_}
+use mathlib.Core.Path.{_≡_, ap, ap₂, _∙_}
 use mathlib.Core.List.{List, [], _∷_}
 use native.Mathlib.Omega.{arith}
+use borrow.Rule.Slice.PartMut.{putMid}
 use denote.Ref.{now}
 use lib.ListN.{length, set, length-append}
+use Rattle.memory.specs.Placed.{placed}
 use Rattle.text.specs.Decimal.{decimal}
 use Rattle.text.proofs.Decimals.{length-octet}
 use Rattle.console.proofs.Placing.{length-placed, placed-octet, placed-part, part-done, part-never}
 use Rattle.console.proofs.rows.put_number.Statement.{statement}
 use Rattle.console.proofs.rows.put_number.Tie as tie
+
+-- where the function began
+abbrev entry : tie.After-known-told → tie.Start
+entry c = c .before .before .before .before .before .before .before .before
+
+-- the digits fit, and are all written
+record Digits (c : tie.After-known-told) : Type 0 where
+  few : length (decimal (entry c .args .number)) ≤ 3
+  count : c .before .n .given .0 .0 ≡ length (decimal (entry c .args .number))
+  memory : putMid (entry c .args .at) (length (now (entry c .args .row)) - entry c .args .at) (now (entry c .args .row)) (c .before .before .before .before .before .write .last .1 .0)
+      ≡ placed (now (entry c .args .row)) (entry c .args .at) (decimal (entry c .args .number))
+
+digits : (c : tie.After-known-told) → Digits c
+digits c =
+    let a = entry c .args in
+    let w = c .before .before .before .before .before .write in
+    let l = length-octet (a .number) (omega arith) in record {
+      few = l;
+      count = part-done (now (a .row)) (a .at) (decimal (a .number)) (omega arith) (w .result) (w .ensures .0) _ (c .before .n .given .1);
+      memory = placed-part (now (a .row)) (a .at) (decimal (a .number)) (omega arith) (w .last .1 .0) (w .ensures .1);
+    }
 
 sub-part : tie.Need-sub-part
 sub-part c = search needs
@@ -29,28 +52,19 @@ enum-known-n c = search needs
 
 add-e : tie.Need-add-e
 add-e c =
-    let a = c .before .before .before .before .before .before .before .before .args in
-    let w = c .before .before .before .before .before .write in
-    let l = length-octet (a .number) (omega arith) in
-    let n = part-done (now (a .row)) (a .at) (decimal (a .number)) (omega arith) (w .result) (w .ensures .0) (c .before .n .given .0 .0) (c .before .n .given .1) in
-    omega arith
+    let d = digits c in
+    omega (arith, d .few, d .count)
 
 slice-write-row : tie.Need-slice-write-row
 slice-write-row c =
-    let a = c .before .before .before .before .before .before .before .before .args in
-    let w = c .before .before .before .before .before .write in
-    let l = length-octet (a .number) (omega arith) in
-    let n = part-done (now (a .row)) (a .at) (decimal (a .number)) (omega arith) (w .result) (w .ensures .0) (c .before .n .given .0 .0) (c .before .n .given .1) in
-    let p = placed-part (now (a .row)) (a .at) (decimal (a .number)) (omega arith) (w .last .1 .0) (w .ensures .1) in
-    omega (arith, ap length p ∙ length-placed (now (a .row)) (a .at) (decimal (a .number)) (omega arith))
+    let a = entry c .args in
+    let d = digits c in
+    omega (arith, d .few, d .count, ap length (d .memory) ∙ length-placed (now (a .row)) (a .at) (decimal (a .number)) (omega (arith, d .few)))
 
 add-result : tie.Need-add-result
 add-result c =
-    let a = c .before .before .before .before .before .before .before .before .args in
-    let w = c .before .before .before .before .before .write in
-    let l = length-octet (a .number) (omega arith) in
-    let n = part-done (now (a .row)) (a .at) (decimal (a .number)) (omega arith) (w .result) (w .ensures .0) (c .before .n .given .0 .0) (c .before .n .given .1) in
-    omega arith
+    let d = digits c in
+    omega (arith, d .few, d .count)
 
 enum-told : tie.Need-enum-told
 enum-told c = search needs
@@ -60,15 +74,13 @@ same-length c = search needs
 
 returns : tie.Need-returns
 returns c =
-    let a = c .before .before .before .before .before .before .before .before .args in
-    let w = c .before .before .before .before .before .write in
-    let l = length-octet (a .number) (omega arith) in
-    let n = part-done (now (a .row)) (a .at) (decimal (a .number)) (omega arith) (w .result) (w .ensures .0) (c .before .n .given .0 .0) (c .before .n .given .1) in
-    let p = placed-part (now (a .row)) (a .at) (decimal (a .number)) (omega arith) (w .last .1 .0) (w .ensures .1) in
+    let a = entry c .args in
+    let d = digits c in
     let q = length-append (decimal (a .number)) (a .end ∷ []) in (
-      ap₂ (λ (m : List ℕ) (k : ℕ). set m (a .at + k) (a .end)) p n ∙ placed-octet (now (a .row)) (a .at) (decimal (a .number)) (omega arith) (a .end) (omega arith),
-      omega arith,
-      omega arith,
+      ap₂ (λ (m : List ℕ) (k : ℕ). set m (a .at + k) (a .end)) (d .memory) (d .count)
+          ∙ placed-octet (now (a .row)) (a .at) (decimal (a .number)) (omega (arith, d .few)) (a .end) (omega (arith, d .few)),
+      omega (arith, d .few, d .count),
+      omega (arith, d .few, d .count),
     )
 
 same-length-2 : tie.Need-same-length-2

@@ -1,5 +1,6 @@
 -- The octets are those of the layout, the flags' by `flag`.
 use borrow.Author.Needs.{needs}
+use mathlib.Core.Path.{refl}
 use Rattle.farm.specs.Kept.{octetsOf}
 use Rattle.farm.proofs.Receiver.octets.Statement.{statement}
 use Rattle.farm.proofs.Receiver.octets.Tie as tie
@@ -38,7 +39,7 @@ returns : tie.Need-returns
 unfolding octetsOf
 returns c =
     let f = c .before .before in
-    rw (f .flag3 .ensures .0, f .before .flag2 .ensures .0, f .before .before .flag .ensures .0, f .before .before .before .state-number .ensures)
+    rw (f .flag3 .ensures .0, f .before .flag2 .ensures .0, f .before .before .flag .ensures .0, f .before .before .before .state-number .ensures) refl
 
 pub octets-spec : {M : Type 1} → statement M
 octets-spec =

@@ -1,42 +1,22 @@
 -- Each arm is the cell of row E1 in its state.
 use borrow.Author.Needs.{needs}
+use mathlib.Core.Path.{refl}
+use Rattle.farm.specs.declared.State.the-variants.{Open}
+use Rattle.farm.specs.declared.Event.the-variants.{E1}
 use Rattle.farm.specs.Table.{table, perform, performAll, stepOf}
-use Rattle.farm.proofs.Cells.{cells}
+use Rattle.farm.proofs.Cells.{told, cells}
 use Rattle.farm.proofs.Variables.e1.Statement.{statement}
 use Rattle.farm.proofs.Variables.e1.Tie as tie
 
-wrapping-add-u8-requires : tie.Need-wrapping-add-u8-requires
-wrapping-add-u8-requires c κs = search needs
-
-enum-told : tie.Need-enum-told
-enum-told c = search needs
-
-enum-told-2 : tie.Need-enum-told-2
-enum-told-2 c = search needs
-
-enum-told-3 : tie.Need-enum-told-3
-enum-told-3 c = search needs
-
-returns : tie.Need-returns
-unfolding stepOf table performAll perform
-returns c = search (cells, c .before .before .wrapping-add-u8 .ensures)
-
-returns-2 : tie.Need-returns-2
-unfolding stepOf table performAll perform
-returns-2 c = search cells
-
-returns-3 : tie.Need-returns-3
-unfolding stepOf table performAll perform
-returns-3 c = search cells
-
 pub e1-spec : {M : Type 1} → statement M
+unfolding stepOf table performAll perform
 e1-spec =
     tie.close
     (tie.spec
-    wrapping-add-u8-requires
-    enum-told
-    enum-told-2
-    enum-told-3
-    returns
-    returns-2
-    returns-3)
+    (λ c κs. search needs)
+    (λ c. search needs)
+    (λ c. search needs)
+    (λ c. search needs)
+    (λ c. told E1 0 (c .before .before .before .args .self) _ Open (c .enum-told .given .1) (rw (c .before .before .wrapping-add-u8 .ensures) refl))
+    (λ c. search cells)
+    (λ c. search cells))

@@ -1,30 +1,21 @@
 -- Each arm is the cell of row E10 in its state.
 use borrow.Author.Needs.{needs}
+use mathlib.Core.Path.{refl}
+use Rattle.farm.specs.declared.State.the-variants.{Wait, Lockout}
+use Rattle.farm.specs.declared.Event.the-variants.{E10}
 use Rattle.farm.specs.Table.{table, perform, performAll, stepOf}
-use Rattle.farm.proofs.Cells.{cells}
+use Rattle.farm.proofs.Cells.{told, cells}
 use Rattle.farm.proofs.Variables.e10.Statement.{statement}
 use Rattle.farm.proofs.Variables.e10.Tie as tie
 
-enum-told : tie.Need-enum-told
-enum-told c = search needs
-
-enum-told-2 : tie.Need-enum-told-2
-enum-told-2 c = search needs
-
-enum-told-3 : tie.Need-enum-told-3
-enum-told-3 c = search needs
-
-returns : tie.Need-returns
-unfolding stepOf table performAll perform
-returns c = search cells
-
-returns-2 : tie.Need-returns-2
-unfolding stepOf table performAll perform
-returns-2 c = search cells
-
-returns-3 : tie.Need-returns-3
-unfolding stepOf table performAll perform
-returns-3 c = search cells
-
 pub e10-spec : {M : Type 1} → statement M
-e10-spec = tie.close (tie.spec enum-told enum-told-2 enum-told-3 returns returns-2 returns-3)
+unfolding stepOf table performAll perform
+e10-spec =
+    tie.close
+    (tie.spec
+    (λ c. search needs)
+    (λ c. search needs)
+    (λ c. search needs)
+    (λ c. search cells)
+    (λ c. told E10 0 (c .before .before .args .self) _ Wait (c .enum-told2 .given .1) refl)
+    (λ c. told E10 0 (c .before .before .args .self) _ Lockout (c .enum-told3 .given .1) refl))

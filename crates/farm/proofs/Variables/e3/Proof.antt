@@ -5,26 +5,14 @@ use Rattle.farm.proofs.Cells.{cells}
 use Rattle.farm.proofs.Variables.e3.Statement.{statement}
 use Rattle.farm.proofs.Variables.e3.Tie as tie
 
-enum-told : tie.Need-enum-told
-enum-told c = search needs
-
-enum-told-2 : tie.Need-enum-told-2
-enum-told-2 c = search needs
-
-enum-told-3 : tie.Need-enum-told-3
-enum-told-3 c = search needs
-
-returns : tie.Need-returns
-unfolding stepOf table performAll perform
-returns c = search cells
-
-returns-2 : tie.Need-returns-2
-unfolding stepOf table performAll perform
-returns-2 c = search cells
-
-returns-3 : tie.Need-returns-3
-unfolding stepOf table performAll perform
-returns-3 c = search cells
-
 pub e3-spec : {M : Type 1} → statement M
-e3-spec = tie.close (tie.spec enum-told enum-told-2 enum-told-3 returns returns-2 returns-3)
+unfolding stepOf table performAll perform
+e3-spec =
+    tie.close
+    (tie.spec
+    (λ c. search needs)
+    (λ c. search needs)
+    (λ c. search needs)
+    (λ c. search cells)
+    (λ c. search cells)
+    (λ c. search cells))

@@ -5,30 +5,15 @@ use Rattle.farm.proofs.Cells.{cells}
 use Rattle.farm.proofs.Variables.e7.Statement.{statement}
 use Rattle.farm.proofs.Variables.e7.Tie as tie
 
-counted-requires : tie.Need-counted-requires
-counted-requires c κs = search needs
-
-enum-told : tie.Need-enum-told
-enum-told c = search needs
-
-enum-told-2 : tie.Need-enum-told-2
-enum-told-2 c = search needs
-
-enum-told-3 : tie.Need-enum-told-3
-enum-told-3 c = search needs
-
-returns : tie.Need-returns
-unfolding stepOf table performAll perform
-returns c = search (cells, c .before .before .counted .ensures)
-
-returns-2 : tie.Need-returns-2
-unfolding stepOf table performAll perform
-returns-2 c = search (cells, c .before .before .counted .ensures)
-
-returns-3 : tie.Need-returns-3
-unfolding stepOf table performAll perform
-returns-3 c = search (cells, c .before .before .counted .ensures)
-
 pub e7-spec : {M : Type 1} → statement M
+unfolding stepOf table performAll perform
 e7-spec =
-    tie.close (tie.spec counted-requires enum-told enum-told-2 enum-told-3 returns returns-2 returns-3)
+    tie.close
+    (tie.spec
+    (λ c κs. search needs)
+    (λ c. search needs)
+    (λ c. search needs)
+    (λ c. search needs)
+    (λ c. search (cells, c .before .before .counted .ensures))
+    (λ c. search (cells, c .before .before .counted .ensures))
+    (λ c. search (cells, c .before .before .counted .ensures)))
