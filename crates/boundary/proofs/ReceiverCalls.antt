@@ -27,7 +27,7 @@ octets-front : (old : List ℕ) (r : Receiver) → 12 ≤ length old → placed 
 unfolding octetsOf
 octets-front old r h = placed-fits old 0 (octetsOf r) h
 
-module _ (o : List ℕ) (start : Start) (e : start ≡ restoredOf o) where
+module _ (o : List ℕ) {start : Start} (e : start ≡ restoredOf o) where
   no-state : start ≡ Setting → isState o ≡ false
   unfolding restoredOf
   no-state p = go (isState o) (sym e ∙ p)
@@ -53,7 +53,7 @@ module _ (o : List ℕ) (start : Start) (e : start ≡ restoredOf o) where
     word-refused lent = rw (no-state p)
 
   -- a state is the receiver's that it holds
-  module _ (r : Receiver) (p : start ≡ Ready r) where
+  module _ {r : Receiver} (p : start ≡ Ready r) where
     held : (isState o ≡ true) × (r ≡ receiverIn o)
     unfolding restoredOf
     held = go (isState o) (sym e ∙ p)
@@ -90,12 +90,12 @@ module _ (o : List ℕ) (start : Start) (e : start ≡ restoredOf o) where
         octets-front o next (omega arith) ∙ ap (λ (x : List ℕ). octetsOf next ++ x) (drop-of-length-le o h) ∙ append-nil (octetsOf next)
 
 -- a new receiver
-module _ (spacecraft channel window vr buffers : ℕ) (old : List ℕ) (start : Start) (e : start ≡ startOf spacecraft channel window vr buffers) where
+module _ (spacecraft channel window vr buffers : ℕ) (old : List ℕ) {start : Start} (e : start ≡ startOf spacecraft channel window vr buffers) where
   pub new-setting : start ≡ Setting → newCall spacecraft channel window vr buffers old ≡ record { number = 12; state = old }
   unfolding newCall
   new-setting p = ap (λ (x : Start). starting x old) (sym e ∙ p)
 
-  module _ (r : Receiver) (p : start ≡ Ready r) where
+  module _ {r : Receiver} (p : start ≡ Ready r) where
     pub new-short : length old < 12 → newCall spacecraft channel window vr buffers old ≡ record { number = 11; state = old }
     unfolding newCall
     new-short h = ap (λ (x : Start). starting x old) (sym e ∙ p) ∙ rw (lt-leb 12 (length old) h)

@@ -3,15 +3,19 @@ use fop_actions::Settings;
 use fop_events::Lower;
 use sender::Answer;
 use sender::Sender;
+use sender::Start;
 use sender_octets::ANSWER_OCTETS;
 use sender_octets::STATE_OCTETS;
 use sender_octets::octets_of;
 use sender_octets::octets_of_answer;
 use sender_octets::sender_in;
 ghost use mathlib.Core.Path.{_≡_};
+ghost use lib.Dec.{leb, eqb};
+ghost use lib.ListN.{length};
+ghost use Rattle.base.specs.Choice.{must};
 ghost use Rattle.memory.specs.Placed.{placed};
-ghost use Rattle.sender_octets.specs.Kept.{octetsOf};
-ghost use Rattle.sender_octets.specs.Answer.{octetsOfAnswer};
+ghost use Rattle.sender_octets.specs.Kept.{octetsOf, senderIn};
+ghost use Rattle.sender_octets.specs.Answer.{answerOctets, octetsOfAnswer};
 ghost use Rattle.boundary.specs.Senders.{requestAdCall, requestBdCall, tickCall, wordCall, lowerCall, directiveCall, newCall, lowerNumbered, narrowNumber, narrowValue};
 
 // The last directive of the sender, and the largest value that one carries.
@@ -22,6 +26,31 @@ const LARGEST_VALUE: u32 = 65535;
 // The last answer of the lower layer.
 const LAST_LOWER: u8 = 6;
 
+// The sender that a call reaches: 12 where the octets are no state, then 11 where the answer has no room.
+fn reach(state: &[u8], answer: &[u8]) -> Start
+    ensures number { λ r. ⌜ r .refusal ≡ must (eqb (senderIn (now (state .entry)) .refusal) 0) 12 (must (leb answerOctets (length (now (answer .entry)))) 11 0) ⌝ }
+    ensures sender { λ r. ⌜ r .sender ≡ senderIn (now (state .entry)) .sender ⌝ }
+{
+    let mut reached = sender_in(state);
+    if reached.refusal != 0 {
+        reached.refusal = 12;
+        return reached;
+    }
+    if answer.len() < ANSWER_OCTETS {
+        reached.refusal = 11;
+        return reached;
+    }
+    reached
+}
+
+// Puts the state of a sender at the front of a buffer.
+fn keep(sender: Sender, state: &mut [u8])
+    ensures { λ _. ⌜ now (state .exit) ≡ placed (now (state .entry)) 0 (octetsOf (sender .fop)) ⌝ }
+{
+    let octets = octets_of(sender.state());
+    memory::put(state, 0, &octets);
+}
+
 // An answer, told: the next state and the answer as octets at the front of their buffers, and the refusal, 0 for done.
 fn tell(told: Answer, state: &mut [u8], answer: &mut [u8]) -> u8
     ensures number { λ r. ⌜ r ≡ told .refusal ⌝ }
@@ -29,8 +58,7 @@ fn tell(told: Answer, state: &mut [u8], answer: &mut [u8]) -> u8
     ensures answer { λ r. ⌜ now (answer .exit) ≡ placed (now (answer .entry)) 0 (octetsOfAnswer told) ⌝ }
 {
     let next = told.next;
-    let kept = octets_of(next.state());
-    memory::put(state, 0, &kept);
+    keep(next, state);
     let octets = octets_of_answer(told);
     memory::put(answer, 0, &octets);
     told.refusal
@@ -50,14 +78,11 @@ pub extern "C" fn sender_request_ad(
     ensures output { λ r. ⌜ now (output .exit) ≡ requestAdCall (now (state .entry)) (now (unit .entry)) (now (store .entry)) (now (output .entry)) (now (answer .entry)) .output ⌝ }
     ensures answer { λ r. ⌜ now (answer .exit) ≡ requestAdCall (now (state .entry)) (now (unit .entry)) (now (store .entry)) (now (output .entry)) (now (answer .entry)) .answer ⌝ }
 {
-    let taken = sender_in(state);
-    if taken.refusal != 0 {
-        return 12;
+    let reached = reach(state, answer);
+    if reached.refusal != 0 {
+        return reached.refusal;
     }
-    if answer.len() < ANSWER_OCTETS {
-        return 11;
-    }
-    let sender = taken.sender;
+    let sender = reached.sender;
     let told = sender.request_ad(unit, store, output);
     tell(told, state, answer)
 }
@@ -76,14 +101,11 @@ pub extern "C" fn sender_request_bd(
     ensures output { λ r. ⌜ now (output .exit) ≡ requestBdCall (now (state .entry)) (now (unit .entry)) (now (store .entry)) (now (output .entry)) (now (answer .entry)) .output ⌝ }
     ensures answer { λ r. ⌜ now (answer .exit) ≡ requestBdCall (now (state .entry)) (now (unit .entry)) (now (store .entry)) (now (output .entry)) (now (answer .entry)) .answer ⌝ }
 {
-    let taken = sender_in(state);
-    if taken.refusal != 0 {
-        return 12;
+    let reached = reach(state, answer);
+    if reached.refusal != 0 {
+        return reached.refusal;
     }
-    if answer.len() < ANSWER_OCTETS {
-        return 11;
-    }
-    let sender = taken.sender;
+    let sender = reached.sender;
     let told = sender.request_bd(unit, store, output);
     tell(told, state, answer)
 }
@@ -131,14 +153,11 @@ pub extern "C" fn sender_directive(
     ensures output { λ r. ⌜ now (output .exit) ≡ directiveCall (now (state .entry)) number value (now (store .entry)) (now (output .entry)) (now (answer .entry)) .output ⌝ }
     ensures answer { λ r. ⌜ now (answer .exit) ≡ directiveCall (now (state .entry)) number value (now (store .entry)) (now (output .entry)) (now (answer .entry)) .answer ⌝ }
 {
-    let taken = sender_in(state);
-    if taken.refusal != 0 {
-        return 12;
+    let reached = reach(state, answer);
+    if reached.refusal != 0 {
+        return reached.refusal;
     }
-    if answer.len() < ANSWER_OCTETS {
-        return 11;
-    }
-    let sender = taken.sender;
+    let sender = reached.sender;
     let directive = narrow_number(number, value);
     let told = sender.directive(directive, narrow_value(value), store, output);
     tell(told, state, answer)
@@ -157,14 +176,11 @@ pub extern "C" fn sender_tick(
     ensures output { λ r. ⌜ now (output .exit) ≡ tickCall (now (state .entry)) (now (store .entry)) (now (output .entry)) (now (answer .entry)) .output ⌝ }
     ensures answer { λ r. ⌜ now (answer .exit) ≡ tickCall (now (state .entry)) (now (store .entry)) (now (output .entry)) (now (answer .entry)) .answer ⌝ }
 {
-    let taken = sender_in(state);
-    if taken.refusal != 0 {
-        return 12;
+    let reached = reach(state, answer);
+    if reached.refusal != 0 {
+        return reached.refusal;
     }
-    if answer.len() < ANSWER_OCTETS {
-        return 11;
-    }
-    let sender = taken.sender;
+    let sender = reached.sender;
     let told = sender.tick(store, output);
     tell(told, state, answer)
 }
@@ -211,14 +227,11 @@ pub extern "C" fn sender_lower_layer(
     if LAST_LOWER < number {
         return 12;
     }
-    let taken = sender_in(state);
-    if taken.refusal != 0 {
-        return 12;
+    let reached = reach(state, answer);
+    if reached.refusal != 0 {
+        return reached.refusal;
     }
-    if answer.len() < ANSWER_OCTETS {
-        return 11;
-    }
-    let sender = taken.sender;
+    let sender = reached.sender;
     let told = sender.lower_layer(lower_numbered(number), store, output);
     tell(told, state, answer)
 }
@@ -237,14 +250,11 @@ pub extern "C" fn sender_control_word(
     ensures output { λ r. ⌜ now (output .exit) ≡ wordCall (now (state .entry)) (now (word .entry)) (now (store .entry)) (now (output .entry)) (now (answer .entry)) .output ⌝ }
     ensures answer { λ r. ⌜ now (answer .exit) ≡ wordCall (now (state .entry)) (now (word .entry)) (now (store .entry)) (now (output .entry)) (now (answer .entry)) .answer ⌝ }
 {
-    let taken = sender_in(state);
-    if taken.refusal != 0 {
-        return 12;
+    let reached = reach(state, answer);
+    if reached.refusal != 0 {
+        return reached.refusal;
     }
-    if answer.len() < ANSWER_OCTETS {
-        return 11;
-    }
-    let sender = taken.sender;
+    let sender = reached.sender;
     let told = sender.control_word(word, store, output);
     tell(told, state, answer)
 }
@@ -281,7 +291,6 @@ pub extern "C" fn sender_new(
         return 11;
     }
     let sender = started.sender;
-    let kept = octets_of(sender.state());
-    memory::put(state, 0, &kept);
+    keep(sender, state);
     0
 }

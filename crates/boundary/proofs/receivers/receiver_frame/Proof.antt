@@ -22,7 +22,7 @@ returns : tie.Need-returns
 returns c =
     let r = c .before .before in
     let a = r .before .before .before .before .args in
-    rw (frame-refused (now (a .state)) (r .restore .result) (r .restore .ensures) (c .enum-told .given .1) (now (a .frame)))
+    rw (frame-refused (now (a .state)) (r .restore .ensures) (c .enum-told .given .1) (now (a .frame)))
     (refl, (refl, (refl, (refl, (refl, refl)))))
 
 receive-requires : tie.Need-receive-requires
@@ -55,9 +55,9 @@ returns-2 c =
     let s = m .before .before in
     let r = s .before .before in
     let a = r .before .before .before .before .args in
-    let z = k .keep .ensures ∙ kept-whole (now (a .state)) (r .restore .result) (r .restore .ensures) _ (s .start .given .1) (m .receive .result .next) in
+    let z = k .keep .ensures ∙ kept-whole (now (a .state)) (r .restore .ensures) (s .start .given .1) (m .receive .result .next) in
     let q = p .before in
-    rw (frame-met (now (a .state)) (r .restore .result) (r .restore .ensures) _ (s .start .given .1) (now (a .frame)) (m .receive .result) _ (m .receive .ensures) (u .unit .ensures))
+    rw (frame-met (now (a .state)) (r .restore .ensures) (s .start .given .1) (now (a .frame)) (m .receive .result) _ (m .receive .ensures) (u .unit .ensures))
     (refl, (q .before .event-number .ensures, (q .unit-number .ensures, (p .unit-place .ensures, (refl, z)))))
 
 pub receiver-frame-spec : {M : Type 1} → statement M
