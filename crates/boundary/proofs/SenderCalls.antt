@@ -1,7 +1,7 @@
 -- Each way through a call of the sender, for any event, in the form in which a `return` asks it: no sender is reached, since the octets are
 -- no state or the answer's buffer is too short, or the event is done and told.
 use mathlib.Core.Path.{_≡_, refl, sym, ap, _∙_}
-use mathlib.Core.Bool.{Bool, true, false}
+use mathlib.Core.Bool.{Bool, true}
 use mathlib.Core.List.{List}
 use Prim.Native.Nat.{ℕ, _<_, _≤_}
 use native.Mathlib.Omega.{arith}
@@ -16,7 +16,7 @@ use Rattle.sender.specs.declared.Sender.{Sender}
 use Rattle.sender.specs.declared.Start.{Start}
 use Rattle.sender.specs.Answers.{Step}
 use Rattle.sender.specs.Events.{lowerLayerOf}
-use Rattle.sender.proofs.Steps.{Meets, holds, fails}
+use Rattle.sender.proofs.Steps.{Told, check, no-check, Meets, holds, fails}
 use Rattle.sender_octets.specs.Kept.{stateOctets, octetsOf, senderIn}
 use Rattle.sender_octets.specs.Answer.{answerOctets, octetsOfAnswer}
 use Rattle.boundary.specs.Senders.{Called, refusedCall, doneCall, calledBy, lowerNumbered, lowerCall, New, startedCall}
@@ -27,9 +27,9 @@ Leaves number state store output answer t =
     (number ≡ t .number) × ((state ≡ t .state) × ((store ≡ t .store) × ((output ≡ t .output) × (answer ≡ t .answer))))
 
 -- a call by another that it is
-pub same-call : (number : ℕ) (state store output answer : List ℕ) (t u : Called) → t ≡ u → Leaves number state store output answer u
+pub same-call : {number : ℕ} {state store output answer : List ℕ} {t u : Called} → t ≡ u → Leaves number state store output answer u
     → Leaves number state store output answer t
-same-call number state store output answer t u p h = (
+same-call p h = (
   h .0 ∙ ap (λ (x : Called). x .number) (sym p),
   (
     h .1 .0 ∙ ap (λ (x : Called). x .state) (sym p),
@@ -41,9 +41,9 @@ same-call number state store output answer t u p h = (
 )
 
 -- a call that reaches no sender
-pub refuses : (n : ℕ) (state store output answer : List ℕ) (t : Called) → t ≡ refusedCall n state store output answer
+refuses : {n : ℕ} {state store output answer : List ℕ} {t : Called} → t ≡ refusedCall n state store output answer
     → Leaves n state store output answer t
-refuses n state store output answer t p = same-call n state store output answer t _ p (refl, (refl, (refl, (refl, refl))))
+refuses p = same-call p (refl, (refl, (refl, (refl, refl))))
 
 -- what telling an answer promises
 abbrev pub Tells : ℕ → List ℕ → List ℕ → Answer → List ℕ → List ℕ → Type 0
@@ -52,9 +52,9 @@ Tells number state answer told oldState oldAnswer =
     × ((state ≡ placed oldState 0 (octetsOf (told .next .fop))) × (answer ≡ placed oldAnswer 0 (octetsOfAnswer told)))
 
 -- an event that was told
-pub tells : (t : Step) (told : Answer) (number : ℕ) (state store output answer oldState oldAnswer : List ℕ) → Meets told store output t
+tells : (t : Step) (oldState oldAnswer : List ℕ) {told : Answer} {number : ℕ} {state store output answer : List ℕ} → Meets told store output t
     → Tells number state answer told oldState oldAnswer → Leaves number state store output answer (doneCall t oldState oldAnswer)
-tells t told number state store output answer oldState oldAnswer m h = (
+tells t oldState oldAnswer m h = (
   h .0 ∙ ap (λ (a : Answer). a .refusal) (m .0),
   (
     h .1 .0 ∙ ap (λ (a : Answer). placed oldState 0 (octetsOf (a .next .fop))) (m .0),
@@ -96,36 +96,31 @@ module _ (state answer : List ℕ) {taken : Start} (kept : taken ≡ senderIn st
   has-room h l =
       (h ∙ sym (holds _ _ _ (is-state h) ∙ holds _ _ _ (le-leb answerOctets (length answer) l)), ap (λ (s : Start). s .sender) kept)
 
--- two checks in their order, told by a number: 12, 11, or 0 where both hold
-module _ {A : Type 0} (call : ℕ → A) (done : A) (n : ℕ) where
-  first-that-fails : (b d : Bool) → n ≡ must b 12 (must d 11 0) → (n ≡ 0 → ⊥) → must b (call 12) (must d (call 11) done) ≡ call n
-  first-that-fails true true p h = absurd (h p)
-  first-that-fails true false p h = ap call (sym p)
-  first-that-fails false d p h = ap call (sym p)
-
-  both-hold : (b d : Bool) → n ≡ must b 12 (must d 11 0) → n ≡ 0 → must b (call 12) (must d (call 11) done) ≡ done
-  both-hold true true p h = refl
-  both-hold true false p h = absurd (omega arith)
-  both-hold false d p h = absurd (omega arith)
-
 -- a call by the sender that it reached: none, or one whose event is done and told
 module _ (event : State → Step) (reached : Start) where
+  module _ (state store output answer : List ℕ) where
+    abbrev refusal : ℕ → Called
+    refusal n = refusedCall n state store output answer
+
+    checked : Told refusal (doneCall (event (senderIn state .sender .fop)) state answer) (reached .refusal)
+        (must (isState state) 12 (must (hasRoom answer) 11 0)) (calledBy event state store output answer)
+    checked =
+        let on = doneCall (event (senderIn state .sender .fop)) state answer in
+        let n = reached .refusal in
+        check refusal on n (isState state) 12 (λ z. omega arith)
+        (check refusal on n (hasRoom answer) 11 (λ z. omega arith) (no-check refusal on n))
+
   pub not-reached : {state store output answer : List ℕ} → Reaches reached state answer → (reached .refusal ≡ 0 → ⊥)
       → Leaves (reached .refusal) state store output answer (calledBy event state store output answer)
-  not-reached {state} {store} {output} {answer} r h =
-      refuses (reached .refusal) state store output answer _
-      (first-that-fails (λ n. refusedCall n state store output answer) (doneCall (event (senderIn state .sender .fop)) state answer) (reached .refusal)
-      (isState state) (hasRoom answer) (r .0) h)
+  not-reached {state} {store} {output} {answer} r h = refuses (checked state store output answer .0 (r .0) h)
 
   pub done : (state store output answer : List ℕ) → Reaches reached state answer → reached .refusal ≡ 0
       → {told : Answer} {number : ℕ} {state' store' output' answer' : List ℕ} → Meets told store' output' (event (reached .sender .fop))
       → Tells number state' answer' told state answer → Leaves number state' store' output' answer' (calledBy event state store output answer)
-  done state store output answer r h {told} {number} {state'} {store'} {output'} {answer'} m t =
-      same-call number state' store' output' answer' _ _
-      (both-hold (λ n. refusedCall n state store output answer) (doneCall (event (senderIn state .sender .fop)) state answer) (reached .refusal)
-      (isState state) (hasRoom answer) (r .0) h
-      ∙ ap (λ (s : Sender). doneCall (event (s .fop)) state answer) (sym (r .1)))
-      (tells (event (reached .sender .fop)) told number state' store' output' answer' state answer m t)
+  done state store output answer r h m t =
+      same-call
+      (checked state store output answer .1 (r .0) h ∙ ap (λ (s : Sender). doneCall (event (s .fop)) state answer) (sym (r .1)))
+      (tells (event (reached .sender .fop)) state answer m t)
 
 -- what a start promises
 abbrev pub Starts : Start → List ℕ → ℕ → List ℕ → Type 0
@@ -158,16 +153,16 @@ module _ {begun start : Start} (state : List ℕ) (same : begun ≡ start) where
 module _ (n : ℕ) (state store output answer : List ℕ) where
   pub lower-below : n < 1 → Leaves 12 state store output answer (lowerCall state n store output answer)
   unfolding lowerCall
-  lower-below l = refuses 12 state store output answer _ (fails _ _ _ (lt-leb 1 n l))
+  lower-below l = refuses (fails _ _ _ (lt-leb 1 n l))
 
   pub lower-above : 1 ≤ n → 6 < n → Leaves 12 state store output answer (lowerCall state n store output answer)
   unfolding lowerCall
-  lower-above l h = refuses 12 state store output answer _ (holds _ _ _ (le-leb 1 n l) ∙ fails _ _ _ (lt-leb n 6 h))
+  lower-above l h = refuses (holds _ _ _ (le-leb 1 n l) ∙ fails _ _ _ (lt-leb n 6 h))
 
-  pub lower-within : 1 ≤ n → n ≤ 6 → (number : ℕ) (state' store' output' answer' : List ℕ)
+  pub lower-within : 1 ≤ n → n ≤ 6 → {number : ℕ} {state' store' output' answer' : List ℕ}
       → Leaves number state' store' output' answer'
       (calledBy (λ s. lowerLayerOf (lowerNumbered n) s store output) state store output answer)
       → Leaves number state' store' output' answer' (lowerCall state n store output answer)
   unfolding lowerCall
-  lower-within l h number state' store' output' answer' m =
-      same-call number state' store' output' answer' _ _ (holds _ _ _ (le-leb 1 n l) ∙ holds _ _ _ (le-leb n 6 h)) m
+  lower-within l h m =
+      same-call (holds _ _ _ (le-leb 1 n l) ∙ holds _ _ _ (le-leb n 6 h)) m

@@ -62,7 +62,7 @@ returns-2 c =
     let a = i .before .before .before .before .before .before .before .args in
     done (λ s. directiveOf (narrowNumber (a .number) (a .value)) (narrowValue (a .value)) s (a .store .now) (a .output .now))
     (i .reach .result) (a .state .now) (a .store .now) (a .output .now) (a .answer .now) (i .reach .ensures) (t .if1 .left)
-    (same-step (e .directive .result) _ _ _ _
+    (same-step
     (ap₂ (λ (x y : ℕ). directiveOf x y (i .reach .result .sender .fop) (a .store .now) (a .output .now))
     (sym (n .narrow-number .ensures)) (sym (v .narrow-value .ensures)))
     (e .directive .ensures))

@@ -36,7 +36,7 @@ returns-3 c =
     let h = i .before .before .before in
     let b = h .before in
     let a = b .before .before .before .before .before .args in
-    lower-within (a .number) (a .state .now) (a .store .now) (a .output .now) (a .answer .now) (omega (arith, b .if1 .left)) (omega (arith, h .if2 .left)) _ _ _ _ _
+    lower-within (a .number) (a .state .now) (a .store .now) (a .output .now) (a .answer .now) (omega (arith, b .if1 .left)) (omega (arith, h .if2 .left))
     (not-reached (λ s. lowerLayerOf (lowerNumbered (a .number)) s (a .store .now) (a .output .now)) (i .reach .result) (i .reach .ensures) (c .if3 .taken))
 
 lower-numbered-requires : tie.Need-lower-numbered-requires
@@ -70,10 +70,10 @@ returns-4 c =
     let h = i .before .before .before in
     let b = h .before in
     let a = b .before .before .before .before .before .args in
-    lower-within (a .number) (a .state .now) (a .store .now) (a .output .now) (a .answer .now) (omega (arith, b .if1 .left)) (omega (arith, h .if2 .left)) _ _ _ _ _
+    lower-within (a .number) (a .state .now) (a .store .now) (a .output .now) (a .answer .now) (omega (arith, b .if1 .left)) (omega (arith, h .if2 .left))
     (done (λ s. lowerLayerOf (lowerNumbered (a .number)) s (a .store .now) (a .output .now))
     (i .reach .result) (a .state .now) (a .store .now) (a .output .now) (a .answer .now) (i .reach .ensures) (t .if3 .left)
-    (same-step (e .lower-layer .result) _ _ _ _
+    (same-step
     (ap (λ (x : Lower). lowerLayerOf x (i .reach .result .sender .fop) (a .store .now) (a .output .now)) (sym (n .lower-numbered .ensures)))
     (e .lower-layer .ensures))
     (w .tell .ensures))
