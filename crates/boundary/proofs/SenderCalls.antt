@@ -143,11 +143,11 @@ module _ {begun start : Start} (state : List ℕ) (same : begun ≡ start) where
   pub start-no-room : begun .refusal ≡ 0 → length state < stateOctets → Starts start state 11 state
   start-no-room h l = by 11 state _ (holds _ _ _ (is-done h) ∙ fails _ _ _ (lt-leb stateOctets (length state) l)) refl refl
 
-  pub start-done : begun .refusal ≡ 0 → stateOctets ≤ length state → {new : List ℕ} → new ≡ placed state 0 (octetsOf (begun .sender .fop))
-      → Starts start state 0 new
-  start-done h l {new} p =
-      by 0 new _ (holds _ _ _ (is-done h) ∙ holds _ _ _ (le-leb stateOctets (length state) l)) refl
-      (p ∙ ap (λ (s : Start). placed state 0 (octetsOf (s .sender .fop))) same)
+  pub start-done : begun .refusal ≡ 0 → stateOctets ≤ length state → {fop : State} {octets new : List ℕ} → fop ≡ begun .sender .fop
+      → octets ≡ octetsOf fop → new ≡ placed state 0 octets → Starts start state 0 new
+  start-done h l e o p =
+      by 0 _ _ (holds _ _ _ (is-done h) ∙ holds _ _ _ (le-leb stateOctets (length state) l)) refl
+      (p ∙ ap (placed state 0) (o ∙ ap octetsOf (e ∙ ap (λ (s : Start). s .sender .fop) same)))
 
 -- an answer of the lower layer: its number judged, then the call
 module _ (n : ℕ) (state store output answer : List ℕ) where

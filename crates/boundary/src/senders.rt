@@ -43,14 +43,6 @@ fn reach(state: &[u8], answer: &[u8]) -> Start
     reached
 }
 
-// Puts the state of a sender at the front of a buffer.
-fn keep(sender: Sender, state: &mut [u8])
-    ensures { λ _. ⌜ now (state .exit) ≡ placed (now (state .entry)) 0 (octetsOf (sender .fop)) ⌝ }
-{
-    let octets = octets_of(sender.state());
-    memory::put(state, 0, &octets);
-}
-
 // An answer, told: the next state and the answer as octets at the front of their buffers, and the refusal, 0 for done.
 fn tell(told: Answer, state: &mut [u8], answer: &mut [u8]) -> u8
     ensures number { λ r. ⌜ r ≡ told .refusal ⌝ }
@@ -58,7 +50,8 @@ fn tell(told: Answer, state: &mut [u8], answer: &mut [u8]) -> u8
     ensures answer { λ r. ⌜ now (answer .exit) ≡ placed (now (answer .entry)) 0 (octetsOfAnswer told) ⌝ }
 {
     let next = told.next;
-    keep(next, state);
+    let kept = octets_of(next.state());
+    memory::put(state, 0, &kept);
     let octets = octets_of_answer(told);
     memory::put(answer, 0, &octets);
     told.refusal
@@ -291,6 +284,7 @@ pub extern "C" fn sender_new(
         return 11;
     }
     let sender = started.sender;
-    keep(sender, state);
+    let kept = octets_of(sender.state());
+    memory::put(state, 0, &kept);
     0
 }

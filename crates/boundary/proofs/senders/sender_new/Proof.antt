@@ -22,8 +22,17 @@ returns-2 c =
     let n = t .before .before in
     start-no-room (n .before .before .before .args .state .now) (n .new .ensures) (t .if1 .left) (omega (arith, c .if2 .taken))
 
-keep-requires : tie.Need-keep-requires
-keep-requires c κs = search needs
+state-requires : tie.Need-state-requires
+state-requires c κs = search needs
+
+octets-of-requires : tie.Need-octets-of-requires
+octets-of-requires c κs = search needs
+
+slice-aggregate-put : tie.Need-slice-aggregate-put
+slice-aggregate-put c = search needs
+
+put-requires : tie.Need-put-requires
+put-requires c κs = search needs
 
 same-length : tie.Need-same-length
 same-length c = search needs
@@ -31,11 +40,14 @@ same-length c = search needs
 returns-3 : tie.Need-returns-3
 unfolding newCall
 returns-3 c =
-    let k = c .before .before in
-    let q = k .before .before .before in
+    let p = c .before .before in
+    let o = p .before .before .before in
+    let s = o .before in
+    let q = s .before .before in
     let t = q .before in
     let n = t .before .before in
-    start-done (n .before .before .before .args .state .now) (n .new .ensures) (t .if1 .left) (omega (arith, q .if2 .left)) (k .keep .ensures)
+    start-done (n .before .before .before .args .state .now) (n .new .ensures) (t .if1 .left) (omega (arith, q .if2 .left))
+    (s .state .ensures) (o .octets-of .ensures) (p .put .ensures)
 
 pub sender-new-spec : {M : Type 1} → statement M
 sender-new-spec =
@@ -44,6 +56,9 @@ sender-new-spec =
     new-requires
     returns
     returns-2
-    keep-requires
+    state-requires
+    octets-of-requires
+    slice-aggregate-put
+    put-requires
     same-length
     returns-3)
