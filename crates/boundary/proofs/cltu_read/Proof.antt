@@ -22,10 +22,4 @@ returns c =
     (t .0 ∙ s .0, (w .1, (t .1 .0 ∙ s .1 .0, (t .1 .1 .0 ∙ s .1 .1 .0, t .1 .1 .1 ∙ s .1 .1 .1))))
 
 pub cltu-read-spec : {M : Type 1} → statement M
-cltu-read-spec =
-    tie.close
-    (tie.spec
-    read-requires
-    told-reading-requires
-    same-length
-    returns)
+cltu-read-spec = tie.close (tie.spec read-requires told-reading-requires same-length returns)

@@ -17,10 +17,4 @@ returns : tie.Need-returns
 returns c = told-by (c .before .before .before .before .write .ensures) (c .told-written .ensures)
 
 pub cltu-write-spec : {M : Type 1} → statement M
-cltu-write-spec =
-    tie.close
-    (tie.spec
-    write-requires
-    told-written-requires
-    same-length
-    returns)
+cltu-write-spec = tie.close (tie.spec write-requires told-written-requires same-length returns)

@@ -17,10 +17,4 @@ returns : tie.Need-returns
 returns c = told-by (c .before .before .before .before .write-ad .ensures) (c .told .ensures)
 
 pub frame-write-ad-spec : {M : Type 1} → statement M
-frame-write-ad-spec =
-    tie.close
-    (tie.spec
-    write-ad-requires
-    told-requires
-    same-length
-    returns)
+frame-write-ad-spec = tie.close (tie.spec write-ad-requires told-requires same-length returns)

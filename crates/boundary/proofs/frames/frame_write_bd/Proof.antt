@@ -17,10 +17,4 @@ returns : tie.Need-returns
 returns c = told-by (c .before .before .before .before .write-bd .ensures) (c .told .ensures)
 
 pub frame-write-bd-spec : {M : Type 1} → statement M
-frame-write-bd-spec =
-    tie.close
-    (tie.spec
-    write-bd-requires
-    told-requires
-    same-length
-    returns)
+frame-write-bd-spec = tie.close (tie.spec write-bd-requires told-requires same-length returns)

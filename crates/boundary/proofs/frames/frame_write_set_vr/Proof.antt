@@ -17,10 +17,4 @@ returns : tie.Need-returns
 returns c = told-by (c .before .before .before .before .write-set-vr .ensures) (c .told .ensures)
 
 pub frame-write-set-vr-spec : {M : Type 1} → statement M
-frame-write-set-vr-spec =
-    tie.close
-    (tie.spec
-    write-set-vr-requires
-    told-requires
-    same-length
-    returns)
+frame-write-set-vr-spec = tie.close (tie.spec write-set-vr-requires told-requires same-length returns)

@@ -17,10 +17,4 @@ returns : tie.Need-returns
 returns c = told-by (c .before .before .before .before .write-unlock .ensures) (c .told .ensures)
 
 pub frame-write-unlock-spec : {M : Type 1} → statement M
-frame-write-unlock-spec =
-    tie.close
-    (tie.spec
-    write-unlock-requires
-    told-requires
-    same-length
-    returns)
+frame-write-unlock-spec = tie.close (tie.spec write-unlock-requires told-requires same-length returns)

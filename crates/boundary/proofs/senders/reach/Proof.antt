@@ -29,10 +29,4 @@ returns-3 c =
     has-room (a .state .now) (a .answer .now) (i .sender-in .ensures) (t .if1 .left) (omega (arith, c .if2 .left))
 
 pub reach-spec : {M : Type 1} → statement M
-reach-spec =
-    tie.close
-    (tie.spec
-    sender-in-requires
-    returns
-    returns-2
-    returns-3)
+reach-spec = tie.close (tie.spec sender-in-requires returns returns-2 returns-3)

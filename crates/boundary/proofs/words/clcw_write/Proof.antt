@@ -17,10 +17,4 @@ returns : tie.Need-returns
 returns c = told-by (c .before .before .before .before .write .ensures) (c .told .ensures)
 
 pub clcw-write-spec : {M : Type 1} → statement M
-clcw-write-spec =
-    tie.close
-    (tie.spec
-    write-requires
-    told-requires
-    same-length
-    returns)
+clcw-write-spec = tie.close (tie.spec write-requires told-requires same-length returns)
