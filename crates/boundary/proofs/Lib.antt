@@ -1,2 +1,3 @@
+pub mod Told
 pub mod ReceiverCalls
 pub mod SenderCalls

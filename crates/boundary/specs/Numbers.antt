@@ -1,6 +1,6 @@
 -- How an answer crosses the boundary to C and Rust: by numbers. What an answer does not have is 0.
 use Prim.Native.Nat.{ℕ, _+_, _*_}
-use mathlib.Core.Bool.{Bool, true, false, not}
+use mathlib.Core.Bool.{not}
 use lib.Dec.{eqb}
 use Rattle.base.specs.Outcome.{Answer, Answer.done, Answer.refused}
 use Rattle.base.specs.Flags.{bitOf}

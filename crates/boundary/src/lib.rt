@@ -14,6 +14,7 @@ ghost use Rattle.base.specs.Flags.{bitOf};
 ghost use Rattle.codeblock.specs.Codeblock.{errorControl, judged, isGood};
 ghost use Rattle.randomizer.specs.Randomizer.{octet};
 ghost use Rattle.cltu.specs.Cltu.{writing, reading};
+ghost use Rattle.cltu.specs.Answers.{writtenAnswer, readAnswer};
 ghost use Rattle.boundary.specs.Numbers.{placeOf, correctedOf};
 
 #[no_mangle]
@@ -40,14 +41,12 @@ pub extern "C" fn randomizer_octet(place: u64) -> u8
     randomizer::octet_at(place)
 }
 
-#[no_mangle]
-pub extern "C" fn cltu_write(frame: &[u8], output: &mut [u8], count: &mut u64) -> u8
-    ensures number { λ r. ⌜ r ≡ numberOf (answer (writing (now (frame .entry)) (length (now (output .entry))))) ⌝ }
-    ensures memory { λ r. ⌜ now (output .exit) ≡ after (writing (now (frame .entry)) (length (now (output .entry)))) (now (output .entry)) ⌝ }
-    ensures told { λ r. ⌜ now (count .exit) ≡ countOf (answer (writing (now (frame .entry)) (length (now (output .entry))))) ⌝ }
+// What the writer answered, by its number and the count of octets written.
+fn told_written(written: Written, count: &mut u64) -> u8
+    ensures number { λ r. ⌜ r ≡ numberOf (writtenAnswer written) ⌝ }
+    ensures counted { λ r. ⌜ now (count .exit) ≡ countOf (writtenAnswer written) ⌝ }
 {
     *count = 0;
-    let written = cltu::writer::write(frame, output);
     match written {
         Written::Done(n) => {
             *count = n as u64;
@@ -59,23 +58,25 @@ pub extern "C" fn cltu_write(frame: &[u8], output: &mut [u8], count: &mut u64) -
 }
 
 #[no_mangle]
-pub extern "C" fn cltu_read(
-    input: &[u8],
-    output: &mut [u8],
-    count: &mut u64,
-    place: &mut u64,
-    corrected: &mut u64,
-) -> u8
-    ensures number { λ r. ⌜ r ≡ numberOf (answer (reading (now (input .entry)) (length (now (output .entry))))) ⌝ }
-    ensures memory { λ r. ⌜ now (output .exit) ≡ after (reading (now (input .entry)) (length (now (output .entry)))) (now (output .entry)) ⌝ }
-    ensures counted { λ r. ⌜ now (count .exit) ≡ countOf (answer (reading (now (input .entry)) (length (now (output .entry))))) ⌝ }
-    ensures placed { λ r. ⌜ now (place .exit) ≡ placeOf (answer (reading (now (input .entry)) (length (now (output .entry))))) ⌝ }
-    ensures mended { λ r. ⌜ now (corrected .exit) ≡ correctedOf (answer (reading (now (input .entry)) (length (now (output .entry))))) ⌝ }
+pub extern "C" fn cltu_write(frame: &[u8], output: &mut [u8], count: &mut u64) -> u8
+    ensures number { λ r. ⌜ r ≡ numberOf (answer (writing (now (frame .entry)) (length (now (output .entry))))) ⌝ }
+    ensures memory { λ r. ⌜ now (output .exit) ≡ after (writing (now (frame .entry)) (length (now (output .entry)))) (now (output .entry)) ⌝ }
+    ensures told { λ r. ⌜ now (count .exit) ≡ countOf (answer (writing (now (frame .entry)) (length (now (output .entry))))) ⌝ }
+{
+    let written = cltu::writer::write(frame, output);
+    told_written(written, count)
+}
+
+// What the reader answered, by its number, the count of octets handed out, the place, and the count of corrected codeblocks.
+fn told_reading(reading: Reading, count: &mut u64, place: &mut u64, corrected: &mut u64) -> u8
+    ensures number { λ r. ⌜ r ≡ numberOf (readAnswer reading) ⌝ }
+    ensures counted { λ r. ⌜ now (count .exit) ≡ countOf (readAnswer reading) ⌝ }
+    ensures placed { λ r. ⌜ now (place .exit) ≡ placeOf (readAnswer reading) ⌝ }
+    ensures mended { λ r. ⌜ now (corrected .exit) ≡ correctedOf (readAnswer reading) ⌝ }
 {
     *count = 0;
     *place = 0;
     *corrected = 0;
-    let reading = cltu::reader::read(input, output);
     match reading {
         Reading::Done {
             count: n,
@@ -102,4 +103,22 @@ pub extern "C" fn cltu_read(
         Reading::Length => 10,
         Reading::Room => 11,
     }
+}
+
+#[no_mangle]
+pub extern "C" fn cltu_read(
+    input: &[u8],
+    output: &mut [u8],
+    count: &mut u64,
+    place: &mut u64,
+    corrected: &mut u64,
+) -> u8
+    ensures number { λ r. ⌜ r ≡ numberOf (answer (reading (now (input .entry)) (length (now (output .entry))))) ⌝ }
+    ensures memory { λ r. ⌜ now (output .exit) ≡ after (reading (now (input .entry)) (length (now (output .entry)))) (now (output .entry)) ⌝ }
+    ensures counted { λ r. ⌜ now (count .exit) ≡ countOf (answer (reading (now (input .entry)) (length (now (output .entry))))) ⌝ }
+    ensures placed { λ r. ⌜ now (place .exit) ≡ placeOf (answer (reading (now (input .entry)) (length (now (output .entry))))) ⌝ }
+    ensures mended { λ r. ⌜ now (corrected .exit) ≡ correctedOf (answer (reading (now (input .entry)) (length (now (output .entry))))) ⌝ }
+{
+    let reading = cltu::reader::read(input, output);
+    told_reading(reading, count, place, corrected)
 }

@@ -8,10 +8,14 @@ use farm::Start;
 use farm::Unit;
 use farm::octets::STATE_OCTETS;
 ghost use mathlib.Core.Path.{_≡_};
+ghost use Prim.Native.Nat.{_≤_};
 ghost use lib.ListN.{length};
 ghost use Rattle.base.specs.Outcome.{answer, after, numberOf, countOf};
 ghost use Rattle.memory.specs.Placed.{placed};
+ghost use Rattle.frame.specs.Frame.{totalOf, dataField};
 ghost use Rattle.farm.specs.Kept.{octetsOf};
+ghost use Rattle.farm.specs.Receiver.{partFor};
+ghost use Rattle.farm.specs.declared.Unit.the-variants.{None};
 ghost use Rattle.boundary.specs.Receivers.{eventNumber, unitNumber, unitPlace, newCall, frameCall, releaseCall, wordCall};
 
 // An event of table 7-9 by its number.
@@ -51,6 +55,28 @@ fn unit_place(unit: Unit) -> u64
         Unit::None => 0,
         Unit::AdUnit => 5,
         Unit::BdUnit => 5,
+    }
+}
+
+// The octets of the data field: those of the frame, one more than its length field says (clause 6.2.2.8), without header and FECF.
+fn data_count(frame: &[u8]) -> u64
+    requires { ⌜ (8 ≤ totalOf (now frame)) × (totalOf (now frame) ≤ length (now frame)) ⌝ }
+    ensures { λ r. ⌜ r ≡ length (dataField (now (frame .entry)) (totalOf (now (frame .entry)))) ⌝ }
+{
+    let high = frame[2] % 4;
+    let total = (high as u64) * 256 + (frame[3] as u64) + 1;
+    total - 7
+}
+
+// The octets of the unit accepted, which is the frame's data field.
+fn unit_count(unit: Unit, frame: &[u8]) -> u64
+    requires { ⌜ ((unit ≡ None → ⊥) → (8 ≤ totalOf (now frame)) × (totalOf (now frame) ≤ length (now frame))) ⌝ }
+    ensures { λ r. ⌜ r ≡ length (partFor unit (dataField (now (frame .entry)) (totalOf (now (frame .entry))))) ⌝ }
+{
+    match unit {
+        Unit::None => 0,
+        Unit::AdUnit => data_count(frame),
+        Unit::BdUnit => data_count(frame),
     }
 }
 
@@ -114,11 +140,10 @@ pub extern "C" fn receiver_frame(
     let met = received.event;
     let accepted = received.unit;
     let next = received.next;
-    let part = receiver.unit(frame);
     *event = event_number(met);
     *unit = unit_number(accepted);
     *first = unit_place(accepted);
-    *count = part.len() as u64;
+    *count = unit_count(accepted, frame);
     keep(next, state);
     received.refusal
 }

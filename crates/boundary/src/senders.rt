@@ -3,15 +3,19 @@ use fop_actions::Settings;
 use fop_events::Lower;
 use sender::Answer;
 use sender::Sender;
+use sender::Start;
 use sender_octets::ANSWER_OCTETS;
 use sender_octets::STATE_OCTETS;
 use sender_octets::octets_of;
 use sender_octets::octets_of_answer;
 use sender_octets::sender_in;
 ghost use mathlib.Core.Path.{_≡_};
+ghost use lib.Dec.{leb, eqb};
+ghost use lib.ListN.{length};
+ghost use Rattle.base.specs.Choice.{must};
 ghost use Rattle.memory.specs.Placed.{placed};
-ghost use Rattle.sender_octets.specs.Kept.{octetsOf};
-ghost use Rattle.sender_octets.specs.Answer.{octetsOfAnswer};
+ghost use Rattle.sender_octets.specs.Kept.{octetsOf, senderIn};
+ghost use Rattle.sender_octets.specs.Answer.{answerOctets, octetsOfAnswer};
 ghost use Rattle.boundary.specs.Senders.{requestAdCall, requestBdCall, tickCall, wordCall, lowerCall, directiveCall, newCall, lowerNumbered, narrowNumber, narrowValue};
 
 // The last directive of the sender, and the largest value that one carries.
@@ -21,6 +25,23 @@ const LARGEST_VALUE: u32 = 65535;
 
 // The last answer of the lower layer.
 const LAST_LOWER: u8 = 6;
+
+// The sender that a call reaches: 12 where the octets are no state, then 11 where the answer has no room.
+fn reach(state: &[u8], answer: &[u8]) -> Start
+    ensures number { λ r. ⌜ r .refusal ≡ must (eqb (senderIn (now (state .entry)) .refusal) 0) 12 (must (leb answerOctets (length (now (answer .entry)))) 11 0) ⌝ }
+    ensures sender { λ r. ⌜ r .sender ≡ senderIn (now (state .entry)) .sender ⌝ }
+{
+    let mut reached = sender_in(state);
+    if reached.refusal != 0 {
+        reached.refusal = 12;
+        return reached;
+    }
+    if answer.len() < ANSWER_OCTETS {
+        reached.refusal = 11;
+        return reached;
+    }
+    reached
+}
 
 // An answer, told: the next state and the answer as octets at the front of their buffers, and the refusal, 0 for done.
 fn tell(told: Answer, state: &mut [u8], answer: &mut [u8]) -> u8
@@ -50,14 +71,11 @@ pub extern "C" fn sender_request_ad(
     ensures output { λ r. ⌜ now (output .exit) ≡ requestAdCall (now (state .entry)) (now (unit .entry)) (now (store .entry)) (now (output .entry)) (now (answer .entry)) .output ⌝ }
     ensures answer { λ r. ⌜ now (answer .exit) ≡ requestAdCall (now (state .entry)) (now (unit .entry)) (now (store .entry)) (now (output .entry)) (now (answer .entry)) .answer ⌝ }
 {
-    let taken = sender_in(state);
-    if taken.refusal != 0 {
-        return 12;
+    let reached = reach(state, answer);
+    if reached.refusal != 0 {
+        return reached.refusal;
     }
-    if answer.len() < ANSWER_OCTETS {
-        return 11;
-    }
-    let sender = taken.sender;
+    let sender = reached.sender;
     let told = sender.request_ad(unit, store, output);
     tell(told, state, answer)
 }
@@ -76,14 +94,11 @@ pub extern "C" fn sender_request_bd(
     ensures output { λ r. ⌜ now (output .exit) ≡ requestBdCall (now (state .entry)) (now (unit .entry)) (now (store .entry)) (now (output .entry)) (now (answer .entry)) .output ⌝ }
     ensures answer { λ r. ⌜ now (answer .exit) ≡ requestBdCall (now (state .entry)) (now (unit .entry)) (now (store .entry)) (now (output .entry)) (now (answer .entry)) .answer ⌝ }
 {
-    let taken = sender_in(state);
-    if taken.refusal != 0 {
-        return 12;
+    let reached = reach(state, answer);
+    if reached.refusal != 0 {
+        return reached.refusal;
     }
-    if answer.len() < ANSWER_OCTETS {
-        return 11;
-    }
-    let sender = taken.sender;
+    let sender = reached.sender;
     let told = sender.request_bd(unit, store, output);
     tell(told, state, answer)
 }
@@ -131,14 +146,11 @@ pub extern "C" fn sender_directive(
     ensures output { λ r. ⌜ now (output .exit) ≡ directiveCall (now (state .entry)) number value (now (store .entry)) (now (output .entry)) (now (answer .entry)) .output ⌝ }
     ensures answer { λ r. ⌜ now (answer .exit) ≡ directiveCall (now (state .entry)) number value (now (store .entry)) (now (output .entry)) (now (answer .entry)) .answer ⌝ }
 {
-    let taken = sender_in(state);
-    if taken.refusal != 0 {
-        return 12;
+    let reached = reach(state, answer);
+    if reached.refusal != 0 {
+        return reached.refusal;
     }
-    if answer.len() < ANSWER_OCTETS {
-        return 11;
-    }
-    let sender = taken.sender;
+    let sender = reached.sender;
     let directive = narrow_number(number, value);
     let told = sender.directive(directive, narrow_value(value), store, output);
     tell(told, state, answer)
@@ -157,14 +169,11 @@ pub extern "C" fn sender_tick(
     ensures output { λ r. ⌜ now (output .exit) ≡ tickCall (now (state .entry)) (now (store .entry)) (now (output .entry)) (now (answer .entry)) .output ⌝ }
     ensures answer { λ r. ⌜ now (answer .exit) ≡ tickCall (now (state .entry)) (now (store .entry)) (now (output .entry)) (now (answer .entry)) .answer ⌝ }
 {
-    let taken = sender_in(state);
-    if taken.refusal != 0 {
-        return 12;
+    let reached = reach(state, answer);
+    if reached.refusal != 0 {
+        return reached.refusal;
     }
-    if answer.len() < ANSWER_OCTETS {
-        return 11;
-    }
-    let sender = taken.sender;
+    let sender = reached.sender;
     let told = sender.tick(store, output);
     tell(told, state, answer)
 }
@@ -211,14 +220,11 @@ pub extern "C" fn sender_lower_layer(
     if LAST_LOWER < number {
         return 12;
     }
-    let taken = sender_in(state);
-    if taken.refusal != 0 {
-        return 12;
+    let reached = reach(state, answer);
+    if reached.refusal != 0 {
+        return reached.refusal;
     }
-    if answer.len() < ANSWER_OCTETS {
-        return 11;
-    }
-    let sender = taken.sender;
+    let sender = reached.sender;
     let told = sender.lower_layer(lower_numbered(number), store, output);
     tell(told, state, answer)
 }
@@ -237,14 +243,11 @@ pub extern "C" fn sender_control_word(
     ensures output { λ r. ⌜ now (output .exit) ≡ wordCall (now (state .entry)) (now (word .entry)) (now (store .entry)) (now (output .entry)) (now (answer .entry)) .output ⌝ }
     ensures answer { λ r. ⌜ now (answer .exit) ≡ wordCall (now (state .entry)) (now (word .entry)) (now (store .entry)) (now (output .entry)) (now (answer .entry)) .answer ⌝ }
 {
-    let taken = sender_in(state);
-    if taken.refusal != 0 {
-        return 12;
+    let reached = reach(state, answer);
+    if reached.refusal != 0 {
+        return reached.refusal;
     }
-    if answer.len() < ANSWER_OCTETS {
-        return 11;
-    }
-    let sender = taken.sender;
+    let sender = reached.sender;
     let told = sender.control_word(word, store, output);
     tell(told, state, answer)
 }

@@ -1,6 +1,7 @@
 // Control words (clause 6.3). Flags cross as 1 or 0; any number but 0 given for a flag is taken as set.
 use clcw::Clcw;
 use clcw::Reading;
+use clcw::Received;
 use clcw::Written;
 ghost use mathlib.Core.Path.{_≡_};
 ghost use Prim.Native.Nat.{_≤_};
@@ -61,6 +62,29 @@ fn flag(set: bool) -> u8
     if set { 1 } else { 0 }
 }
 
+// A word that was read, by its fields as numbers.
+fn put_word(
+    received: Received,
+    status: &mut u8,
+    rf: &mut u8,
+    flags: &mut u8,
+    counter: &mut u8,
+    report: &mut u8,
+)
+    ensures statuses { λ _. ⌜ now (status .exit) ≡ statusTold received ⌝ }
+    ensures radio { λ _. ⌜ now (rf .exit) ≡ rfTold received ⌝ }
+    ensures flagged { λ _. ⌜ now (flags .exit) ≡ flagsTold received ⌝ }
+    ensures counters { λ _. ⌜ now (counter .exit) ≡ counterTold received ⌝ }
+    ensures reports { λ _. ⌜ now (report .exit) ≡ reportTold received ⌝ }
+{
+    let word = received.word;
+    *status = received.status;
+    *rf = flag(received.no_rf) * 2 + flag(received.no_bit_lock);
+    *flags = flag(word.lockout) * 4 + flag(word.wait) * 2 + flag(word.retransmit);
+    *counter = word.counter;
+    *report = word.report;
+}
+
 #[no_mangle]
 pub extern "C" fn clcw_read(
     octets: &[u8],
@@ -89,13 +113,8 @@ pub extern "C" fn clcw_read(
     let reading = Clcw::read(octets, channel);
     match reading {
         Reading::Word(received) => {
-            let word = received.word;
             *valid = 1;
-            *status = received.status;
-            *rf = flag(received.no_rf) * 2 + flag(received.no_bit_lock);
-            *flags = flag(word.lockout) * 4 + flag(word.wait) * 2 + flag(word.retransmit);
-            *counter = word.counter;
-            *report = word.report;
+            put_word(received, status, rf, flags, counter, report);
             0
         }
         Reading::Invalid => 0,

@@ -26,6 +26,19 @@ holds b refusal on p = rw p
 pub fails : {A : Type 0} (b : Bool) (refusal on : A) → b ≡ false → must b refusal on ≡ refusal
 fails b refusal on p = rw p
 
+-- A chain of checks told by a number n, 0 where all hold: where n is the number k that the chain gives, the chain t itself is the refusal by n,
+-- or goes on.
+module _ {A : Type 0} (refusal : ℕ → A) (on : A) (n : ℕ) where
+  abbrev pub Told : ℕ → A → Type 0
+  Told k t = (n ≡ k → (n ≡ 0 → ⊥) → t ≡ refusal n) × (n ≡ k → n ≡ 0 → t ≡ on)
+
+  pub no-check : Told 0 on
+  no-check = (λ p h. absurd (h p), λ p h. refl)
+
+  pub check : (b : Bool) (x : ℕ) {k : ℕ} {t : A} → (x ≡ 0 → ⊥) → Told k t → Told (must b x k) (must b (refusal x) t)
+  check true x z m = m
+  check false x z m = (λ p h. ap refusal (sym p), λ p h. absurd (z (sym p ∙ h)))
+
 -- what an event promises
 abbrev pub Meets : Answer → List ℕ → List ℕ → Step → Type 0
 Meets a store output t = (a ≡ t .answer) × ((store ≡ t .store) × (output ≡ t .output))
@@ -35,13 +48,14 @@ abbrev pub Writes : Written → List ℕ → Outcome (Unit {0}) → List ℕ →
 Writes x new o old = (writtenAnswer x ≡ answer o) × (new ≡ after o old)
 
 -- a step by another that it is
-pub same-step : (a : Answer) (store output : List ℕ) (t u : Step) → t ≡ u → Meets a store output u → Meets a store output t
-same-step a store output t u p h =
+pub same-step : {a : Answer} {store output : List ℕ} {t u : Step} → t ≡ u → Meets a store output u → Meets a store output t
+same-step p h =
     (h .0 ∙ ap (λ (x : Step). x .answer) (sym p), (h .1 .0 ∙ ap (λ (x : Step). x .store) (sym p), h .1 .1 ∙ ap (λ (x : Step). x .output) (sym p)))
 
 -- a step that refuses
-pub refuses : (n : ℕ) (s : State) (a : Answer) (store output : List ℕ) (t : Step) → t ≡ refusedStep n s store output → a ≡ refusing n s → Meets a store output t
-refuses n s a store output t p e = same-step a store output t (refusedStep n s store output) p (e, (refl, refl))
+pub refuses : (n : ℕ) (s : State) {a : Answer} {store output : List ℕ} {t : Step} → t ≡ refusedStep n s store output → a ≡ refusing n s
+    → Meets a store output t
+refuses n s p e = same-step p (e, (refl, refl))
 
 -- what was written picks the answer
 pub concludes : (event : ℕ) (s : State) (w : Work) (x y : Written) (a : Answer) → x ≡ y → a ≡ concluded event s w (writtenAnswer y)

@@ -40,13 +40,18 @@ use fop_events::words::word_event;
 use fop_rows::row;
 use frame::writer::Written;
 ghost use mathlib.Core.Path.{_≡_};
+ghost use Prim.Native.Nat.{_≤_};
+ghost use lib.Dec.{leb};
 ghost use lib.ListN.{length};
+ghost use Rattle.base.specs.Choice.{must};
+ghost use Rattle.base.specs.Limits.{largestUnit};
 ghost use Rattle.base.specs.Outcome.{answer, after};
 ghost use Rattle.frame.specs.Answers.{writtenAnswer};
 ghost use Rattle.sender.specs.Answers.{concluded};
+ghost use Rattle.sender.specs.Limits.{smallestStore};
 ghost use Rattle.sender.specs.Start.{withinLimits, refusedStart, startingOf};
 ghost use Rattle.sender.specs.State.{restoredOf};
-ghost use Rattle.sender.specs.Events.{handedWriting, unitOffered, servedBy, served, offeredBy, added, ticked, tickNumber, requestAdOf, requestBdOf, directiveOf, tickOf, lowerLayerOf, controlWordOf};
+ghost use Rattle.sender.specs.Events.{handedWriting, unitOffered, servedBy, served, mustBeUnit, offeredBy, added, ticked, tickNumber, requestAdOf, requestBdOf, directiveOf, tickOf, lowerLayerOf, controlWordOf};
 
 // Document 01: 32 units of 249 octets sent and one waiting.
 pub const SMALLEST_STORE: usize = LARGEST_UNIT * PLACES;
@@ -212,6 +217,24 @@ fn bypass_work(
     conclude(sender, event, work, written)
 }
 
+// The refusal of a request, 0 where there is none: 10 for the length of its unit, then 11 for the lent store.
+fn request_refusal(unit: &[u8], store: &[u8]) -> u8
+    ensures number { λ r. ⌜ r ≡ mustBeUnit (now (unit .entry)) 10 (must (leb smallestStore (length (now (store .entry)))) 11 0) ⌝ }
+    ensures fits { λ r. ⌜ (r ≡ 0 → length (now (unit .entry)) ≤ largestUnit) ⌝ }
+{
+    let n = unit.len();
+    if n < 1 {
+        return 10;
+    }
+    if LARGEST_UNIT < n {
+        return 10;
+    }
+    if store.len() < SMALLEST_STORE {
+        return 11;
+    }
+    0
+}
+
 // The state after a tick lowered a running timer by one.
 fn lower_timer(sender: fop_actions::Sender) -> fop_actions::Sender
     ensures { λ r. ⌜ r ≡ ticked sender ⌝ }
@@ -322,18 +345,12 @@ impl Sender {
         ensures output { λ r. ⌜ now (output .exit) ≡ requestAdOf (self .fop) (now (unit .entry)) (now (store .entry)) (now (output .entry)) .output ⌝ }
     {
         let sender = self.fop;
-        let n = unit.len();
-        if n < 1 {
-            return refused(sender, 10);
-        }
-        if LARGEST_UNIT < n {
-            return refused(sender, 10);
-        }
-        if store.len() < SMALLEST_STORE {
-            return refused(sender, 11);
+        let number = request_refusal(unit, store);
+        if number != 0 {
+            return refused(sender, number);
         }
         let event = ad_event(sender);
-        let work = row(begin(sender), event, 0, n as u16);
+        let work = row(begin(sender), event, 0, unit.len() as u16);
         offer_work(sender, event, work, unit, store, output)
     }
 
@@ -344,15 +361,9 @@ impl Sender {
         ensures output { λ r. ⌜ now (output .exit) ≡ requestBdOf (self .fop) (now (unit .entry)) (now (store .entry)) (now (output .entry)) .output ⌝ }
     {
         let sender = self.fop;
-        let n = unit.len();
-        if n < 1 {
-            return refused(sender, 10);
-        }
-        if LARGEST_UNIT < n {
-            return refused(sender, 10);
-        }
-        if store.len() < SMALLEST_STORE {
-            return refused(sender, 11);
+        let number = request_refusal(unit, store);
+        if number != 0 {
+            return refused(sender, number);
         }
         let event = bd_event(sender);
         let work = row(begin(sender), event, 0, 0);

@@ -75,7 +75,7 @@ module _ (s : State) where
   settings-back : s .settings ≡ stateIn (octetsOf s) .settings
   unfolding octetsOf
   settings-back =
-      settings-by (octetsOf s) (s .settings .«t1_initial») (s .settings .spacecraft) (sym (pair-back (s .settings .«t1_initial»)))
+      settings-by (octetsOf s) (sym (pair-back (s .settings .«t1_initial»)))
       (sym (pair-back (s .settings .spacecraft)))
 
   variables-back : s .variables ≡ stateIn (octetsOf s) .variables
@@ -83,7 +83,7 @@ module _ (s : State) where
   variables-back =
       let v = s .variables in
       let f = flags-back (v .«ad_out») (v .«bc_out») (v .«bd_out») (s .queues .waiting) (s .queues .«control_marked») in
-      variables-by (octetsOf s) (v .timer) (v .«ad_out») (v .«bc_out») (v .«bd_out») (sym (pair-back (v .timer))) (f .0) (f .1) (f .2)
+      variables-by (octetsOf s) (sym (pair-back (v .timer))) (f .0) (f .1) (f .2)
 
   module _ (h : Sized s) where
     lengths-back : s .queues .lengths ≡ pairsFrom (octetsOf s) 22 places
@@ -96,13 +96,13 @@ module _ (s : State) where
         let v = s .variables in
         let q = s .queues in
         let f = flags-back (v .«ad_out») (v .«bc_out») (v .«bd_out») (q .waiting) (q .«control_marked») in
-        queues-by (octetsOf s) (q .waiting) (q .control) (q .«control_marked») (q .lengths) (f .3) (sym (control-back (q .control))) (f .4) lengths-back
+        queues-by (octetsOf s) (f .3) (sym (control-back (q .control))) (f .4) lengths-back
 
     -- the state in the octets of a state is that state
     pub read-back : stateIn (octetsOf s) ≡ s
     unfolding octetsOf
     read-back =
-        sym (state-by (octetsOf s) (s .state) (s .settings) (s .variables) (s .queues) (sym (state-back (s .state))) settings-back variables-back queues-back)
+        sym (state-by (octetsOf s) (sym (state-back (s .state))) settings-back variables-back queues-back)
 
     -- and where the state is well-formed, its octets are a state
     pub octets-back : wellFormed s ≡ true → isState (octetsOf s) ≡ true

@@ -38,14 +38,14 @@ module _ (o : List ℕ) where
   pub no-length : (length o ≡ stateOctets → ⊥) → same o (octetsOf (stateIn o)) ≡ false
   no-length h = same-length-not o (octetsOf (stateIn o)) (λ e. h (e ∙ length-in))
 
-  pub no-state : (r : Start) → same o (octetsOf (stateIn o)) ≡ false → r ≡ refusedStart 12 → r ≡ senderIn o
+  pub no-state : {r : Start} → same o (octetsOf (stateIn o)) ≡ false → r ≡ refusedStart 12 → r ≡ senderIn o
   unfolding senderIn isState
-  no-state r d e = e ∙ sym (no _ _ _ (ap (λ (b : Bool). both b (wellFormed (stateIn o))) d))
+  no-state d e = e ∙ sym (no _ _ _ (ap (λ (b : Bool). both b (wellFormed (stateIn o))) d))
 
-  pub judged : (r : Start) → same o (octetsOf (stateIn o)) ≡ true → r ≡ restoredOf (stateIn o) → r ≡ senderIn o
+  pub judged : {r : Start} → same o (octetsOf (stateIn o)) ≡ true → r ≡ restoredOf (stateIn o) → r ≡ senderIn o
   unfolding senderIn isState
-  judged r d e = e ∙ restored-where (stateIn o) ∙ sym (ap (λ (b : Bool). pick (both b (wellFormed (stateIn o))) (restoredOf (stateIn o)) (refusedStart 12)) d)
+  judged d e = e ∙ restored-where (stateIn o) ∙ sym (ap (λ (b : Bool). pick (both b (wellFormed (stateIn o))) (restoredOf (stateIn o)) (refusedStart 12)) d)
 
-  module _ (s : State) (es : s ≡ stateIn o) (w : List ℕ) (ew : w ≡ octetsOf s) (b : Bool) (eb : b ≡ same o w) where
-    pub compared : b ≡ same o (octetsOf (stateIn o))
-    compared = eb ∙ ap (same o) (ew ∙ ap octetsOf es)
+  -- the comparison that the code makes, of the octets of the state that it read
+  pub compared : {s : State} {w : List ℕ} {b c : Bool} → s ≡ stateIn o → w ≡ octetsOf s → b ≡ same o w → b ≡ c → same o (octetsOf (stateIn o)) ≡ c
+  compared es ew eb e = sym (eb ∙ ap (same o) (ew ∙ ap octetsOf es)) ∙ e

@@ -25,10 +25,10 @@ numbersWith s number flags control value =
     ∷ s .variables .vs ∷ s .variables .nnr ∷ s .variables .timer / 256 ∷ s .variables .timer % 256 ∷ s .variables .«transmission_count»
     ∷ flags ∷ s .variables .«suspend_state» ∷ s .queues .sent ∷ s .queues .marked ∷ control ∷ value ∷ []
 
-pub numbers-by : (s : State) (number flags control value : ℕ) → number ≡ stateNumber (s .state) → flags ≡ flagsOf s
+pub numbers-by : (s : State) {number flags control value : ℕ} → number ≡ stateNumber (s .state) → flags ≡ flagsOf s
     → control ≡ controlNumber (s .queues .control) → value ≡ controlValue (s .queues .control) → numbersWith s number flags control value ++ pairs (s .queues .lengths) ≡ octetsOf s
 unfolding octetsOf
-numbers-by s number flags control value en ef ec ev =
+numbers-by s {number} {flags} {control} {value} en ef ec ev =
     ap (λ (n : ℕ). numbersWith s n flags control value ++ pairs (s .queues .lengths)) en
     ∙ ap (λ (n : ℕ). numbersWith s (stateNumber (s .state)) n control value ++ pairs (s .queues .lengths)) ef
     ∙ ap₂ (λ (n m : ℕ). numbersWith s (stateNumber (s .state)) (flagsOf s) n m ++ pairs (s .queues .lengths)) ec ev
@@ -40,10 +40,10 @@ answerWith a state abort alert suspended =
     ∷ a .responses .count ∷ getD (a .responses .numbers) 0 0 ∷ getD (a .responses .numbers) 1 0 ∷ getD (a .responses .numbers) 2 0 ∷ getD (a .responses .numbers) 3 0
     ∷ a .confirmed .number ∷ a .confirmed .count ∷ a .denied .number ∷ a .denied .count ∷ []
 
-pub answer-by : (a : Answer) (state abort alert suspended : ℕ) → state ≡ stateNumber (a .state) → abort ≡ bitOf (a .abort)
+pub answer-by : (a : Answer) {state abort alert suspended : ℕ} → state ≡ stateNumber (a .state) → abort ≡ bitOf (a .abort)
     → alert ≡ alertNumber (a .alert) → suspended ≡ bitOf (a .suspended) → answerWith a state abort alert suspended ≡ octetsOfAnswer a
 unfolding octetsOfAnswer
-answer-by a state abort alert suspended es eb el eu =
+answer-by a {state} {abort} {alert} {suspended} es eb el eu =
     ap₂ (λ (n m : ℕ). answerWith a n m alert suspended) es eb ∙ ap₂ (λ (n m : ℕ). answerWith a (stateNumber (a .state)) (bitOf (a .abort)) n m) el eu
 
 module _ (o : List ℕ) where
@@ -57,9 +57,9 @@ module _ (o : List ℕ) where
     channel = getD o 10 0;
   }
 
-  pub settings-by : (t1 spacecraft : ℕ) → t1 ≡ pairAt o 4 → spacecraft ≡ pairAt o 8 → settingsWith t1 spacecraft ≡ stateIn o .settings
+  pub settings-by : {t1 spacecraft : ℕ} → t1 ≡ pairAt o 4 → spacecraft ≡ pairAt o 8 → settingsWith t1 spacecraft ≡ stateIn o .settings
   unfolding stateIn
-  settings-by t1 spacecraft et es = ap₂ settingsWith et es
+  settings-by et es = ap₂ settingsWith et es
 
   abbrev pub variablesWith : ℕ → Bool → Bool → Bool → Variables
   variablesWith timer ad bc bd = record {
@@ -73,10 +73,10 @@ module _ (o : List ℕ) where
     «suspend_state» = getD o 17 0;
   }
 
-  pub variables-by : (timer : ℕ) (ad bc bd : Bool) → timer ≡ pairAt o 13 → ad ≡ isSet (getD o 16 0) 1 → bc ≡ isSet (getD o 16 0) 2 → bd ≡ isSet (getD o 16 0) 4
+  pub variables-by : {timer : ℕ} {ad bc bd : Bool} → timer ≡ pairAt o 13 → ad ≡ isSet (getD o 16 0) 1 → bc ≡ isSet (getD o 16 0) 2 → bd ≡ isSet (getD o 16 0) 4
       → variablesWith timer ad bc bd ≡ stateIn o .variables
   unfolding stateIn
-  variables-by timer ad bc bd et ea ec ed =
+  variables-by {bc = bc} {bd = bd} et ea ec ed =
       ap₂ (λ (t : ℕ) (a : Bool). variablesWith t a bc bd) et ea ∙ ap₂ (λ (c d : Bool). variablesWith (pairAt o 13) (isSet (getD o 16 0) 1) c d) ec ed
 
   abbrev pub queuesWith : Bool → Control → Bool → List ℕ → Queues
@@ -89,18 +89,18 @@ module _ (o : List ℕ) where
     lengths = lengths;
   }
 
-  pub queues-by : (waiting : Bool) (control : Control) (marked : Bool) (lengths : List ℕ) → waiting ≡ isSet (getD o 16 0) 8
+  pub queues-by : {waiting : Bool} {control : Control} {marked : Bool} {lengths : List ℕ} → waiting ≡ isSet (getD o 16 0) 8
       → control ≡ controlNumbered (getD o 20 0) (getD o 21 0) → marked ≡ isSet (getD o 16 0) 16 → lengths ≡ pairsFrom o 22 places
       → queuesWith waiting control marked lengths ≡ stateIn o .queues
   unfolding stateIn
-  queues-by waiting control marked lengths ew ec em el =
+  queues-by {marked = marked} {lengths = lengths} ew ec em el =
       ap₂ (λ (w : Bool) (c : Control). queuesWith w c marked lengths) ew ec
       ∙ ap₂ (λ (m : Bool) (l : List ℕ). queuesWith (isSet (getD o 16 0) 8) (controlNumbered (getD o 20 0) (getD o 21 0)) m l) em el
 
-  pub state-by : (state : FopState) (settings : Settings) (variables : Variables) (queues : Queues) → state ≡ stateNumbered (getD o 2 0)
+  pub state-by : {state : FopState} {settings : Settings} {variables : Variables} {queues : Queues} → state ≡ stateNumbered (getD o 2 0)
       → settings ≡ stateIn o .settings → variables ≡ stateIn o .variables → queues ≡ stateIn o .queues
       → record { state = state; settings = settings; variables = variables; queues = queues } ≡ stateIn o
   unfolding stateIn
-  state-by state settings variables queues es eg ev eq =
+  state-by {variables = variables} {queues = queues} es eg ev eq =
       ap₂ (λ (s : FopState) (g : Settings). record { state = s; settings = g; variables = variables; queues = queues }) es eg
       ∙ ap₂ (λ (v : Variables) (q : Queues). record { state = stateIn o .state; settings = stateIn o .settings; variables = v; queues = q }) ev eq

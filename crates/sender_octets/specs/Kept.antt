@@ -7,7 +7,7 @@
 --   4-5 T1_Initial    13-14 timer                                                       22-87 the lengths of the 33 units, two octets each
 --   6 Transmission_Limit, 7 Timeout_Type
 use Prim.Native.Nat.{ℕ, zero, suc, _+_, _*_, _/_, _%_}
-use mathlib.Core.Bool.{Bool, true, false}
+use mathlib.Core.Bool.{Bool}
 use mathlib.Core.List.{List, [], _∷_}
 use lib.Dec.{eqb}
 use lib.ListN.{getD}

@@ -1,107 +1,25 @@
--- Each arm of the match: what `read` answered, put into numbers.
+-- What `read` answered, told by `told_reading`.
 use borrow.Author.Needs.{needs}
-use mathlib.Core.Path.{sym, ap, _∙_}
-use Rattle.base.specs.Outcome.{numberOf, countOf}
-use Rattle.boundary.specs.Numbers.{placeOf, correctedOf}
-use Rattle.cltu.specs.Answers.{readAnswer}
+use mathlib.Core.Path.{_∙_}
+use Rattle.boundary.proofs.Told.{same-reading}
 use Rattle.boundary.proofs.cltu_read.Statement.{statement}
 use Rattle.boundary.proofs.cltu_read.Tie as tie
 
 read-requires : tie.Need-read-requires
 read-requires c κs = search needs
 
-enum-known-reading : tie.Need-enum-known-reading
-enum-known-reading c = search needs
-
-enum-known-reading-2 : tie.Need-enum-known-reading-2
-enum-known-reading-2 c = search needs
-
-enum-known-reading-3 : tie.Need-enum-known-reading-3
-enum-known-reading-3 c = search needs
-
-enum-known-reading-4 : tie.Need-enum-known-reading-4
-enum-known-reading-4 c = search needs
-
-enum-told : tie.Need-enum-told
-enum-told c = search needs
-
-enum-told-2 : tie.Need-enum-told-2
-enum-told-2 c = search needs
+told-reading-requires : tie.Need-told-reading-requires
+told-reading-requires c κs = search needs
 
 same-length : tie.Need-same-length
 same-length c = search needs
 
 returns : tie.Need-returns
 returns c =
-    let w = c .before .before .before .before .before .read in
-    let e = ap readAnswer (sym (c .before .reading .given .1)) ∙ w .ensures .0 in
-    (ap numberOf e, (w .ensures .1, (ap countOf e, (ap placeOf e, ap correctedOf e))))
-
-same-length-2 : tie.Need-same-length-2
-same-length-2 c = search needs
-
-returns-2 : tie.Need-returns-2
-returns-2 c =
-    let w = c .before .before .before .before .before .read in
-    let e = ap readAnswer (sym (c .before .reading2 .given .1)) ∙ w .ensures .0 in
-    (ap numberOf e, (w .ensures .1, (ap countOf e, (ap placeOf e, ap correctedOf e))))
-
-same-length-3 : tie.Need-same-length-3
-same-length-3 c = search needs
-
-returns-3 : tie.Need-returns-3
-returns-3 c =
-    let w = c .before .before .before .before .before .read in
-    let e = ap readAnswer (sym (c .before .reading3 .given .1)) ∙ w .ensures .0 in
-    (ap numberOf e, (w .ensures .1, (ap countOf e, (ap placeOf e, ap correctedOf e))))
-
-same-length-4 : tie.Need-same-length-4
-same-length-4 c = search needs
-
-returns-4 : tie.Need-returns-4
-returns-4 c =
-    let w = c .before .before .before .before .before .read in
-    let e = ap readAnswer (sym (c .before .reading4 .given .1)) ∙ w .ensures .0 in
-    (ap numberOf e, (w .ensures .1, (ap countOf e, (ap placeOf e, ap correctedOf e))))
-
-same-length-5 : tie.Need-same-length-5
-same-length-5 c = search needs
-
-returns-5 : tie.Need-returns-5
-returns-5 c =
-    let w = c .before .before .before .before .read in
-    let e = ap readAnswer (sym (c .enum-told .given .1)) ∙ w .ensures .0 in
-    (ap numberOf e, (w .ensures .1, (ap countOf e, (ap placeOf e, ap correctedOf e))))
-
-same-length-6 : tie.Need-same-length-6
-same-length-6 c = search needs
-
-returns-6 : tie.Need-returns-6
-returns-6 c =
-    let w = c .before .before .before .before .read in
-    let e = ap readAnswer (sym (c .enum-told2 .given .1)) ∙ w .ensures .0 in
-    (ap numberOf e, (w .ensures .1, (ap countOf e, (ap placeOf e, ap correctedOf e))))
+    let w = c .before .before .before .before .before .before .read .ensures in
+    let t = c .told-reading .ensures in
+    let s = same-reading (w .0) in
+    (t .0 ∙ s .0, (w .1, (t .1 .0 ∙ s .1 .0, (t .1 .1 .0 ∙ s .1 .1 .0, t .1 .1 .1 ∙ s .1 .1 .1))))
 
 pub cltu-read-spec : {M : Type 1} → statement M
-cltu-read-spec =
-    tie.close
-    (tie.spec
-    read-requires
-    enum-known-reading
-    enum-known-reading-2
-    enum-known-reading-3
-    enum-known-reading-4
-    enum-told
-    enum-told-2
-    same-length
-    returns
-    same-length-2
-    returns-2
-    same-length-3
-    returns-3
-    same-length-4
-    returns-4
-    same-length-5
-    returns-5
-    same-length-6
-    returns-6)
+cltu-read-spec = tie.close (tie.spec read-requires told-reading-requires same-length returns)

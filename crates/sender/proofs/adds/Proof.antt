@@ -2,7 +2,6 @@
 use borrow.Author.Needs.{needs}
 use native.Mathlib.Omega.{arith}
 use Rattle.base.proofs.Tests.{tests}
-use Rattle.fop_actions.specs.declared.State.the-variants.{S1, S2, S3, S4, S5, S6}
 use Rattle.sender.proofs.Judged.{adds-told}
 use Rattle.sender.proofs.adds.Statement.{statement}
 use Rattle.sender.proofs.adds.Tie as tie
@@ -31,32 +30,32 @@ enum-told-6 c = search needs
 returns-2 : tie.Need-returns-2
 returns-2 c =
     let a = c .before .before .before .args in
-    adds-told (a .event) (a .sender) S1 (omega arith) (c .enum-told .given .1)
+    adds-told (a .event) (a .sender) (omega arith) (c .enum-told .given .1)
 
 returns-3 : tie.Need-returns-3
 returns-3 c =
     let a = c .before .before .before .args in
-    adds-told (a .event) (a .sender) S2 (omega arith) (c .enum-told2 .given .1)
+    adds-told (a .event) (a .sender) (omega arith) (c .enum-told2 .given .1)
 
 returns-4 : tie.Need-returns-4
 returns-4 c =
     let a = c .before .before .before .args in
-    adds-told (a .event) (a .sender) S3 (omega arith) (c .enum-told3 .given .1)
+    adds-told (a .event) (a .sender) (omega arith) (c .enum-told3 .given .1)
 
 returns-5 : tie.Need-returns-5
 returns-5 c =
     let a = c .before .before .before .args in
-    adds-told (a .event) (a .sender) S4 (omega arith) (c .enum-told4 .given .1)
+    adds-told (a .event) (a .sender) (omega arith) (c .enum-told4 .given .1)
 
 returns-6 : tie.Need-returns-6
 returns-6 c =
     let a = c .before .before .before .args in
-    adds-told (a .event) (a .sender) S5 (omega arith) (c .enum-told5 .given .1)
+    adds-told (a .event) (a .sender) (omega arith) (c .enum-told5 .given .1)
 
 returns-7 : tie.Need-returns-7
 returns-7 c =
     let a = c .before .before .before .args in
-    adds-told (a .event) (a .sender) S6 (omega arith) (c .enum-told6 .given .1)
+    adds-told (a .event) (a .sender) (omega arith) (c .enum-told6 .given .1)
 
 pub adds-spec : {M : Type 1} → statement M
 adds-spec =

@@ -35,8 +35,8 @@ returns c =
     let d = t .before .before in
     let w = d .before .before .before in
     let a = w .before .before .before .before .before .before .args in
-    offered-added (a .event) (a .sender) (a .work) (a .unit .now) (a .store .now) (a .output .now) (w .write-offered .result) _ (d .conclude .result)
-    (w .write-offered .ensures) (d .conclude .ensures) _ (b .begin .result) (p .adds .result)
+    offered-added (a .event) (a .sender) (a .work) (a .unit .now) (a .store .now) (a .output .now) (w .write-offered .result)
+    (w .write-offered .ensures) (d .conclude .ensures)
     (t .if1 .taken) (p .adds .ensures) (q .if2 .taken) (b .begin .ensures) (u .put-unit .ensures)
 
 same-length-3 : tie.Need-same-length-3
@@ -52,9 +52,8 @@ returns-2 c =
     let d = t .before .before in
     let w = d .before .before .before in
     let a = w .before .before .before .before .before .before .args in
-    offered-not-added (a .event) (a .sender) (a .work) (a .unit .now) (a .store .now) (a .output .now) (w .write-offered .result) _
-    (d .conclude .result)
-    (w .write-offered .ensures) (d .conclude .ensures) (p .adds .result) (t .if1 .taken) (p .adds .ensures) (c .if2 .left)
+    offered-not-added (a .event) (a .sender) (a .work) (a .unit .now) (a .store .now) (a .output .now) (w .write-offered .result)
+    (w .write-offered .ensures) (d .conclude .ensures) (t .if1 .taken) (p .adds .ensures) (c .if2 .left)
 
 same-length-5 : tie.Need-same-length-5
 same-length-5 c = search needs
@@ -67,8 +66,7 @@ returns-3 c =
     let d = c .before .before in
     let w = d .before .before .before in
     let a = w .before .before .before .before .before .before .args in
-    offered-refused (a .event) (a .sender) (a .work) (a .unit .now) (a .store .now) (a .output .now) (w .write-offered .result) _
-    (d .conclude .result)
+    offered-refused (a .event) (a .sender) (a .work) (a .unit .now) (a .store .now) (a .output .now) (w .write-offered .result)
     (w .write-offered .ensures) (d .conclude .ensures) (c .if1 .left)
 
 pub offer-work-spec : {M : Type 1} → statement M

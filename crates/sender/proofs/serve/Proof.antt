@@ -12,8 +12,7 @@ returns : tie.Need-returns
 returns c =
     let t = c .before in
     let a = t .before .before .before .args in
-    served-short (a .event) (a .value) (a .sender) (a .by) (a .store .now) (a .output .now) (c .refused .result) (omega (arith, t .if1 .taken))
-    (c .refused .ensures)
+    served-short (a .event) (a .value) (a .sender) (a .by) (a .store .now) (a .output .now) (omega (arith, t .if1 .taken)) (c .refused .ensures)
 
 begin-requires : tie.Need-begin-requires
 begin-requires c κs = search needs
@@ -37,8 +36,7 @@ returns-2 c =
     let b = r .before in
     let t = b .before in
     let a = t .before .before .before .args in
-    served-row (a .event) (a .value) (a .sender) (a .by) (a .store .now) (a .output .now) (w .serve-work .result) _ _ (b .begin .result)
-    (r .row .result)
+    served-row (a .event) (a .value) (a .sender) (a .by) (a .store .now) (a .output .now)
     (omega (arith, t .if1 .left)) (b .begin .ensures) (r .row .ensures) (w .serve-work .ensures)
 
 pub serve-spec : {M : Type 1} → statement M

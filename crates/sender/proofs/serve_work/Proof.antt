@@ -34,9 +34,8 @@ returns c =
     let u = w .before .before in
     let p = u .before .before .before .before in
     let a = p .before .before .before .before .args in
-    served-done (a .event) (a .sender) (a .work) (a .store .now) (a .output .now) (p .place-before .result) (u .unit-at .result .now)
-    (w .write-handed .result) _ (d .conclude .result)
-    (p .place-before .ensures) (u .unit-at .ensures) (w .write-handed .ensures) (d .conclude .ensures) _ (t .if1 .taken) (r .remove .ensures)
+    served-done (a .event) (a .sender) (a .work) (a .store .now) (a .output .now) (w .write-handed .result)
+    (p .place-before .ensures) (u .unit-at .ensures) (w .write-handed .ensures) (d .conclude .ensures) (t .if1 .taken) (r .remove .ensures)
 
 same-length-3 : tie.Need-same-length-3
 same-length-3 c = search needs
@@ -51,8 +50,7 @@ returns-2 c =
     let u = w .before .before in
     let p = u .before .before .before .before in
     let a = p .before .before .before .before .args in
-    served-refused (a .event) (a .sender) (a .work) (a .store .now) (a .output .now) (p .place-before .result) (u .unit-at .result .now)
-    (w .write-handed .result) _ (d .conclude .result)
+    served-refused (a .event) (a .sender) (a .work) (a .store .now) (a .output .now) (w .write-handed .result)
     (p .place-before .ensures) (u .unit-at .ensures) (w .write-handed .ensures) (d .conclude .ensures) (c .if1 .left)
 
 pub serve-work-spec : {M : Type 1} → statement M

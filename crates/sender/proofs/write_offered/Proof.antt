@@ -21,7 +21,7 @@ returns c =
     let p = t .before .before in
     let a = p .before .before .before .before .before .before .args in
     unit-told (a .sender .settings) (a .work .told .handed) (w .write-handed .result) _ (a .output .now) (a .unit .now) _
-    (offered-newest (a .sender) (a .work) (a .unit .now) (a .store .now) (p .place-handed .result) (p .place-handed .ensures) (t .if1 .taken))
+    (offered-newest (a .sender) (a .work) (a .unit .now) (a .store .now) (p .place-handed .ensures) (t .if1 .taken))
     (w .write-handed .ensures)
 
 cast-unit-at : tie.Need-cast-unit-at
@@ -44,7 +44,7 @@ returns-2 c =
     let p = t .before .before in
     let a = p .before .before .before .before .before .before .args in
     unit-told (a .sender .settings) (a .work .told .handed) (w .write-handed2 .result) _ (a .output .now) (u .unit-at .result .now) _
-    (offered-older (a .sender) (a .work) (a .unit .now) (a .store .now) (p .place-handed .result) (p .place-handed .ensures) (u .unit-at .result .now) (t .if1 .left) (u .unit-at .ensures))
+    (offered-older (a .sender) (a .work) (a .unit .now) (a .store .now) (p .place-handed .ensures) (t .if1 .left) (u .unit-at .ensures))
     (w .write-handed2 .ensures)
 
 pub write-offered-spec : {M : Type 1} → statement M

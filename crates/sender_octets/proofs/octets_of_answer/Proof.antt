@@ -40,8 +40,7 @@ returns c =
     let b = l .before in
     let n = b .before in
     let a = n .before .before .args .answer in
-    answer-by a (n .state-number .result) (b .truth .result) (l .alert-number .result) (c .truth2 .result) (n .state-number .ensures) (b .truth .ensures .0)
-    (l .alert-number .ensures) (c .truth2 .ensures .0)
+    answer-by a (n .state-number .ensures) (b .truth .ensures .0) (l .alert-number .ensures) (c .truth2 .ensures .0)
 
 pub octets-of-answer-spec : {M : Type 1} → statement M
 octets-of-answer-spec =

@@ -1,6 +1,6 @@
 -- The octets are judged by their length, by the state that they would hold, and by that state.
 use borrow.Author.Needs.{needs}
-use mathlib.Core.Path.{sym, ap, _∙_}
+use mathlib.Core.Path.{ap, _∙_}
 use borrow.Author.Tests.{not-true, not-false}
 use denote.Ref.{now}
 use Rattle.sender.specs.State.{restoredOf}
@@ -15,7 +15,7 @@ returns : tie.Need-returns
 returns c =
     let t = c .before in
     let o = now (t .before .before .args .octets) in
-    no-state o (c .refused-state .result) (no-length o (t .if1 .taken)) (c .refused-state .ensures)
+    no-state o (no-length o (t .if1 .taken)) (c .refused-state .ensures)
 
 state-in-requires : tie.Need-state-in-requires
 state-in-requires c κs = search needs
@@ -39,9 +39,7 @@ returns-2 c =
     let w = m .before .before in
     let s = w .before in
     let o = now (s .before .before .before .args .octets) in
-    no-state o (c .refused-state2 .result)
-    (sym (compared o (s .state-in .result) (s .state-in .ensures) (w .octets-of .result) (w .octets-of .ensures) (m .same .result) (m .same .ensures))
-    ∙ not-true (m .same .result) (t .if2 .taken))
+    no-state o (compared o (s .state-in .ensures) (w .octets-of .ensures) (m .same .ensures) (not-true (m .same .result) (t .if2 .taken)))
     (c .refused-state2 .ensures)
 
 restore-requires : tie.Need-restore-requires
@@ -54,9 +52,7 @@ returns-3 c =
     let w = m .before .before in
     let s = w .before in
     let o = now (s .before .before .before .args .octets) in
-    judged o (c .restore .result)
-    (sym (compared o (s .state-in .result) (s .state-in .ensures) (w .octets-of .result) (w .octets-of .ensures) (m .same .result) (m .same .ensures))
-    ∙ not-false (m .same .result) (t .if2 .left))
+    judged o (compared o (s .state-in .ensures) (w .octets-of .ensures) (m .same .ensures) (not-false (m .same .result) (t .if2 .left)))
     (c .restore .ensures ∙ ap restoredOf (s .state-in .ensures))
 
 pub sender-in-spec : {M : Type 1} → statement M

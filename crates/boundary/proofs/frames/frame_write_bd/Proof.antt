@@ -1,6 +1,6 @@
--- What `write_bd` answered, put into numbers by `told`.
+-- What `write_bd` answered, told by `told`.
 use borrow.Author.Needs.{needs}
-use mathlib.Core.Path.{refl}
+use Rattle.boundary.proofs.Told.{told-by}
 use Rattle.boundary.proofs.frames.frame_write_bd.Statement.{statement}
 use Rattle.boundary.proofs.frames.frame_write_bd.Tie as tie
 
@@ -14,10 +14,7 @@ same-length : tie.Need-same-length
 same-length c = search needs
 
 returns : tie.Need-returns
-returns c =
-    let w = c .before .before .before .before .write-bd in
-    let t = c .told .ensures in
-    rw (t .0, t .1, w .ensures .0) (refl, (w .ensures .1, refl))
+returns c = told-by (c .before .before .before .before .write-bd .ensures) (c .told .ensures)
 
 pub frame-write-bd-spec : {M : Type 1} → statement M
 frame-write-bd-spec = tie.close (tie.spec write-bd-requires told-requires same-length returns)

@@ -1,6 +1,6 @@
--- What `write_set_vr` answered, put into numbers by `told`.
+-- What `write_set_vr` answered, told by `told`.
 use borrow.Author.Needs.{needs}
-use mathlib.Core.Path.{refl}
+use Rattle.boundary.proofs.Told.{told-by}
 use Rattle.boundary.proofs.frames.frame_write_set_vr.Statement.{statement}
 use Rattle.boundary.proofs.frames.frame_write_set_vr.Tie as tie
 
@@ -14,10 +14,7 @@ same-length : tie.Need-same-length
 same-length c = search needs
 
 returns : tie.Need-returns
-returns c =
-    let w = c .before .before .before .before .write-set-vr in
-    let t = c .told .ensures in
-    rw (t .0, t .1, w .ensures .0) (refl, (w .ensures .1, refl))
+returns c = told-by (c .before .before .before .before .write-set-vr .ensures) (c .told .ensures)
 
 pub frame-write-set-vr-spec : {M : Type 1} → statement M
 frame-write-set-vr-spec = tie.close (tie.spec write-set-vr-requires told-requires same-length returns)

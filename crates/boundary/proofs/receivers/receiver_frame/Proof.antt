@@ -2,7 +2,7 @@
 use borrow.Author.Needs.{needs}
 use mathlib.Core.Path.{refl, _∙_}
 use denote.Ref.{now}
-use Rattle.boundary.proofs.ReceiverCalls.{frame-refused, frame-met, kept-whole}
+use Rattle.boundary.proofs.ReceiverCalls.{frame-refused, frame-met, frame-fits, unit-length, kept-whole}
 use Rattle.boundary.proofs.receivers.receiver_frame.Statement.{statement}
 use Rattle.boundary.proofs.receivers.receiver_frame.Tie as tie
 
@@ -22,14 +22,11 @@ returns : tie.Need-returns
 returns c =
     let r = c .before .before in
     let a = r .before .before .before .before .args in
-    rw (frame-refused (now (a .state)) (r .restore .result) (r .restore .ensures) (c .enum-told .given .1) (now (a .frame)))
+    rw (frame-refused (now (a .state)) (r .restore .ensures) (c .enum-told .given .1) (now (a .frame)))
     (refl, (refl, (refl, (refl, (refl, refl)))))
 
 receive-requires : tie.Need-receive-requires
 receive-requires c κs = search needs
-
-unit-requires : tie.Need-unit-requires
-unit-requires c κs = search needs
 
 event-number-requires : tie.Need-event-number-requires
 event-number-requires c κs = search needs
@@ -40,6 +37,11 @@ unit-number-requires c κs = search needs
 unit-place-requires : tie.Need-unit-place-requires
 unit-place-requires c κs = search needs
 
+unit-count-requires : tie.Need-unit-count-requires
+unit-count-requires c κs =
+    let m = c .before .before .before .before in
+    frame-fits _ _ (m .receive .ensures)
+
 keep-requires : tie.Need-keep-requires
 keep-requires c κs = search needs
 
@@ -49,16 +51,16 @@ same-length-2 c = search needs
 returns-2 : tie.Need-returns-2
 returns-2 c =
     let k = c .before .before in
-    let p = k .before .before in
-    let u = p .before .before .before in
-    let m = u .before .before in
+    let n = k .before .before in
+    let p = n .before in
+    let q = p .before in
+    let m = q .before .before .before in
     let s = m .before .before in
     let r = s .before .before in
     let a = r .before .before .before .before .args in
-    let z = k .keep .ensures ∙ kept-whole (now (a .state)) (r .restore .result) (r .restore .ensures) _ (s .start .given .1) (m .receive .result .next) in
-    let q = p .before in
-    rw (frame-met (now (a .state)) (r .restore .result) (r .restore .ensures) _ (s .start .given .1) (now (a .frame)) (m .receive .result) _ (m .receive .ensures) (u .unit .ensures))
-    (refl, (q .before .event-number .ensures, (q .unit-number .ensures, (p .unit-place .ensures, (refl, z)))))
+    let z = k .keep .ensures ∙ kept-whole (now (a .state)) (r .restore .ensures) (s .start .given .1) (m .receive .result .next) in
+    rw (frame-met (now (a .state)) (r .restore .ensures) (s .start .given .1) (now (a .frame)) (m .receive .ensures))
+    (refl, (q .before .event-number .ensures, (q .unit-number .ensures, (p .unit-place .ensures, (unit-length _ _ (m .receive .ensures) (n .unit-count .ensures), z)))))
 
 pub receiver-frame-spec : {M : Type 1} → statement M
 receiver-frame-spec =
@@ -70,10 +72,10 @@ receiver-frame-spec =
     same-length
     returns
     receive-requires
-    unit-requires
     event-number-requires
     unit-number-requires
     unit-place-requires
+    unit-count-requires
     keep-requires
     same-length-2
     returns-2)

@@ -3,6 +3,7 @@ use borrow.Author.Needs.{needs}
 use mathlib.Core.Path.{refl}
 use denote.Ref.{now}
 use lib.ListN.{length}
+use Rattle.boundary.proofs.Told.{told-by}
 use Rattle.boundary.proofs.ReceiverCalls.{word-refused, word-met}
 use Rattle.boundary.proofs.receivers.receiver_word.Statement.{statement}
 use Rattle.boundary.proofs.receivers.receiver_word.Tie as tie
@@ -20,7 +21,7 @@ returns : tie.Need-returns
 returns c =
     let r = c .before .before in
     let a = r .before .before .before .args in
-    rw (word-refused (now (a .state)) (r .restore .result) (r .restore .ensures) (c .enum-told .given .1) (length (now (a .output)))) (refl, (refl, refl))
+    rw (word-refused (now (a .state)) (r .restore .ensures) (c .enum-told .given .1) (length (now (a .output)))) (refl, (refl, refl))
 
 word-requires : tie.Need-word-requires
 word-requires c κs = search needs
@@ -37,9 +38,7 @@ returns-2 c =
     let s = w .before .before .before in
     let r = s .before .before in
     let a = r .before .before .before .args in
-    let t = c .told .ensures in
-    rw (word-met (now (a .state)) (r .restore .result) (r .restore .ensures) _ (s .start .given .1) (length (now (a .output))), t .0, t .1, w .word .ensures .0)
-    (refl, (w .word .ensures .1, refl))
+    rw (word-met (now (a .state)) (r .restore .ensures) (s .start .given .1) (length (now (a .output)))) (told-by (w .word .ensures) (c .told .ensures))
 
 pub receiver-word-spec : {M : Type 1} → statement M
 receiver-word-spec =

@@ -1,38 +1,26 @@
--- The octets are no state, the answer does not fit, or the control word is told.
+-- No sender is reached, or the control word is told.
 use borrow.Author.Needs.{needs}
-use native.Mathlib.Omega.{arith}
 use Rattle.sender.specs.Events.{controlWordOf}
 use Rattle.boundary.specs.Senders.{wordCall}
-use Rattle.boundary.proofs.SenderCalls.{no-state, no-room, done}
+use Rattle.boundary.proofs.SenderCalls.{not-reached, done}
 use Rattle.boundary.proofs.senders.sender_control_word.Statement.{statement}
 use Rattle.boundary.proofs.senders.sender_control_word.Tie as tie
 
-sender-in-requires : tie.Need-sender-in-requires
-sender-in-requires c κs = search needs
+reach-requires : tie.Need-reach-requires
+reach-requires c κs = search needs
 
 same-length : tie.Need-same-length
 same-length c = search needs
+
+same-length-2 : tie.Need-same-length-2
+same-length-2 c = search needs
 
 returns : tie.Need-returns
 unfolding wordCall
 returns c =
     let i = c .before .before in
-    let a = i .before .before .before .before .before .before .before .args in
-    no-state (λ s. controlWordOf (a .word .now) s (a .store .now) (a .output .now))
-    (a .state .now) (a .store .now) (a .output .now) (a .answer .now) (i .sender-in .result) (i .sender-in .ensures) (c .if1 .taken)
-
-same-length-2 : tie.Need-same-length-2
-same-length-2 c = search needs
-
-returns-2 : tie.Need-returns-2
-unfolding wordCall
-returns-2 c =
-    let t = c .before in
-    let i = t .before .before in
-    let a = i .before .before .before .before .before .before .before .args in
-    no-room (λ s. controlWordOf (a .word .now) s (a .store .now) (a .output .now))
-    (a .state .now) (a .store .now) (a .output .now) (a .answer .now) (i .sender-in .result) (i .sender-in .ensures)
-    (t .if1 .left) (omega (arith, c .if2 .taken))
+    let a = i .before .before .before .before .before .before .before .before .args in
+    not-reached (λ s. controlWordOf (a .word .now) s (a .store .now) (a .output .now)) (i .reach .result) (i .reach .ensures) (c .if1 .taken)
 
 control-word-requires : tie.Need-control-word-requires
 control-word-requires c κs = search needs
@@ -52,33 +40,29 @@ same-length-5 c = search needs
 same-length-6 : tie.Need-same-length-6
 same-length-6 c = search needs
 
-returns-3 : tie.Need-returns-3
+returns-2 : tie.Need-returns-2
 unfolding wordCall
-returns-3 c =
+returns-2 c =
     let w = c .before .before .before .before in
     let e = w .before .before .before .before .before .before .before in
-    let q = e .before .before .before .before in
-    let t = q .before in
+    let t = e .before .before .before .before in
     let i = t .before .before in
-    let a = i .before .before .before .before .before .before .before .args in
-    done (λ s. controlWordOf (a .word .now) s (a .store .now) (a .output .now))
-    (a .state .now) (a .store .now) (a .output .now) (a .answer .now) (i .sender-in .result) (i .sender-in .ensures)
-    (t .if1 .left) (omega (arith, q .if2 .left))
-    (e .control-word .result) (w .tell .result) _ _ _ _ (e .control-word .ensures) (w .tell .ensures)
+    let a = i .before .before .before .before .before .before .before .before .args in
+    done (λ s. controlWordOf (a .word .now) s (a .store .now) (a .output .now)) (i .reach .result)
+    (a .state .now) (a .store .now) (a .output .now) (a .answer .now) (i .reach .ensures) (t .if1 .left) (e .control-word .ensures) (w .tell .ensures)
 
 pub sender-control-word-spec : {M : Type 1} → statement M
 sender-control-word-spec =
     tie.close
     (tie.spec
-    sender-in-requires
+    reach-requires
     same-length
-    returns
     same-length-2
-    returns-2
+    returns
     control-word-requires
     tell-requires
     same-length-3
     same-length-4
     same-length-5
     same-length-6
-    returns-3)
+    returns-2)

@@ -1,41 +1,30 @@
--- The octets are no state, the answer does not fit, or the directive, narrowed, is told.
+-- No sender is reached, or the directive, narrowed, is told.
 use borrow.Author.Needs.{needs}
 use mathlib.Core.Path.{sym, ap₂}
 use Prim.Native.Nat.{ℕ}
-use native.Mathlib.Omega.{arith}
 use Rattle.sender.specs.Events.{directiveOf}
 use Rattle.sender.proofs.Steps.{same-step}
 use Rattle.boundary.specs.Senders.{narrowNumber, narrowValue, directiveCall}
-use Rattle.boundary.proofs.SenderCalls.{no-state, no-room, done}
+use Rattle.boundary.proofs.SenderCalls.{not-reached, done}
 use Rattle.boundary.proofs.senders.sender_directive.Statement.{statement}
 use Rattle.boundary.proofs.senders.sender_directive.Tie as tie
 
-sender-in-requires : tie.Need-sender-in-requires
-sender-in-requires c κs = search needs
+reach-requires : tie.Need-reach-requires
+reach-requires c κs = search needs
 
 same-length : tie.Need-same-length
 same-length c = search needs
+
+same-length-2 : tie.Need-same-length-2
+same-length-2 c = search needs
 
 returns : tie.Need-returns
 unfolding directiveCall
 returns c =
     let i = c .before .before in
-    let a = i .before .before .before .before .before .before .args in
-    no-state (λ s. directiveOf (narrowNumber (a .number) (a .value)) (narrowValue (a .value)) s (a .store .now) (a .output .now))
-    (a .state .now) (a .store .now) (a .output .now) (a .answer .now) (i .sender-in .result) (i .sender-in .ensures) (c .if1 .taken)
-
-same-length-2 : tie.Need-same-length-2
-same-length-2 c = search needs
-
-returns-2 : tie.Need-returns-2
-unfolding directiveCall
-returns-2 c =
-    let t = c .before in
-    let i = t .before .before in
-    let a = i .before .before .before .before .before .before .args in
-    no-room (λ s. directiveOf (narrowNumber (a .number) (a .value)) (narrowValue (a .value)) s (a .store .now) (a .output .now))
-    (a .state .now) (a .store .now) (a .output .now) (a .answer .now) (i .sender-in .result) (i .sender-in .ensures)
-    (t .if1 .left) (omega (arith, c .if2 .taken))
+    let a = i .before .before .before .before .before .before .before .args in
+    not-reached (λ s. directiveOf (narrowNumber (a .number) (a .value)) (narrowValue (a .value)) s (a .store .now) (a .output .now))
+    (i .reach .result) (i .reach .ensures) (c .if1 .taken)
 
 narrow-number-requires : tie.Need-narrow-number-requires
 narrow-number-requires c κs = search needs
@@ -61,23 +50,20 @@ same-length-5 c = search needs
 same-length-6 : tie.Need-same-length-6
 same-length-6 c = search needs
 
-returns-3 : tie.Need-returns-3
+returns-2 : tie.Need-returns-2
 unfolding directiveCall
-returns-3 c =
+returns-2 c =
     let w = c .before .before .before .before in
     let e = w .before .before .before .before .before .before .before in
     let v = e .before .before .before in
     let n = v .before in
-    let q = n .before .before in
-    let t = q .before in
+    let t = n .before .before in
     let i = t .before .before in
-    let a = i .before .before .before .before .before .before .args in
+    let a = i .before .before .before .before .before .before .before .args in
     done (λ s. directiveOf (narrowNumber (a .number) (a .value)) (narrowValue (a .value)) s (a .store .now) (a .output .now))
-    (a .state .now) (a .store .now) (a .output .now) (a .answer .now) (i .sender-in .result) (i .sender-in .ensures)
-    (t .if1 .left) (omega (arith, q .if2 .left))
-    (e .directive .result) (w .tell .result) _ _ _ _
-    (same-step (e .directive .result) _ _ _ _
-    (ap₂ (λ (x y : ℕ). directiveOf x y (i .sender-in .result .sender .fop) (a .store .now) (a .output .now))
+    (i .reach .result) (a .state .now) (a .store .now) (a .output .now) (a .answer .now) (i .reach .ensures) (t .if1 .left)
+    (same-step
+    (ap₂ (λ (x y : ℕ). directiveOf x y (i .reach .result .sender .fop) (a .store .now) (a .output .now))
     (sym (n .narrow-number .ensures)) (sym (v .narrow-value .ensures)))
     (e .directive .ensures))
     (w .tell .ensures)
@@ -86,11 +72,10 @@ pub sender-directive-spec : {M : Type 1} → statement M
 sender-directive-spec =
     tie.close
     (tie.spec
-    sender-in-requires
+    reach-requires
     same-length
-    returns
     same-length-2
-    returns-2
+    returns
     narrow-number-requires
     narrow-value-requires
     directive-requires
@@ -99,4 +84,4 @@ sender-directive-spec =
     same-length-4
     same-length-5
     same-length-6
-    returns-3)
+    returns-2)

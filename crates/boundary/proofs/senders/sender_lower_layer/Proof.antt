@@ -1,4 +1,4 @@
--- The number is none, or the call goes on as any other: the octets are no state, the answer does not fit, or the event is told.
+-- The number is none, no sender is reached, or the answer of the lower layer is told.
 use borrow.Author.Needs.{needs}
 use mathlib.Core.Path.{sym, ap}
 use native.Mathlib.Omega.{arith}
@@ -6,7 +6,7 @@ use Rattle.fop_events.specs.declared.Lower.{Lower}
 use Rattle.sender.specs.Events.{lowerLayerOf}
 use Rattle.sender.proofs.Steps.{same-step}
 use Rattle.boundary.specs.Senders.{lowerNumbered}
-use Rattle.boundary.proofs.SenderCalls.{no-state, no-room, done, lower-below, lower-above, lower-within}
+use Rattle.boundary.proofs.SenderCalls.{not-reached, done, lower-below, lower-above, lower-within}
 use Rattle.boundary.proofs.senders.sender_lower_layer.Statement.{statement}
 use Rattle.boundary.proofs.senders.sender_lower_layer.Tie as tie
 
@@ -21,36 +21,23 @@ returns-2 c =
     let a = b .before .before .before .before .before .args in
     lower-above (a .number) (a .state .now) (a .store .now) (a .output .now) (a .answer .now) (omega (arith, b .if1 .left)) (omega (arith, c .if2 .taken))
 
-sender-in-requires : tie.Need-sender-in-requires
-sender-in-requires c κs = search needs
+reach-requires : tie.Need-reach-requires
+reach-requires c κs = search needs
 
 same-length : tie.Need-same-length
 same-length c = search needs
 
-returns-3 : tie.Need-returns-3
-returns-3 c =
-    let i = c .before .before in
-    let h = i .before .before in
-    let b = h .before in
-    let a = b .before .before .before .before .before .args in
-    lower-within (a .number) (a .state .now) (a .store .now) (a .output .now) (a .answer .now) (omega (arith, b .if1 .left)) (omega (arith, h .if2 .left)) _ _ _ _ _
-    (no-state (λ s. lowerLayerOf (lowerNumbered (a .number)) s (a .store .now) (a .output .now))
-    (a .state .now) (a .store .now) (a .output .now) (a .answer .now) (i .sender-in .result) (i .sender-in .ensures) (c .if3 .taken))
-
 same-length-2 : tie.Need-same-length-2
 same-length-2 c = search needs
 
-returns-4 : tie.Need-returns-4
-returns-4 c =
-    let t = c .before in
-    let i = t .before .before in
-    let h = i .before .before in
+returns-3 : tie.Need-returns-3
+returns-3 c =
+    let i = c .before .before in
+    let h = i .before .before .before in
     let b = h .before in
     let a = b .before .before .before .before .before .args in
-    lower-within (a .number) (a .state .now) (a .store .now) (a .output .now) (a .answer .now) (omega (arith, b .if1 .left)) (omega (arith, h .if2 .left)) _ _ _ _ _
-    (no-room (λ s. lowerLayerOf (lowerNumbered (a .number)) s (a .store .now) (a .output .now))
-    (a .state .now) (a .store .now) (a .output .now) (a .answer .now) (i .sender-in .result) (i .sender-in .ensures)
-    (t .if3 .left) (omega (arith, c .if4 .taken)))
+    lower-within (a .number) (a .state .now) (a .store .now) (a .output .now) (a .answer .now) (omega (arith, b .if1 .left)) (omega (arith, h .if2 .left))
+    (not-reached (λ s. lowerLayerOf (lowerNumbered (a .number)) s (a .store .now) (a .output .now)) (i .reach .result) (i .reach .ensures) (c .if3 .taken))
 
 lower-numbered-requires : tie.Need-lower-numbered-requires
 lower-numbered-requires c κs = search needs
@@ -73,24 +60,21 @@ same-length-5 c = search needs
 same-length-6 : tie.Need-same-length-6
 same-length-6 c = search needs
 
-returns-5 : tie.Need-returns-5
-returns-5 c =
+returns-4 : tie.Need-returns-4
+returns-4 c =
     let w = c .before .before .before .before in
     let e = w .before .before .before .before .before .before .before in
     let n = e .before .before .before in
-    let q = n .before .before in
-    let t = q .before in
+    let t = n .before .before in
     let i = t .before .before in
-    let h = i .before .before in
+    let h = i .before .before .before in
     let b = h .before in
     let a = b .before .before .before .before .before .args in
-    lower-within (a .number) (a .state .now) (a .store .now) (a .output .now) (a .answer .now) (omega (arith, b .if1 .left)) (omega (arith, h .if2 .left)) _ _ _ _ _
+    lower-within (a .number) (a .state .now) (a .store .now) (a .output .now) (a .answer .now) (omega (arith, b .if1 .left)) (omega (arith, h .if2 .left))
     (done (λ s. lowerLayerOf (lowerNumbered (a .number)) s (a .store .now) (a .output .now))
-    (a .state .now) (a .store .now) (a .output .now) (a .answer .now) (i .sender-in .result) (i .sender-in .ensures)
-    (t .if3 .left) (omega (arith, q .if4 .left))
-    (e .lower-layer .result) (w .tell .result) _ _ _ _
-    (same-step (e .lower-layer .result) _ _ _ _
-    (ap (λ (x : Lower). lowerLayerOf x (i .sender-in .result .sender .fop) (a .store .now) (a .output .now)) (sym (n .lower-numbered .ensures)))
+    (i .reach .result) (a .state .now) (a .store .now) (a .output .now) (a .answer .now) (i .reach .ensures) (t .if3 .left)
+    (same-step
+    (ap (λ (x : Lower). lowerLayerOf x (i .reach .result .sender .fop) (a .store .now) (a .output .now)) (sym (n .lower-numbered .ensures)))
     (e .lower-layer .ensures))
     (w .tell .ensures))
 
@@ -100,11 +84,10 @@ sender-lower-layer-spec =
     (tie.spec
     returns
     returns-2
-    sender-in-requires
+    reach-requires
     same-length
-    returns-3
     same-length-2
-    returns-4
+    returns-3
     lower-numbered-requires
     lower-layer-requires
     tell-requires
@@ -112,4 +95,4 @@ sender-lower-layer-spec =
     same-length-4
     same-length-5
     same-length-6
-    returns-5)
+    returns-4)

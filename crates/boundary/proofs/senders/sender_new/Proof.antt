@@ -1,9 +1,7 @@
 -- The start is refused, its state does not fit, or it is put at the front of the buffer.
 use borrow.Author.Needs.{needs}
 use native.Mathlib.Omega.{arith}
-use lib.ListN.{length}
-use Rattle.sender.specs.Start.{startingOf}
-use Rattle.boundary.specs.Senders.{settingsOf, newCall}
+use Rattle.boundary.specs.Senders.{newCall}
 use Rattle.boundary.proofs.SenderCalls.{start-refused, start-no-room, start-done}
 use Rattle.boundary.proofs.senders.sender_new.Statement.{statement}
 use Rattle.boundary.proofs.senders.sender_new.Tie as tie
@@ -15,20 +13,14 @@ returns : tie.Need-returns
 unfolding newCall
 returns c =
     let n = c .before .before in
-    let a = n .before .before .before .args in
-    start-refused (n .new .result)
-    (startingOf (settingsOf (a .k) (a .t1-initial) (a .transmission-limit) (a .spacecraft) (a .channel)) (a .vs) (a .nnr) (length (a .store .now)))
-    (a .state .now) (n .new .ensures) (c .if1 .taken)
+    start-refused (n .before .before .before .args .state .now) (n .new .ensures) (c .if1 .taken)
 
 returns-2 : tie.Need-returns-2
 unfolding newCall
 returns-2 c =
     let t = c .before in
     let n = t .before .before in
-    let a = n .before .before .before .args in
-    start-no-room (n .new .result)
-    (startingOf (settingsOf (a .k) (a .t1-initial) (a .transmission-limit) (a .spacecraft) (a .channel)) (a .vs) (a .nnr) (length (a .store .now)))
-    (a .state .now) (n .new .ensures) (t .if1 .left) (omega (arith, c .if2 .taken))
+    start-no-room (n .before .before .before .args .state .now) (n .new .ensures) (t .if1 .left) (omega (arith, c .if2 .taken))
 
 state-requires : tie.Need-state-requires
 state-requires c κs = search needs
@@ -54,11 +46,8 @@ returns-3 c =
     let q = s .before .before in
     let t = q .before in
     let n = t .before .before in
-    let a = n .before .before .before .args in
-    start-done (n .new .result)
-    (startingOf (settingsOf (a .k) (a .t1-initial) (a .transmission-limit) (a .spacecraft) (a .channel)) (a .vs) (a .nnr) (length (a .store .now)))
-    (a .state .now) (n .new .ensures) (t .if1 .left) (omega (arith, q .if2 .left))
-    (s .state .result) (o .octets-of .result) _ (s .state .ensures) (o .octets-of .ensures) (p .put .ensures)
+    start-done (n .before .before .before .args .state .now) (n .new .ensures) (t .if1 .left) (omega (arith, q .if2 .left))
+    (s .state .ensures) (o .octets-of .ensures) (p .put .ensures)
 
 pub sender-new-spec : {M : Type 1} → statement M
 sender-new-spec =

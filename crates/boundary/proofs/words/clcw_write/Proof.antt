@@ -1,6 +1,6 @@
--- What `write` answered, put into numbers by `told`.
+-- What `write` answered, told by `told`.
 use borrow.Author.Needs.{needs}
-use mathlib.Core.Path.{refl}
+use Rattle.boundary.proofs.Told.{told-by}
 use Rattle.boundary.proofs.words.clcw_write.Statement.{statement}
 use Rattle.boundary.proofs.words.clcw_write.Tie as tie
 
@@ -14,10 +14,7 @@ same-length : tie.Need-same-length
 same-length c = search needs
 
 returns : tie.Need-returns
-returns c =
-    let w = c .before .before .before .before .write in
-    let t = c .told .ensures in
-    rw (t .0, t .1, w .ensures .0) (refl, (w .ensures .1, refl))
+returns c = told-by (c .before .before .before .before .write .ensures) (c .told .ensures)
 
 pub clcw-write-spec : {M : Type 1} → statement M
 clcw-write-spec = tie.close (tie.spec write-requires told-requires same-length returns)

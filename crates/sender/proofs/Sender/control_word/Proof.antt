@@ -1,7 +1,6 @@
 -- The reading picks the case: a word and an invalid one are served, the others refused.
 use borrow.Author.Needs.{needs}
 use mathlib.Core.Path.{refl}
-use Rattle.clcw.specs.declared.Reading.the-variants.{Invalid, Address, Length}
 use Rattle.sender.proofs.Judged.{reading-told, word-served}
 use Rattle.sender.proofs.Sender.control_word.Statement.{statement}
 use Rattle.sender.proofs.Sender.control_word.Tie as tie
@@ -52,8 +51,7 @@ returns c =
     let k = e .before .before .before in
     let d = k .before .before in
     let a = d .before .before .before .before .before .args in
-    word-served (a .octets .now) (a .self .fop) (a .store .now) (a .output .now) (w .serve .result) (d .read .result) (d .read .ensures) _ _ _
-    (e .word-event .result)
+    word-served (a .octets .now) (a .self .fop) (a .store .now) (a .output .now) (d .read .ensures)
     (k .reading .given .1) (e .word-event .ensures) (w .serve .ensures)
 
 same-length-3 : tie.Need-same-length-3
@@ -68,7 +66,7 @@ returns-2 c =
     let k = w .before .before .before in
     let d = k .before .before in
     let a = d .before .before .before .before .before .args in
-    reading-told (a .octets .now) (a .self .fop) (a .store .now) (a .output .now) (w .serve2 .result) (d .read .result) (d .read .ensures) _ _ Invalid
+    reading-told (a .octets .now) (a .self .fop) (a .store .now) (a .output .now) (d .read .ensures)
     (k .enum-told .given .1) (w .serve2 .ensures)
 
 returns-3 : tie.Need-returns-3
@@ -76,8 +74,7 @@ returns-3 c =
     let k = c .before in
     let d = k .before .before in
     let a = d .before .before .before .before .before .args in
-    reading-told (a .octets .now) (a .self .fop) (a .store .now) (a .output .now) (c .refused .result) (d .read .result) (d .read .ensures)
-    (a .store .now) (a .output .now) Address
+    reading-told (a .octets .now) (a .self .fop) (a .store .now) (a .output .now) (d .read .ensures)
     (k .enum-told2 .given .1) (c .refused .ensures, (refl, refl))
 
 returns-4 : tie.Need-returns-4
@@ -85,8 +82,7 @@ returns-4 c =
     let k = c .before in
     let d = k .before .before in
     let a = d .before .before .before .before .before .args in
-    reading-told (a .octets .now) (a .self .fop) (a .store .now) (a .output .now) (c .refused2 .result) (d .read .result) (d .read .ensures)
-    (a .store .now) (a .output .now) Length
+    reading-told (a .octets .now) (a .self .fop) (a .store .now) (a .output .now) (d .read .ensures)
     (k .enum-told3 .given .1) (c .refused2 .ensures, (refl, refl))
 
 pub control-word-spec : {M : Type 1} → statement M

@@ -15,7 +15,7 @@ returns c =
     let t = c .before in
     let d = t .before in
     let a = d .before .before .before .before .args in
-    directive-invalid (a .number) (a .value) (a .self .fop) (a .store .now) (a .output .now) (c .refused .result) (d .directive-event .result)
+    directive-invalid (a .number) (a .value) (a .self .fop) (a .store .now) (a .output .now)
     (d .directive-event .ensures) (t .if1 .taken) (c .refused .ensures)
 
 serve-requires : tie.Need-serve-requires
@@ -33,8 +33,8 @@ returns-2 c =
     let t = w .before .before .before in
     let d = t .before in
     let a = d .before .before .before .before .args in
-    directive-served (a .number) (a .value) (a .self .fop) (a .store .now) (a .output .now) (w .serve .result) (d .directive-event .result)
-    (d .directive-event .ensures) (t .if1 .left) _ _ (w .serve .ensures)
+    directive-served (a .number) (a .value) (a .self .fop) (a .store .now) (a .output .now)
+    (d .directive-event .ensures) (t .if1 .left) (w .serve .ensures)
 
 pub directive-spec : {M : Type 1} → statement M
 directive-spec =

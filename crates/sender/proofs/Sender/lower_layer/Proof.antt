@@ -21,7 +21,7 @@ returns c =
     let w = c .before .before .before .before in
     let e = w .before .before .before in
     let a = e .before .before .before .before .args in
-    lower-served (a .answer) (a .self .fop) (a .store .now) (a .output .now) (w .serve .result) (e .lower-event .result) _ _ (e .lower-event .ensures)
+    lower-served (a .answer) (a .self .fop) (a .store .now) (a .output .now) (e .lower-event .ensures)
     (w .serve .ensures)
 
 pub lower-layer-spec : {M : Type 1} → statement M

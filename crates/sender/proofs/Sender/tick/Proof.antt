@@ -25,8 +25,7 @@ returns c =
     let l = w .before .before .before in
     let e = l .before in
     let a = e .before .before .before .before .args in
-    tick-served (a .self .fop) (l .lower-timer .result) (a .store .now) (a .output .now) (w .serve .result) (e .tick-event .result) _ _
-    (e .tick-event .ensures) (l .lower-timer .ensures) (w .serve .ensures)
+    tick-served (a .self .fop) (a .store .now) (a .output .now) (e .tick-event .ensures) (l .lower-timer .ensures) (w .serve .ensures)
 
 pub tick-spec : {M : Type 1} → statement M
 tick-spec =

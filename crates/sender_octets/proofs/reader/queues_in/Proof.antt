@@ -39,8 +39,7 @@ returns c =
     let m = n .before .before .before in
     let w = m .before in
     let a = w .before .before .before .args in
-    queues-by (now (a .octets)) (w .is-set .result) (n .control-numbered .result) (m .is-set2 .result) (l .lengths-in .result) (w .is-set .ensures)
-    (n .control-numbered .ensures) (m .is-set2 .ensures) (l .lengths-in .ensures)
+    queues-by (now (a .octets)) (w .is-set .ensures) (n .control-numbered .ensures) (m .is-set2 .ensures) (l .lengths-in .ensures)
 
 pub queues-in-spec : {M : Type 1} → statement M
 queues-in-spec =

@@ -28,7 +28,7 @@ returns c =
     let p = c .before .before .before .before in
     let q = p .before in
     let a = q .before .before .args in
-    settings-by (now (a .octets)) (q .pair-at .result) (p .pair-at2 .result) (q .pair-at .ensures) (p .pair-at2 .ensures)
+    settings-by (now (a .octets)) (q .pair-at .ensures) (p .pair-at2 .ensures)
 
 pub settings-in-spec : {M : Type 1} → statement M
 settings-in-spec =

@@ -26,8 +26,7 @@ returns c =
     let g = v .before in
     let s = g .before in
     let a = s .before .before .before .args in
-    state-by (now (a .octets)) (s .state-numbered .result) (g .settings-in .result) (v .variables-in .result) (c .queues-in .result) (s .state-numbered .ensures)
-    (g .settings-in .ensures) (v .variables-in .ensures) (c .queues-in .ensures)
+    state-by (now (a .octets)) (s .state-numbered .ensures) (g .settings-in .ensures) (v .variables-in .ensures) (c .queues-in .ensures)
 
 pub state-in-spec : {M : Type 1} → statement M
 state-in-spec =

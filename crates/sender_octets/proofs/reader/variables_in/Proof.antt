@@ -39,8 +39,7 @@ returns c =
     let f = b .before in
     let t = f .before .before in
     let a = t .before .before .args in
-    variables-by (now (a .octets)) (t .pair-at .result) (f .is-set .result) (b .is-set2 .result) (d .is-set3 .result) (t .pair-at .ensures) (f .is-set .ensures)
-    (b .is-set2 .ensures) (d .is-set3 .ensures)
+    variables-by (now (a .octets)) (t .pair-at .ensures) (f .is-set .ensures) (b .is-set2 .ensures) (d .is-set3 .ensures)
 
 pub variables-in-spec : {M : Type 1} → statement M
 variables-in-spec =

@@ -41,8 +41,7 @@ returns c =
     let f = n .before in
     let s = f .before in
     let a = s .before .before .args .state in
-    numbers-by a (s .state-number .result) (f .flags-of .result) (n .control-number .result) (v .control-value .result) (s .state-number .ensures)
-    (f .flags-of .ensures) (n .control-number .ensures) (v .control-value .ensures)
+    numbers-by a (s .state-number .ensures) (f .flags-of .ensures) (n .control-number .ensures) (v .control-value .ensures)
 
 pub numbers-of-spec : {M : Type 1} → statement M
 numbers-of-spec =

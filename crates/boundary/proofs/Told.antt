@@ -1,0 +1,17 @@
+-- What a writer or a reader answered, told by numbers: they are those of the answer that its outcome has.
+use mathlib.Core.Path.{_≡_, ap, _∙_}
+use mathlib.Core.List.{List}
+use Prim.Native.Nat.{ℕ}
+use Rattle.base.specs.Outcome.{Answer, numberOf, countOf}
+use Rattle.cltu.specs.Cltu.{Found}
+use Rattle.boundary.specs.Numbers.{placeOf, correctedOf}
+
+-- a writer: its answer a is the outcome's, b, and so is the lent output; a is told
+pub told-by : {A : Type 0} {a b : Answer A} {number count : ℕ} {new old : List ℕ} → (a ≡ b) × (new ≡ old) → (number ≡ numberOf a) × (count ≡ countOf a)
+    → (number ≡ numberOf b) × ((new ≡ old) × (count ≡ countOf b))
+told-by w t = (t .0 ∙ ap numberOf (w .0), (w .1, t .1 ∙ ap countOf (w .0)))
+
+-- the reader of CLTUs: the numbers of equal answers
+pub same-reading : {a b : Answer Found} → a ≡ b
+    → (numberOf a ≡ numberOf b) × ((countOf a ≡ countOf b) × ((placeOf a ≡ placeOf b) × (correctedOf a ≡ correctedOf b)))
+same-reading e = (ap numberOf e, (ap countOf e, (ap placeOf e, ap correctedOf e)))
