@@ -5,7 +5,7 @@ use mathlib.Core.List.{List}
 use Prim.Native.Nat.{ℕ, _≤_}
 use native.Mathlib.Omega.{arith}
 use borrow.Author.Tests.{lt-ltb, le-ltb, le-leb, lt-leb, eq-eqb, ne-eqb}
-use Rattle.base.specs.Choice.{must, both}
+use Rattle.base.specs.Choice.{pick, must, both}
 use Rattle.base.specs.Flags.{bitOf}
 use Rattle.base.specs.Outcome.{Outcome, answer, after}
 
@@ -32,6 +32,13 @@ both-right false b e = absurd (apart e)
 pub both-true : (b : Bool) → both b true ≡ b
 both-true true = refl
 both-true false = refl
+
+-- a choice whose test is decided
+pub yes : {A : Type 0} (b : Bool) (x y : A) → b ≡ true → pick b x y ≡ x
+yes b x y p = rw p
+
+pub no : {A : Type 0} (b : Bool) (x y : A) → b ≡ false → pick b x y ≡ y
+no b x y p = rw p
 
 -- a test that cannot hold
 pub not-so : (b : Bool) → (b ≡ true → ⊥) → b ≡ false

@@ -23,10 +23,18 @@ pub record Location : Type 0 where
   pub first : ℕ
   pub width : ℕ
 
+-- a location by its first bit and its width
+abbrev pub at : ℕ → ℕ → Location
+at first width = record { first = first; width = width }
+
 -- a field that holds a value
 pub record Field : Type 0 where
   pub location : Location
   pub value : ℕ
+
+-- such a field by its two parts
+abbrev pub holds : Location → ℕ → Field
+holds location value = record { location = location; value = value }
 
 -- fields one behind the other
 unfoldable pub packed : List Field → List ℕ

@@ -12,12 +12,12 @@ use lib.Dec.{eqb}
 use lib.ListN.{length, getD}
 use lib.Pow.{pow-pos}
 use Rattle.base.specs.Choice.{both}
-use Rattle.base.specs.Fields.{digitsOf, valueOf, packed, octetsOf, fieldAt}
+use Rattle.base.specs.Fields.{digitsOf, valueOf, packed, octetsOf, fieldAt, at}
 use Rattle.base.proofs.Fields.{value-field, field-in-octet, field-joined}
 use Rattle.base.proofs.Tests.{bit-le}
 use Rattle.base.specs.Flags.{bitOf}
 use Rattle.clcw.specs.declared.Clcw.{Clcw}
-use Rattle.clcw.specs.Clcw.{at, controlWordType, versionNumber, statusField, copInEffect, virtualChannel, firstSpare, noRfAvailable, noBitLock, lockoutFlag, waitFlag, retransmitFlag, farmBCounter, secondSpare, reportValue, wordFields, clcwOf, isValid, wordOf}
+use Rattle.clcw.specs.Clcw.{controlWordType, versionNumber, statusField, copInEffect, virtualChannel, firstSpare, noRfAvailable, noBitLock, lockoutFlag, waitFlag, retransmitFlag, farmBCounter, secondSpare, reportValue, wordFields, clcwOf, isValid, wordOf}
 use Rattle.clcw.specs.Answers.{receivedOf}
 
 -- a flag's mask of one bit, 2 to the k

@@ -4,15 +4,11 @@ use mathlib.Core.Bool.{Bool}
 use mathlib.Core.List.{List, [], _∷_}
 use lib.Dec.{leb, eqb}
 use Rattle.base.specs.Choice.{must, both}
-use Rattle.base.specs.Fields.{Location, Field, packed, octetsOf, fieldAt}
+use Rattle.base.specs.Fields.{Location, Field, packed, octetsOf, fieldAt, at, holds}
 use Rattle.base.specs.Limits.{largestChannel}
 use Rattle.base.specs.Outcome.{Outcome, Outcome.done, Outcome.refused}
 use Rattle.base.specs.Flags.{bitOf}
 use Rattle.clcw.specs.declared.Clcw.{Clcw}
-
--- a field's location by its first bit and its length in bits
-abbrev pub at : ℕ → ℕ → Location
-at first width = record { first = first; width = width }
 
 -- Table 6-4, row by row: each field with its location and its length in bits.
 
@@ -71,10 +67,6 @@ secondSpare = at 23 1
 -- Report Value: bits 24-31
 abbrev pub reportValue : Location
 reportValue = at 24 8
-
--- a field that holds a value
-abbrev pub holds : Location → ℕ → Field
-holds location value = record { location = location; value = value }
 
 -- document 01: status, no RF and no bit lock are written zero
 unfoldable pub wordFields : Clcw → List Field

@@ -75,7 +75,7 @@ unfoldable pub informationIn : ℕ → List ℕ → List ℕ
 informationIn zero input = []
 informationIn (suc n) input = informationOf (judged (take 8 input)) ++ informationIn n (drop 8 input)
 
--- how many bits were corrected in the first n codeblocks
+-- how many of the first n codeblocks were corrected, a bit in each
 unfoldable pub correctedIn : ℕ → List ℕ → ℕ
 correctedIn zero input = 0
 correctedIn (suc n) input = correctedOf (judged (take 8 input)) + correctedIn n (drop 8 input)

@@ -29,7 +29,7 @@ errorControl information = bitXor (parity information) 0b111_1111 * 2 + fillerBi
 unfoldable pub codeblockOf : List ℕ → List ℕ
 codeblockOf information = information ++ (errorControl information ∷ [])
 
--- a received codeblock: good, with its information and how many bits were corrected, or bad
+-- a received codeblock: good, with its information and how many of its bits were corrected (at most one), or bad
 pub data Judged : Type 0 where
   good : List ℕ → ℕ → Judged
   bad : Judged

@@ -13,7 +13,7 @@ use Rattle.base.specs.Limits.{largestUnit}
 use Rattle.base.specs.Fields.{fieldAt}
 use Rattle.base.specs.Outcome.{Outcome, Outcome.done}
 use Rattle.base.specs.Outcome as outcome
-use Rattle.base.proofs.Tests.{both-left, both-right}
+use Rattle.base.proofs.Tests.{both-left, both-right, yes, no}
 use Rattle.base.proofs.Computed.{is-true}
 use Rattle.base.proofs.Lists.{octets-at}
 use Rattle.fop_actions.proofs.SentQueue.{without-none}
@@ -35,7 +35,6 @@ use Rattle.fop_actions.specs.declared.Sender.{Sender}
 use Rattle.fop_actions.specs.declared.Work.{Work}
 use Rattle.fop_actions.specs.Start.{begun, noneTold, senderOf}
 use Rattle.fop_actions.specs.View.{unitAt, fopOf, without}
-use Rattle.fop_actions.proofs.Ways.{yes, no}
 use Rattle.fop_rows.specs.Rows.{eventOf, rowIf, rowOf, rowNumbered}
 use Rattle.fop_events.specs.Events.{eventNumber, variablesOf, expiryNumber, adNumber, bdNumber, lowerNumber, directiveNumber, wordNumber, told}
 use Rattle.fop_view.specs.State.{Good}

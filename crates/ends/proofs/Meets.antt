@@ -9,7 +9,7 @@ use native.Mathlib.Omega.{arith}
 use borrow.Author.Tests.{ltb-true, ltb-false, eqb-false, eq-eqb, not-true}
 use lib.Dec.{T, leb, ltb, eqb, leb→le, eqb→eq}
 use Rattle.base.specs.Modulo.{offset}
-use Rattle.base.proofs.Tests.{apart}
+use Rattle.base.proofs.Tests.{apart, yes, no}
 use Rattle.base.proofs.Computed.{is-true}
 use Rattle.fop.specs.Limits.{largestK, largestTransmissionLimit, largestTimer, largestNumber}
 use Rattle.fop.specs.Units.{Word}
@@ -17,7 +17,6 @@ use Rattle.fop.specs.Table.{FopEvent, E18, E25, E26, E27, E28, E39, E40, E103}
 use Rattle.fop.specs.Events.{Line, when, first, seen, wordLines, wordEvent, expiryLines, validDirective, directiveLines, directiveEvent}
 use Rattle.fop_actions.specs.declared.Sender.{Sender}
 use Rattle.fop_actions.specs.Start.{begun}
-use Rattle.fop_actions.proofs.Ways.{yes, no}
 use Rattle.fop_events.specs.Events.{eventNumber, variablesOf}
 use Rattle.fop_view.specs.Rows.{acknowledging, Needed, Meets}
 use Rattle.session.proofs.Choices.{by-pick, and-l, and-r, upto, _also_}

@@ -9,6 +9,7 @@ use lib.Dec.{eqb}
 use lib.ListN.{length, set}
 use Rattle.base.specs.Choice.{pick}
 use Rattle.base.specs.Limits.{largestUnit}
+use Rattle.base.proofs.Tests.{yes}
 use Rattle.memory.specs.Placed.{placed}
 use Rattle.fop_actions.proofs.SentQueue.{without-none}
 use Rattle.fop.specs.Units.{Own}
@@ -26,7 +27,6 @@ use Rattle.fop_actions.specs.Parts.{withVariables, withTold}
 use Rattle.fop_actions.specs.Limits.{places}
 use Rattle.fop_actions.specs.Start.{begun, noneTold, senderOf}
 use Rattle.fop_actions.specs.View.{stateOf, unitAt, fopOf, without}
-use Rattle.fop_actions.proofs.Ways.{yes}
 use Rattle.fop_actions.proofs.ViewWaiting.{unit-same, unit-there}
 use Rattle.fop_rows.specs.Rows.{inMain, done, doneAll, doneCell, rowOf}
 use Rattle.fop_events.specs.Events.{eventNumber}

@@ -6,6 +6,7 @@ use mathlib.Core.Bool.{Bool, true, false, true≢false}
 use mathlib.Core.List.{List, []}
 use native.Mathlib.Omega.{arith}
 use lib.Dec.{eqb}
+use Rattle.base.proofs.Tests.{no}
 use Rattle.store.specs.Slid.{slid}
 use Rattle.fop.specs.Units.{Own, Unlock}
 use Rattle.fop.specs.Table.{FopEvent}
@@ -20,7 +21,6 @@ use Rattle.fop_actions.specs.Limits.{places}
 use Rattle.fop_actions.specs.Start.{begun, senderOf}
 use Rattle.fop_actions.specs.View.{unitAt, fopOf, without}
 use Rattle.fop_actions.proofs.SentQueue.{unit-slid}
-use Rattle.fop_actions.proofs.Ways.{no}
 use Rattle.fop_rows.specs.Rows.{rowOf}
 use Rattle.fop_events.specs.Events.{eventNumber}
 use Rattle.fop_view.specs.State.{Good, held}

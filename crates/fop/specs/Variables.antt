@@ -208,7 +208,7 @@ pub data Response : Type 0 where
   acceptDirective rejectDirective confirmDirective denyDirective : Response
 
 -- the event of table 7-8, the unit and the value that it carries (N(R), or a directive's), and what is answered so far: the frames handed
--- down (proofs/Few: at most one), the units confirmed and denied, the responses in their order, an Abort request to the lower procedures,
+-- down (session, proofs/Few: at most one), the units confirmed and denied, the responses in their order, an Abort request to the lower procedures,
 -- an Alert notification with its reason, a Suspend notification
 pub record Work : Type 0 where
   pub fop : Fop

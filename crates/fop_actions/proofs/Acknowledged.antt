@@ -10,13 +10,13 @@ use lib.ListN.{take, drop}
 use lib.Seq.{take-nil, drop-nil}
 use Rattle.base.specs.Choice.{pick}
 use Rattle.base.specs.Modulo.{advanced, offset}
+use Rattle.base.proofs.Tests.{yes, no}
 use Rattle.fop.specs.Limits.{largestK}
 use Rattle.fop.specs.Units.{Fdu}
 use Rattle.fop.specs.Variables.{Entry}
 use Rattle.fop.specs.Machine.{fdus, isAcknowledged, acknowledged, unacknowledged}
 use Rattle.fop_actions.specs.Actions.{least}
 use Rattle.fop_actions.specs.View.{entryAt, entriesFrom}
-use Rattle.fop_actions.proofs.Ways.{yes, no}
 use Rattle.fop_actions.proofs.Offsets.{offset-add, offset-of-offset, offset-between}
 
 -- Which are acknowledged: those before place g.

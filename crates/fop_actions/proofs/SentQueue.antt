@@ -12,6 +12,7 @@ use lib.Dec.{leb, leb·zero}
 use lib.ListN.{length, take, drop, getD}
 use Rattle.base.specs.Limits.{largestUnit}
 use Rattle.base.specs.Modulo.{advanced}
+use Rattle.base.proofs.Tests.{yes, no}
 use Rattle.store.specs.Slid.{slid}
 use Rattle.store.proofs.Parts.{slid-at}
 use Rattle.store.proofs.Within.{within-none, within-part}
@@ -19,7 +20,6 @@ use Rattle.fop.specs.Variables.{Entry}
 use Rattle.fop.specs.Machine.{markAll, unmark, firstMarked}
 use Rattle.fop_actions.specs.Limits.{places}
 use Rattle.fop_actions.specs.View.{unitAt, entryAt, entriesFrom, without}
-use Rattle.fop_actions.proofs.Ways.{yes, no}
 use Rattle.fop_actions.proofs.Offsets.{mod-add, leb-minus}
 
 -- n entries from place i, of which those before place p are unmarked

@@ -3,6 +3,7 @@ use Prim.Native.Nat.{ℕ, suc, _+_, _≤_}
 use mathlib.Core.Path.{_≡_, sym, ap, _∙_}
 use mathlib.Core.List.{List, [], _∷_, _++_, map, map-append}
 use mathlib.Core.Option.{Option}
+use Rattle.base.proofs.Tests.{yes}
 use Rattle.fop.specs.Units.{Fdu, Frame}
 use Rattle.fop.specs.Table as table
 use Rattle.fop.specs.Table.{FopEvent}
@@ -23,7 +24,6 @@ use Rattle.fop_actions.specs.Parts.{withTold}
 use Rattle.fop_actions.specs.Actions as act
 use Rattle.fop_actions.specs.Actions.{responseNumber, responsesWith}
 use Rattle.fop_actions.specs.View.{fopOf, framesOf, responseOf, responsesOf, reasonOf, view}
-use Rattle.fop_actions.proofs.Ways.{yes}
 
 -- the work with these variables, frames and responses
 abbrev pub seen : Option FopEvent → List ℕ → ℕ → List Fdu → List Fdu → Work → machine.Fop → List Frame → List machine.Response → machine.Work

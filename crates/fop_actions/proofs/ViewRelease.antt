@@ -7,6 +7,7 @@ use mathlib.Core.Option.{Option, none, some}
 use Prim.Native.Nat.{ℕ}
 use native.Mathlib.Omega.{arith}
 use Rattle.base.specs.Choice.{pick}
+use Rattle.base.proofs.Tests.{yes, no}
 use Rattle.fop.specs.Units.{Fdu}
 use Rattle.fop.specs.Table as table
 use Rattle.fop.specs.Table.{FopEvent}
@@ -21,7 +22,6 @@ use Rattle.fop_actions.specs.declared.Work.{Work}
 use Rattle.fop_actions.specs.Parts.{withVariables, withQueues, withTold}
 use Rattle.fop_actions.specs.Actions as act
 use Rattle.fop_actions.specs.View.{unitAt, entriesOf, waitOf, bcOf, fopOf, reasonOf, view}
-use Rattle.fop_actions.proofs.Ways.{yes, no}
 use Rattle.fop_actions.proofs.ViewAnswers.{Room, room-more, respond}
 
 -- Purging both queues, with room for two responses.

@@ -9,6 +9,7 @@ use lib.Dec.{eqb}
 use lib.ListN.{length, take}
 use Rattle.base.specs.Choice.{pick}
 use Rattle.base.specs.Modulo.{advanced, offset}
+use Rattle.base.proofs.Tests.{no}
 use Rattle.fop.specs.Answers.{runOf}
 use Rattle.fop.specs.Variables.{Entry}
 use Rattle.fop.specs.Machine.{fdus}
@@ -21,7 +22,6 @@ use Rattle.fop_actions.specs.Parts.{withVariables, withQueues, withTold}
 use Rattle.fop_actions.specs.Actions as act
 use Rattle.fop_actions.specs.Actions.{runFrom, staying}
 use Rattle.fop_actions.specs.View.{entryAt, entriesFrom, entriesOf, runTold, WellFormed}
-use Rattle.fop_actions.proofs.Ways.{no}
 use Rattle.fop_actions.proofs.ViewRemoval.{gone-is}
 
 taken-length : (lengths store : List ℕ) (f p i n g : ℕ) → g ≤ n → length (fdus (take g (entriesFrom lengths store f p i n))) ≡ g

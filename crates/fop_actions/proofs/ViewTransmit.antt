@@ -10,6 +10,7 @@ use borrow.Author.Tests.{ltb-true, ltb-false, lt-leb, ne-eqb}
 use lib.Dec.{ltb, leb, eqb}
 use Rattle.base.specs.Choice.{pick}
 use Rattle.base.specs.Modulo.{advanced, offset}
+use Rattle.base.proofs.Tests.{yes, no}
 use Rattle.fop.specs.Limits.{largestK}
 use Rattle.fop.specs.Units.{Fdu, Frame, AD, BD, Unlock, SetVR}
 use Rattle.fop.specs.Table as table
@@ -26,7 +27,6 @@ use Rattle.fop_actions.specs.declared.Work.{Work}
 use Rattle.fop_actions.specs.Parts.{withVariables, withQueues, withTold}
 use Rattle.fop_actions.specs.Actions as act
 use Rattle.fop_actions.specs.View.{unitAt, entryAt, entriesFrom, entriesOf, waitOf, bcOf, fopOf, framesOf, responsesOf, reasonOf, view, WellFormed}
-use Rattle.fop_actions.proofs.Ways.{yes, no}
 use Rattle.fop_actions.proofs.Offsets.{offset-ge, offset-add, offset-up, back-and-on}
 use Rattle.fop_actions.proofs.SentQueue.{mark-all, unmarked, unmark-first, first-marked, none-marked, one-more}
 use Rattle.fop_actions.proofs.ViewAnswers.{seen, Room, more-responses}

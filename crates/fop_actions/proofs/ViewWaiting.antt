@@ -12,6 +12,7 @@ use lib.Seq.{drop-append-le, take-append-le, length-take-le, drop-append-seam, t
 use Rattle.base.specs.Choice.{pick}
 use Rattle.base.specs.Limits.{largestUnit}
 use Rattle.base.specs.Modulo.{advanced, offset}
+use Rattle.base.proofs.Tests.{yes}
 use Rattle.memory.specs.Placed.{placed}
 use Rattle.memory.proofs.Laws.{placed-fits}
 use Rattle.fop.specs.Units.{Fdu, Frame}
@@ -27,7 +28,6 @@ use Rattle.fop_actions.specs.Parts.{withQueues}
 use Rattle.fop_actions.specs.Actions as act
 use Rattle.fop_actions.specs.Limits.{places}
 use Rattle.fop_actions.specs.View.{unitAt, entryAt, entriesFrom, entriesOf, fopOf, framesOf, responsesOf, view, WellFormed}
-use Rattle.fop_actions.proofs.Ways.{yes}
 use Rattle.fop_actions.proofs.ViewAnswers.{seen}
 
 -- a part before place a, whatever stands from a on

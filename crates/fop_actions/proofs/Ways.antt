@@ -4,19 +4,13 @@ use mathlib.Core.Bool.{Bool, true, false}
 use Prim.Native.Nat.{_≤_, _<_}
 use borrow.Author.Tests.{lt-ltb, le-ltb}
 use Rattle.base.specs.Choice.{pick}
+use Rattle.base.proofs.Tests.{yes, no}
 use Rattle.fop_actions.specs.declared.Work.{Work}
 use Rattle.fop_actions.specs.declared.Handed.{Handed}
 use Rattle.fop_actions.specs.declared.Control.{Control}
 use Rattle.fop_actions.specs.declared.Control.the-variants.{None}
 use Rattle.fop_actions.specs.declared.Response.the-variants.{AcceptAdUnit, RejectAdUnit}
 use Rattle.fop_actions.specs.Actions.{respond, sendMarked, inWindow, transmitAdFrame, lookForFdu, sendControl, sendMarkedControl, lookForDirectiveOf, lookForDirective, denyControl, notWaiting, purgeWaitQueue}
-
--- a choice whose test is decided
-pub yes : {A : Type 0} (b : Bool) (x y : A) → b ≡ true → pick b x y ≡ x
-yes b x y p = rw p
-
-pub no : {A : Type 0} (b : Bool) (x y : A) → b ≡ false → pick b x y ≡ y
-no b x y p = rw p
 
 module _ (w : Work) where
   pub look-not-ready : w .variables .«ad_out» ≡ false → w ≡ lookForFdu w

@@ -7,8 +7,11 @@ pub mod transmit;
 pub mod units;
 pub mod values;
 
-// Document 01, "Limits": the sent units of the largest K, and the unit waiting. The store has a place for each.
-pub const PLACES: usize = 33;
+// Document 01, "Limits": the largest sender window K.
+pub const LARGEST_K: u8 = 32;
+
+// The sent units of the largest K, and the unit waiting. The store has a place for each.
+pub const PLACES: usize = LARGEST_K as usize + 1;
 
 // The responses that one event can give at the most.
 pub const LARGEST_RESPONSES: usize = 4;

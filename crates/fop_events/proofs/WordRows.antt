@@ -7,11 +7,11 @@ use lib.Dec.{ltb, eqb}
 use borrow.Author.Tests.{lt-ltb, le-ltb, eq-eqb, ne-eqb}
 use Rattle.base.specs.Choice.{pick}
 use Rattle.base.specs.Modulo.{offset}
+use Rattle.base.proofs.Tests.{yes, no}
 use Rattle.clcw.specs.declared.Clcw.{Clcw}
 use Rattle.fop.specs.Events.{wordEvent}
 use Rattle.fop_actions.specs.declared.Sender.{Sender}
 use Rattle.fop_actions.specs.Start.{begun}
-use Rattle.fop_actions.proofs.Ways.{yes, no}
 use Rattle.fop_events.specs.Events.{eventNumber, wordNumber}
 use Rattle.fop_events.specs.Rows.{allAcknowledged, someAcknowledged, noneAcknowledged, retransmissionAsked}
 

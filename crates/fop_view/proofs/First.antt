@@ -12,6 +12,7 @@ use lib.Seq.{getD-set-same, getD-set-other, length-take-le}
 use Rattle.base.specs.Choice.{pick}
 use Rattle.base.specs.Limits.{largestUnit}
 use Rattle.base.specs.Modulo.{offset}
+use Rattle.base.proofs.Tests.{yes}
 use Rattle.memory.specs.Placed.{placed}
 use Rattle.memory.proofs.Laws.{placed-fits}
 use Rattle.store.specs.Slid.{slid}
@@ -28,7 +29,6 @@ use Rattle.fop_actions.specs.Actions as act
 use Rattle.fop_actions.specs.Actions.{staying, removed}
 use Rattle.fop_actions.specs.Start.{begun, noneTold}
 use Rattle.fop_actions.specs.View.{entriesOf, without}
-use Rattle.fop_actions.proofs.Ways.{yes}
 use Rattle.fop_actions.proofs.Kept as well
 use Rattle.fop_actions.proofs.ViewRemoval as removal
 use Rattle.fop_actions.proofs.ViewRemoval.{gone-is, least-first}

@@ -1,11 +1,7 @@
 -- Clause 6.2.2: the Transfer Frame Primary Header, its eight fields at their locations.
 use Prim.Native.Nat.{ℕ, _-_}
 use mathlib.Core.List.{List, [], _∷_}
-use Rattle.base.specs.Fields.{Location, Field, packed, octetsOf}
-
--- a field's location by its first bit and its length in bits
-abbrev pub at : ℕ → ℕ → Location
-at first width = record { first = first; width = width }
+use Rattle.base.specs.Fields.{Location, Field, packed, octetsOf, at, holds}
 
 -- 6.2.2.2 Transfer Frame Version Number: bits 0-1
 abbrev pub version : Location
@@ -38,10 +34,6 @@ frameLength = at 22 10
 -- 6.2.2.9 Frame Sequence Number: bits 32-39
 abbrev pub frameSequenceNumber : Location
 frameSequenceNumber = at 32 8
-
--- a field that holds a value
-abbrev pub holds : Location → ℕ → Field
-holds location value = record { location = location; value = value }
 
 -- clause 6.2.2.1: the eight fields, positioned contiguously, of a frame of so many octets
 unfoldable pub headerFields : ℕ → ℕ → ℕ → ℕ → ℕ → ℕ → List Field

@@ -10,6 +10,7 @@ use lib.Dec.{leb}
 use Rattle.base.specs.Choice.{pick, must, both}
 use Rattle.base.specs.Outcome.{answer, after}
 use Rattle.base.specs.Limits.{largestUnit}
+use Rattle.base.proofs.Tests.{yes, no}
 use Rattle.memory.specs.Placed.{placed}
 use Rattle.frame.specs.Answers.{writtenAnswer}
 use Rattle.frame.specs.declared.writer.Written.{Written}
@@ -22,7 +23,6 @@ use Rattle.fop_actions.specs.declared.Sender.{Sender as State}
 use Rattle.fop_actions.specs.declared.Work.{Work}
 use Rattle.fop_actions.specs.Start.{begun}
 use Rattle.fop_actions.specs.View.{unitAt, without}
-use Rattle.fop_actions.proofs.Ways.{yes, no}
 use Rattle.fop_rows.specs.Rows.{rowNumbered, inMain}
 use Rattle.fop_events.specs.declared.Lower.{Lower}
 use Rattle.fop_events.specs.Events.{wordNumber, directiveNumber, lowerNumber, adNumber, bdNumber}

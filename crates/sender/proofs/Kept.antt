@@ -11,13 +11,13 @@ use Rattle.base.specs.Choice.{both}
 use Rattle.base.specs.Limits.{largestUnit}
 use Rattle.base.specs.Modulo.{offset}
 use Rattle.base.proofs.Lists.{next}
+use Rattle.base.proofs.Tests.{yes, no}
 use Rattle.fop.specs.Limits.{largestK}
 use Rattle.fop_actions.specs.declared.State.{State as FopState}
 use Rattle.fop_actions.specs.declared.State.the-variants as state
 use Rattle.fop_actions.specs.declared.Variables.{Variables}
 use Rattle.fop_actions.specs.declared.Queues.{Queues}
 use Rattle.fop_actions.specs.declared.Sender.{Sender as State}
-use Rattle.fop_actions.proofs.Ways.{yes, no}
 use Rattle.fop_rows.specs.Rows.{isFrame}
 use Rattle.sender.specs.declared.Start.{Start}
 use Rattle.sender.specs.Start.{refusedStart}

@@ -3,11 +3,11 @@ use mathlib.Core.Path.{_≡_, sym, ap, _∙_}
 use Prim.Native.Nat.{ℕ, _-_}
 use native.Mathlib.Omega.{arith}
 use borrow.Author.Tests.{eq-eqb, ne-eqb}
+use Rattle.base.proofs.Tests.{yes, no}
 use Rattle.fop_actions.specs.declared.Sender.{Sender as State}
 use Rattle.fop_actions.specs.Parts.{clocked}
 use Rattle.fop_events.specs.Events.{expiryNumber}
 use Rattle.sender.specs.Events.{ticked, tickNumber}
-use Rattle.fop_actions.proofs.Ways.{yes, no}
 
 module _ (s : State) where
   -- the state with the timer's ticks left given

@@ -20,6 +20,7 @@ use base::LARGEST_UNIT;
 use clcw::Clcw;
 use clcw::Reading;
 use fop_actions::Alert;
+use fop_actions::LARGEST_K;
 use fop_actions::PLACES;
 use fop_actions::Responses;
 use fop_actions::Run;
@@ -55,9 +56,6 @@ ghost use Rattle.sender.specs.Events.{handedWriting, unitOffered, served
 
 // Document 01: 32 units of 249 octets sent and one waiting.
 pub const SMALLEST_STORE: usize = LARGEST_UNIT * PLACES;
-
-// Document 01, "Limits": the largest sender window K.
-const LARGEST_K: u8 = 32;
 
 // The sender's state. No other crate can write one: a start gives one, and each answer the next.
 pub struct Sender {

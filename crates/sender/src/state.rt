@@ -1,9 +1,9 @@
 // The well-formed states of the sender, tested: a state that was kept over a reset is told from one that no sender has.
-use crate::LARGEST_K;
 use base::LARGEST_CHANNEL;
 use base::LARGEST_SPACECRAFT;
 use base::LARGEST_UNIT;
 use fop_actions::Control;
+use fop_actions::LARGEST_K;
 use fop_actions::PLACES;
 use fop_actions::Queues;
 use fop_actions::Sender;

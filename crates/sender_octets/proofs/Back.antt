@@ -8,10 +8,9 @@ use lib.Dec.{eqb}
 use lib.ListN.{length}
 use Rattle.base.specs.Choice.{both}
 use Rattle.base.specs.Octets.{same}
-use Rattle.base.proofs.Tests.{both-left}
+use Rattle.base.proofs.Tests.{both-left, no, bit-le}
 use Rattle.base.proofs.Lists.{same-equal, same-self}
 use Rattle.base.specs.Flags.{bitOf, isSet}
-use Rattle.fop_actions.proofs.Ways.{no}
 use Rattle.fop_actions.specs.Limits.{places}
 use Rattle.fop_actions.specs.declared.State.{State as FopState}
 use Rattle.fop_actions.specs.declared.State.the-variants as state
@@ -43,10 +42,6 @@ control-back control.Unlock = refl
 control-back (control.SetVr value) = refl
 
 -- a flag is read back: the bit of its weight is its bit
-truth-le : (b : Bool) → bitOf b ≤ 1
-truth-le true = omega arith
-truth-le false = omega arith
-
 flag-back : (n : ℕ) (b : Bool) → n ≡ bitOf b → eqb n 1 ≡ b
 flag-back n true e = ap (λ (x : ℕ). eqb x 1) e
 flag-back n false e = ap (λ (x : ℕ). eqb x 1) e
@@ -59,11 +54,11 @@ flags-back : (a b c d e : Bool)
     → (a ≡ isSet (weighed a b c d e) 1) × (b ≡ isSet (weighed a b c d e) 2) × (c ≡ isSet (weighed a b c d e) 4) × (d ≡ isSet (weighed a b c d e) 8) × (e ≡ isSet (weighed a b c d e) 16)
 flags-back a b c d e =
     let n = weighed a b c d e in
-    let ha = truth-le a in
-    let hb = truth-le b in
-    let hc = truth-le c in
-    let hd = truth-le d in
-    let he = truth-le e in (
+    let ha = bit-le a in
+    let hb = bit-le b in
+    let hc = bit-le c in
+    let hd = bit-le d in
+    let he = bit-le e in (
       sym (flag-back (n / 1 % 2) a (omega arith)),
       sym (flag-back (n / 2 % 2) b (omega arith)),
       sym (flag-back (n / 4 % 2) c (omega arith)),

@@ -8,7 +8,7 @@ use lib.ListN.{length}
 use Rattle.base.specs.Choice.{pick, both}
 use Rattle.base.specs.Octets.{same}
 use Rattle.base.proofs.Lists.{same-length-not}
-use Rattle.fop_actions.proofs.Ways.{no}
+use Rattle.base.proofs.Tests.{no}
 use Rattle.fop_actions.specs.Limits.{places}
 use Rattle.fop_actions.specs.declared.Sender.{Sender as State}
 use Rattle.sender.specs.State.{wellFormed, restoredOf}

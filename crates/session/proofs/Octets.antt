@@ -11,6 +11,7 @@ use borrow.Author.Tests.{leb-true, ltb-true, lt-ltb}
 use Rattle.base.specs.Choice.{pick}
 use Rattle.base.specs.Octets.{Octets}
 use Rattle.base.specs.Flags.{bitOf}
+use Rattle.base.proofs.Tests.{bit-le}
 use Rattle.fop.specs.Units.{Fdu, Frame, AD, BD, Word, valid, Own, areOctets, legal, written, wordOctets, readWord, heard}
 use Rattle.frame.specs.Frame.{frameOf, dataOf}
 use Rattle.frame.specs.Answers.{readingOf, partOf}
@@ -105,14 +106,10 @@ module _ (own : Own) (sc : own .spacecraft ≤ 1023) (ch : own .channel ≤ 63) 
   clcw w =
       record { channel = own .channel; lockout = w .lockout; wait = w .wait; retransmit = w .retransmit; counter = w .counter; report = w .nr }
 
-  bit-small : (b : Bool) → bitOf b ≤ 1
-  bit-small true = omega arith
-  bit-small false = omega arith
-
   word-octets : (w : Word) → w .counter ≤ 3 → w .nr < 256 → areOctets (clcwOf (clcw w)) ≡ true
   word-octets w c b =
       let flags : ℕ = bitOf (w .lockout) * 0x20 + bitOf (w .wait) * 0x10 + bitOf (w .retransmit) * 0x08 + w .counter * 2 in
-      let small : flags < 256 = omega (arith, bit-small (w .lockout), bit-small (w .wait), bit-small (w .retransmit), c) in
+      let small : flags < 256 = omega (arith, bit-le (w .lockout), bit-le (w .wait), bit-le (w .retransmit), c) in
       ap areOctets (word.octets-are (clcw w) ch c b)
       ∙ ap (λ (t : Bool). t && (ltb flags 256 && (ltb (w .nr) 256 && true))) (lt-ltb (own .channel * 4) 256 (omega (arith, ch)))
       ∙ ap (λ (t : Bool). t && (ltb (w .nr) 256 && true)) (lt-ltb flags 256 small)

@@ -2,7 +2,7 @@
 use borrow.Author.Needs.{needs}
 use mathlib.Core.Path.{sym, _∙_}
 use native.Mathlib.Numerals.{add-one}
-use Rattle.fop_actions.proofs.Ways.{yes}
+use Rattle.base.proofs.Tests.{yes}
 use Rattle.sender.proofs.state.units_held.Statement.{statement}
 use Rattle.sender.proofs.state.units_held.Tie as tie
 
