@@ -288,8 +288,8 @@ uint8_t receiver_word(const uint8_t *state, size_t state_len, uint8_t *output, s
  * Every call but sender_new wants exactly 88 octets of a state, otherwise 12.
  *
  * The store, at least 8,217 octets, holds the units at a stride of 249 octets: those on the sent queue, the oldest first, and directly
- * behind them the unit that waits. It is part of the state: lend the same one at every call, write nothing into it, and keep it with
- * the state's octets over a reset.
+ * behind them the unit that waits. It is part of the state: lend the same one at every call, write nothing into its first 8,217 octets,
+ * and keep these with the state's octets over a reset. Octets that are lent behind them are never touched.
  */
 enum pondreszi_sender_octet {
     PONDRESZI_SENDER_STATE = 2,

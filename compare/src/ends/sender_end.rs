@@ -4,7 +4,7 @@ use super::{compare_numbers, compare_octets};
 use crate::library::{self, SenderEvent, SenderMemory, SenderSettings};
 use crate::octets::{self, no_sender_state, SenderState, ANSWER, SENDER_STATE};
 use crate::random::Random;
-use independent::fop1::{self, Answer, Sender};
+use independent::fop1::{self, Answer, Sender, STORE};
 use independent::refusal::{DONE, ROOM, SETTING};
 
 /// Between the events.
@@ -157,7 +157,7 @@ impl Call {
         compare_octets("output", &after.output, &output, &mut differences);
         if expected.number == DONE {
             compare_state(sender, &after.state, &before.state, &mut differences);
-            compare_store(sender, &after.store, &mut differences);
+            compare_store(sender, &before.store, &after.store, &mut differences);
         } else {
             compare_octets("state", &after.state, &before.state, &mut differences);
             compare_octets("store", &after.store, &before.store, &mut differences);
@@ -207,9 +207,11 @@ fn compare_state(sender: &Sender, after: &[u8], before: &[u8], differences: &mut
     }
 }
 
-/// The units at their places; what else is lent is free.
-fn compare_store(sender: &Sender, after: &[u8], differences: &mut Vec<String>) {
+/// The units at their places, and what is lent behind the last place as it was. What a place holds besides its unit
+/// is free.
+fn compare_store(sender: &Sender, before: &[u8], after: &[u8], differences: &mut Vec<String>) {
     let mut expected = after.to_vec();
     octets::put_stored(sender, &mut expected);
+    expected[STORE..].copy_from_slice(&before[STORE..]);
     compare_octets("store", after, &expected, differences);
 }

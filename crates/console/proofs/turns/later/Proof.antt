@@ -35,7 +35,7 @@ later-spec =
     (λ c κs. search needs)
     (λ c. search needs)
     (λ c κs. search needs)
-    (λ c. later-told _ _ _ _ (c .before .enum-told .given .1) (c .refused .ensures))
+    (λ c. later-told (c .before .before .before .args .receiver) _ _ _ (c .before .enum-told .given .1) (c .refused .ensures))
     (λ c. search laters)
     (λ c. search laters)
     (λ c. search laters)
