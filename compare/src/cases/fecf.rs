@@ -17,10 +17,12 @@ pub const FECF: Operation = Operation {
     random: fecf_random,
 };
 
-/// Document 01, Frame: two octets 00 00. Clause 6.2.4.2: L(X) alone where n is 16.
+/// Document 01, Frame: two octets 00 00. Clause 6.2.4.2: L(X) alone where n is 16. Published in catalogues of cyclic codes for
+/// this generator and preset: the check value of the digits 1 to 9.
 fn fecf_fixed(tally: &mut Tally, fault: Fault) {
     compare(&[0, 0], Some(TwoOctets(0x1D0F)), tally, fault);
     compare(&[], Some(TwoOctets(0xFFFF)), tally, fault);
+    compare(b"123456789", Some(TwoOctets(0x29B1)), tally, fault);
     for octet in 0..=255 {
         compare(&[octet], None, tally, fault);
     }

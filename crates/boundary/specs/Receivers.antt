@@ -6,10 +6,9 @@ use lib.ListN.{length, drop}
 use Rattle.base.specs.Choice.{must}
 use Rattle.base.specs.Outcome as outcome
 use Rattle.clcw.specs.Clcw.{writing}
+use Rattle.farm.specs.Table.{eventNumber}
 use Rattle.farm.specs.Kept.{stateOctets, octetsOf, receiverIn, isState}
 use Rattle.farm.specs.Receiver.{startOf, startNumber, receiveOf, unitPart, releaseOf, releasedNumber, wordOf}
-use Rattle.farm.specs.declared.Event.{Event}
-use Rattle.farm.specs.declared.Event.the-variants as event
 use Rattle.farm.specs.declared.Received.{Received}
 use Rattle.farm.specs.declared.Unit.{Unit as AcceptedUnit}
 use Rattle.farm.specs.declared.Unit.the-variants as unit
@@ -17,20 +16,6 @@ use Rattle.farm.specs.declared.Start.{Start}
 use Rattle.farm.specs.declared.Start.the-variants as start
 use Rattle.farm.specs.declared.Released.{Released}
 use Rattle.farm.specs.declared.Released.the-variants as released
-
--- the events of table 7-9 by number
-abbrev pub eventNumber : Event → ℕ
-eventNumber event.E1 = 1
-eventNumber event.E2 = 2
-eventNumber event.E3 = 3
-eventNumber event.E4 = 4
-eventNumber event.E5 = 5
-eventNumber event.E6 = 6
-eventNumber event.E7 = 7
-eventNumber event.E8 = 8
-eventNumber event.E9 = 9
-eventNumber event.E10 = 10
-eventNumber event.E11 = 11
 
 -- the unit accepted: 0 none, 1 AD, 2 BD
 abbrev pub unitNumber : AcceptedUnit → ℕ

@@ -16,7 +16,8 @@ ghost use Rattle.frame.specs.Frame.{totalOf, dataField};
 ghost use Rattle.farm.specs.Kept.{octetsOf};
 ghost use Rattle.farm.specs.Receiver.{partFor};
 ghost use Rattle.farm.specs.declared.Unit.the-variants.{None};
-ghost use Rattle.boundary.specs.Receivers.{eventNumber, unitNumber, unitPlace, newCall, frameCall, releaseCall, wordCall};
+ghost use Rattle.farm.specs.Table.{eventNumber};
+ghost use Rattle.boundary.specs.Receivers.{unitNumber, unitPlace, newCall, frameCall, releaseCall, wordCall};
 
 // An event of table 7-9 by its number.
 fn event_number(event: Event) -> u8

@@ -1,6 +1,6 @@
 -- Theorems on the definitions: every word built reads back on its own channel (`word-back`) and is refused by every other
--- (`other-channel`); every list of octets gets one of four readings, each by its own condition (`reading-cases`); and table
--- 6-4's fields stand one behind the other, from bit 0 to bit 31 (`layout`).
+-- (`other-channel`); every list of octets gets one of four readings, each by its own condition (`reading-cases`), and none is a
+-- word of a channel beyond the limit (`own-beyond`); and table 6-4's fields stand one behind the other, from bit 0 to bit 31 (`layout`).
 use mathlib.Core.Path.{_≡_, refl, sym, ap, _∙_}
 use mathlib.Core.Bool.{Bool, true, false}
 use mathlib.Core.List.{List}
@@ -11,11 +11,15 @@ use lib.Dec.{eqb}
 use lib.ListN.{length, take, drop}
 use Rattle.base.specs.Fields.{Location, digitsOf, valueOf, packed, fieldAt, contiguous}
 use Rattle.base.proofs.Fields.{value-field, bits-packed, bits-octets, length-octets}
+use Rattle.base.proofs.Lists.{octets-at}
 use Rattle.base.specs.Flags.{bitOf}
+use Rattle.base.specs.Octets.{Octets}
 use Rattle.clcw.specs.declared.Clcw.{Clcw}
+use Rattle.clcw.specs.declared.Reading.{Reading}
 use Rattle.clcw.specs.declared.Reading.the-variants.{Word, Invalid, Address, Length as NotFour}
 use Rattle.clcw.specs.Clcw.{statusField, virtualChannel, noRfAvailable, noBitLock, lockoutFlag, waitFlag, retransmitFlag, farmBCounter, reportValue, wordFields, clcwOf, isValid, wordOf}
 use Rattle.clcw.specs.Answers.{receivedOf, readingOf}
+use Rattle.clcw.proofs.Word.{channel-is}
 use Rattle.clcw.proofs.Outcomes.{reading-length, reading-invalid, reading-address, reading-word}
 
 -- a flag is its bit
@@ -90,6 +94,23 @@ module _ (octets : List ℕ) (channel : ℕ) where
 
   pub reading-cases : Case octets channel
   reading-cases = at-length (eqb (length octets) 4) refl
+
+abbrev isWord : Reading → Bool
+isWord (Word received) = true
+isWord Invalid = false
+isWord Address = false
+isWord NotFour = false
+
+-- "an own address beyond these matches no frame or word"
+pub own-beyond : (octets : List ℕ) (channel : ℕ) → Octets octets → 63 < channel → isWord (readingOf octets channel) ≡ false
+own-beyond octets channel h beyond = by (reading-cases octets channel)
+  where
+    by : Case octets channel → isWord (readingOf octets channel) ≡ false
+    by (not-four n e) = ap isWord e
+    by (invalid four v e) = ap isWord e
+    by (address four v c e) = ap isWord e
+    by (ours four v c e) =
+        absurd (omega (arith, channel-is octets four (octets-at octets h), octets-at octets h 1, c))
 
 -- the fields stand contiguously, and the last ends with bit 31 (6.3.2.1)
 pub layout : (word : Clcw) → contiguous 32 0 (wordFields word) ≡ true

@@ -11,6 +11,20 @@ use Rattle.farm.specs.declared.Event.{Event}
 use Rattle.farm.specs.declared.Event.the-variants.{E1, E2, E3, E4, E5, E6, E7, E8, E9, E10, E11}
 use Rattle.farm.specs.declared.Variables.{Variables}
 
+-- the events by their numbers
+abbrev pub eventNumber : Event → ℕ
+eventNumber E1 = 1
+eventNumber E2 = 2
+eventNumber E3 = 3
+eventNumber E4 = 4
+eventNumber E5 = 5
+eventNumber E6 = 6
+eventNumber E7 = 7
+eventNumber E8 = 8
+eventNumber E9 = 9
+eventNumber E10 = 10
+eventNumber E11 = 11
+
 -- what a cell asks
 pub data Action : Type 0 where
   Accept Discard Ignore NotApplicable : Action

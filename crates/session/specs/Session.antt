@@ -11,8 +11,8 @@ use Rattle.fop.specs.Units.{Fdu, Frame, AD, BD, Unlock, SetVR, Refused, Own}
 use Rattle.fop.specs.Events.{Lower, SenderEvent, requestAd, requestBd, directive, wordArrives}
 use Rattle.fop.specs.Events as fop
 use Rattle.fop.specs.Answers.{Answer}
+use Rattle.farm.specs.Table.{eventNumber}
 use Rattle.farm.specs.declared.Event.{Event as FarmEvent}
-use Rattle.farm.specs.declared.Event.the-variants as farm
 use Rattle.session.specs.Frames.{read}
 use Rattle.session.specs.Receiver.{frameArrives, releaseBuffer, ReceiverAnswer}
 use Rattle.session.specs.Ends.{Settings, Ends}
@@ -87,17 +87,7 @@ afterSender set a h =
 -- the row of table 7-9 that the receiver answers, by its number; 0 where it is none
 abbrev pub rowOf : Option FarmEvent → ℕ
 rowOf none = 0
-rowOf (some farm.E1) = 1
-rowOf (some farm.E2) = 2
-rowOf (some farm.E3) = 3
-rowOf (some farm.E4) = 4
-rowOf (some farm.E5) = 5
-rowOf (some farm.E6) = 6
-rowOf (some farm.E7) = 7
-rowOf (some farm.E8) = 8
-rowOf (some farm.E9) = 9
-rowOf (some farm.E10) = 10
-rowOf (some farm.E11) = 11
+rowOf (some e) = eventNumber e
 
 -- with the unit handed out, if any
 abbrev pub addUnit : List Fdu → ℕ → Option (List ℕ) → List Fdu
