@@ -34,6 +34,7 @@ pub mod Refusals
 pub mod Answered
 pub mod Strong
 pub mod Idle
+pub mod Once
 pub mod Trace
 pub mod Example
 pub mod Premises

@@ -2,7 +2,7 @@
 -- leaves the sender serving (Shut); a word makes the count confirmed exact (Exact); alerts, refusals and words are in Answered, what is
 -- outstanding in Standing. Each is said of the tables' session and carried to the ends' by Link.
 use mathlib.Core.Logic.{_⊎_, inl, inr}
-use mathlib.Core.Path.{_≡_, sym, ap, _∙_, subst}
+use mathlib.Core.Path.{_≡_, refl, sym, ap, _∙_, subst}
 use mathlib.Core.Bool.{true}
 use mathlib.Core.List.{List, [], _∷_, _++_, map, map-append}
 use mathlib.Core.Option.{Option, none, some}
@@ -11,7 +11,7 @@ use native.Mathlib.Omega.{arith}
 use lib.ListN.{length, getD}
 use Rattle.base.specs.Modulo.{advanced}
 use Rattle.fop.specs.Units.{Fdu, Frame, AD, BD, Word, valid, written, wordOctets, readWord}
-use Rattle.fop.specs.Table.{State, S6, FopEvent}
+use Rattle.fop.specs.Table.{State, S1, S2, S3, S4, S5, S6, FopEvent}
 use Rattle.fop.specs.Variables.{Fop, Work}
 use Rattle.fop.specs.Machine.{fdus}
 use Rattle.fop.specs.Events.{fopTick, first, when, fopAd, fopBd, fopLower, fopDirective, directiveEvent, isEmpty, lowerEvent, wordEvent, seen}
@@ -30,7 +30,7 @@ use Rattle.session.proofs.Inv.{Inv, withFop, timed, fit, legal-of, ad-k
 use Rattle.session.proofs.Inv.{word-keeps, alerting, in-mode}
 use Rattle.session.proofs.Core.{Session, goes, addAll}
 use Rattle.session.proofs.Chan.{wds-le}
-use Rattle.session.proofs.Values.{word, unit, nothing}
+use Rattle.session.proofs.Values.{word, unit, nothing, live}
 use Rattle.session.proofs.Bds.{bd-part}
 use Rattle.session.proofs.Receiver.{at}
 use Rattle.session.proofs.Next.{historyOf, lv, word-step}
@@ -43,6 +43,7 @@ use Rattle.session.proofs.Keys.{Tidy}
 use Rattle.session.proofs.Tidy.{step-tidy, start-tidy}
 use Rattle.session.proofs.Theorem.{oldest-frame, word-comes, either, from-start}
 use Rattle.session.proofs.Standing.{fell, all-units, at-most, standing, queued, state-is, opens}
+use Rattle.session.proofs.Once.{Run, Once, work-once, start-once, step-once}
 use Rattle.session.proofs.Shut.{NoAd, Shut, ad-shut, bd-shut, tick-shut, lower-shut, terminate-shut, word-shut}
 use Rattle.session.proofs.Exact.{exact}
 use Rattle.session.proofs.Clear.{length-places}
@@ -58,7 +59,8 @@ none-some : {o : List ℕ} → none ≡ some o → ⊥
 none-some e = let z : _≡_ {A = ℕ} 0 1 = cc in omega arith
 
 module _ (set : Settings) (vw : Within set) (m : Ends) (t : Tied set m) (σ : Linked m) (γ : Linked (tables set)) (κ : Session)
-    (R : Rel set vw m t σ κ) (G : Rel set vw (tables set) (tables-tied set) γ κ) (I : Inv set κ) (Q : Tidy (set .n) κ) where
+    (R : Rel set vw m t σ κ) (G : Rel set vw (tables set) (tables-tied set) γ κ) (I : Inv set κ) (Q : Tidy (set .n) κ)
+    (O : set .limit ≡ 1 → Once (κ .fop)) where
   by : (P : History → Type 0) → P (historyOf κ) → P (σ .history)
   by P h = subst P (sym (R .history)) h
 
@@ -141,6 +143,28 @@ module _ (set : Settings) (vw : Within set) (m : Ends) (t : Tied set m) (σ : Li
       is-handed set κ I u (subst SentFrom (down-is ((work (set .own) e (κ .fop)) .frames) o u (work-few (set .own) e (κ .fop)) (k .0) x q) (k .1)))
       (λ x. absurd (none-some x)) d
 
+  -- at a limit of 1, the next new unit: an AD frame has the number V(S), and is handed down only in service, where V(S) is the next to send
+  live-serves : (s : State) → modeOf s ≡ live → inService s ≡ true
+  live-serves S1 e = refl
+  live-serves S2 e = refl
+  live-serves S3 e = refl
+  live-serves S4 e = let z : _≡_ {A = ℕ} 0 1 = cc in absurd (omega arith)
+  live-serves S5 e = let z : _≡_ {A = ℕ} 0 1 = cc in absurd (omega arith)
+  live-serves S6 e = let z : _≡_ {A = ℕ} 0 1 = cc in absurd (omega arith)
+
+  once : set .limit ≡ 1 → (e : SenderEvent) (lent : ℕ) → InSession (σ .words) e → (o : List ℕ) (u : Fdu)
+      → (m .answer e lent (σ .sender)) .down ≡ some o → read (set .own) o ≡ AD u → u .ns ≡ advanced (set .n) (length (κ .sent))
+  once l e lent h o u d q =
+      A.answer-ways set vw m t σ γ κ R G I Q (λ a. a .down ≡ some o → u .ns ≡ advanced (set .n) (length (κ .sent))) e lent
+      (λ g x.
+      let k = given-by e lent h g in
+      let w = work (set .own) e (κ .fop) in
+      let f : w .frames ≡ AD u ∷ [] = down-is (w .frames) o u (work-few (set .own) e (κ .fop)) (k .0) x q in
+      let r : Run (κ .fop .vs) (AD u ∷ []) (w .fop .vs) = subst (λ (fs : List Frame). Run (κ .fop .vs) fs (w .fop .vs)) f (work-once (set .own) (σ .words) e (κ .fop) h (O l) .1) in
+      let s : SentFrom (AD u ∷ []) = subst SentFrom f (k .1) in
+      r .0 ∙ lv set κ I (live-serves (κ .fop .state) (s .0 .0)) .isVs)
+      (λ x. absurd (none-some x)) d
+
   -- only an event that leaves the sender active or resending without wait hands an AD frame down
   shut-work : (e : SenderEvent) → InSession (σ .words) e → Shut (work (set .own) e (κ .fop))
   unfolding work
@@ -208,6 +232,7 @@ module _ (set : Settings) (vw : Within set) (m : Ends) (t : Tied set m) (σ : Li
             (asks set vw κ I w (x .0) i lent (x .1) (x .2) (rw (G .fop) at a) (rw (G .fop) at k) l b c d (rw (R .history) at f) (rw (R .history) at o)));
         handed = λ e lent h o u d q.
             by (λ y. (u .ns ≡ nextNumber set y) ⊎ ((i : ℕ) × IsOutstanding y i × (u ≡ getD (y .sent) i nobody))) (handed e lent h o u d q);
+        once = λ l e lent h o u d q. by (λ y. u .ns ≡ nextNumber set y) (once l e lent h o u d q);
         shut = shut;
         exact = exactly;
         opens = λ b. ap (λ (f : Receiver). f .variables .state) (G .farm)
@@ -260,5 +285,6 @@ module _ (set : Settings) (vw : Within set) (m : Ends) (t : Tied set m) (σ : Li
 pub stronger-claims : (set : Settings) → Within set → (m : Ends) → Tied set m → (es : List Event)
     → Stronger set m (run set m es (begins m)) (run set (tables set) es (begins (tables set)))
 stronger-claims set vw m t es =
-    let k = from-start set vw m t (Tidy (set .n)) (step-tidy set vw) (start-tidy set) es in
-    stronger set vw m t (run set m es (begins m)) (run set (tables set) es (begins (tables set))) (k .0) (k .1) (k .2) (k .3) (k .4)
+    let k = from-start set vw m t (λ κ. Tidy (set .n) κ × (set .limit ≡ 1 → Once (κ .fop)))
+    (λ e κ I x. (step-tidy set vw e κ I (x .0), λ l. step-once set e κ (x .1 l))) (start-tidy set, start-once set) es in
+    stronger set vw m t (run set m es (begins m)) (run set (tables set) es (begins (tables set))) (k .0) (k .1) (k .2) (k .3) (k .4 .0) (k .4 .1)

@@ -105,6 +105,9 @@ pub record Stronger (set : Settings) (m : Ends) (σ : Linked m) (γ : Linked (ta
   pub handed : (e : SenderEvent) (lent : ℕ) → InSession (σ .words) e → (o : List ℕ) (u : Fdu)
       → (m .answer e lent (σ .sender)) .down ≡ some o → read (set .own) o ≡ AD u
       → (u .ns ≡ nextNumber set (σ .history)) ⊎ ((i : ℕ) × IsOutstanding (σ .history) i × (u ≡ getD (σ .history .sent) i nobody))
+  -- at a transmission limit of 1 it is the next new unit: nothing is handed down twice
+  pub once : set .limit ≡ 1 → (e : SenderEvent) (lent : ℕ) → InSession (σ .words) e → (o : List ℕ) (u : Fdu)
+      → (m .answer e lent (σ .sender)) .down ≡ some o → read (set .own) o ≡ AD u → u .ns ≡ nextNumber set (σ .history)
   -- and is handed down only by an event that leaves the sender active or resending without wait
   pub shut : (e : SenderEvent) (lent : ℕ) → InSession (σ .words) e → (o : List ℕ) (u : Fdu)
       → (m .answer e lent (σ .sender)) .down ≡ some o → read (set .own) o ≡ AD u → serves ((m .answer e lent (σ .sender)) .state) ≡ true
