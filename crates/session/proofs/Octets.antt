@@ -1,7 +1,7 @@
 -- What is written reads back: frames of legal units (by crate frame's `frame-back` and `data-back`) and control words (by crate clcw's
 -- `word-back`).
 use mathlib.Core.Path.{_≡_, ap, _∙_}
-use mathlib.Core.Bool.{Bool, true, false, _&&_}
+use mathlib.Core.Bool.{Bool, true, _&&_}
 use mathlib.Core.List.{List, [], _∷_, append-nil}
 use Prim.Native.Nat.{ℕ, _+_, _*_, _≤_, _<_}
 use native.Mathlib.Omega.{arith}
