@@ -2,6 +2,7 @@
 -- numbers below a bound.
 use mathlib.Core.Path.{_≡_, refl}
 use mathlib.Core.Bool.{Bool, true, false, _&&_, true≢false, false≢true}
+use mathlib.Core.Option.{none, some}
 use Prim.Native.Nat.{ℕ, zero, suc, _<_}
 use native.Mathlib.Nat.{le-of-suc-le-suc, not-suc-le-zero}
 use native.Mathlib.Omega.{arith}
@@ -11,6 +12,10 @@ use Rattle.base.specs.Choice.{pick}
 pub by-pick : {A : Type 0} (P : A → Type 0) (b : Bool) {x y : A} → (b ≡ true → P x) → (b ≡ false → P y) → P (pick b x y)
 by-pick P true f g = f refl
 by-pick P false f g = g refl
+
+-- where there is none, there is not one
+pub none-some : {A : Type 0} {x : A} → none ≡ some x → ⊥
+none-some e = let z : _≡_ {A = ℕ} 0 1 = cc in omega arith
 
 -- a test that is true is not false
 pub never : {A : Type 0} → true ≡ false → A

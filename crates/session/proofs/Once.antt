@@ -24,7 +24,7 @@ use Rattle.session.specs.Session.{Event, adRequest, bdRequest, ticks, lo
 use Rattle.session.specs.Stronger.{InSession}
 use Rattle.session.proofs.Receiver.{begun}
 use Rattle.session.proofs.Core.{Session, goes, sender, answered, wordCome, channels, frameCome, receiver, releases, free, isHeld, step, stepWith}
-use Rattle.session.proofs.Choices.{by-pick}
+use Rattle.session.proofs.Choices.{by-pick, none-some}
 use Rattle.session.proofs.Ways.{look-ways, purge-ways}
 use Rattle.session.proofs.Test.{everyCell, every-cell, first-all, lower-all, lowered, Keeps, allKeep, all-keep}
 
@@ -57,15 +57,12 @@ run-bd (Refused r ∷ fs) a b o h = run-bd fs a b o h
 abbrev Unmarked : List Entry → Type 0
 Unmarked q = firstMarked q ≡ none
 
-some-none : {u : Fdu} → some u ≡ none → ⊥
-some-none e = let z : _≡_ {A = ℕ} 0 1 = cc in omega arith
-
 -- of its first entry and of the others
 tail-unmarked : (e : Entry) (q : List Entry) → Unmarked (e ∷ q) → (e .marked ≡ false) × Unmarked q
 tail-unmarked e q h = go (e .marked) refl h
   where
     go : (b : Bool) → e .marked ≡ b → pick b (some (e .fdu)) (firstMarked q) ≡ none → (e .marked ≡ false) × Unmarked q
-    go true m k = absurd (some-none k)
+    go true m k = absurd (none-some (sym k))
     go false m k = (m, k)
 
 unmarked-with : (e : Entry) (q : List Entry) → e .marked ≡ false → Unmarked q → Unmarked (e ∷ q)
@@ -104,7 +101,7 @@ once v RejectAd = some (λ w h. h)
 once v AcceptBd = some (λ w h. h)
 once v RejectBd = some (λ w h. h)
 once v AddToWaitQueue = some (λ w h. h)
-once v LookForFdu = some (λ w h. look-ways (J v) w h (λ u e. absurd (some-none (sym e ∙ h .3)))
+once v LookForFdu = some (λ w h. look-ways (J v) w h (λ u e. absurd (none-some (sym (h .3) ∙ e)))
     (λ o r e. (h .0, h .1, count-least (w .fop .sentQueue) _ (h .2), more-unmarked (w .fop .sentQueue) _ (h .3), h .4, run-ad (w .frames) v _ _ refl (h .5))))
 once v LookForDirective = some (λ w h. subst (λ (o : Option _). J v (lookForDirective o w)) (sym (h .4)) h)
 once v RemoveAcknowledgedFrames = some (λ w h. (h .0, h .1, omega arith, rest-unmarked (w .fop .nnr) (w .value) (w .fop .sentQueue) (h .3), h .4, h .5))

@@ -5,7 +5,7 @@ use mathlib.Core.Logic.{_⊎_, inl, inr}
 use mathlib.Core.Path.{_≡_, refl, sym, ap, _∙_, subst}
 use mathlib.Core.Bool.{true}
 use mathlib.Core.List.{List, [], _∷_, _++_, map, map-append}
-use mathlib.Core.Option.{Option, none, some}
+use mathlib.Core.Option.{Option, some}
 use Prim.Native.Nat.{ℕ, _+_, _%_, _≤_, _<_}
 use native.Mathlib.Omega.{arith}
 use lib.ListN.{length, getD}
@@ -37,6 +37,7 @@ use Rattle.session.proofs.Next.{historyOf, lv, word-step}
 use Rattle.session.proofs.Arrive.{expedites, accepts-bd}
 use Rattle.session.proofs.Asks.{responds, starts, asks}
 use Rattle.session.proofs.Link.{Rel, reads-of, same-step, tables-tied, reads, fly-reads, Reads}
+use Rattle.session.proofs.Choices.{none-some}
 use Rattle.session.proofs.Few.{work-few}
 use Rattle.session.proofs.Handed.{From, row-from, is-handed}
 use Rattle.session.proofs.Keys.{Tidy}
@@ -54,9 +55,6 @@ use Rattle.fop.specs.Units.{readWord, valid}
 use lib.ListN.{length-append}
 use Rattle.session.specs.Claims.{serves}
 use Rattle.session.proofs.Answered as A
-
-none-some : {o : List ℕ} → none ≡ some o → ⊥
-none-some e = let z : _≡_ {A = ℕ} 0 1 = cc in omega arith
 
 module _ (set : Settings) (vw : Within set) (m : Ends) (t : Tied set m) (σ : Linked m) (γ : Linked (tables set)) (κ : Session)
     (R : Rel set vw m t σ κ) (G : Rel set vw (tables set) (tables-tied set) γ κ) (I : Inv set κ) (Q : Tidy (set .n) κ)
