@@ -5,7 +5,7 @@ use Prim.Native.Nat.{ℕ}
 abbrev pub smallestFrame : ℕ
 smallestFrame = 8
 
--- the largest one
+-- and the largest one: "Frame 8 to 256 octets with its FECF"
 abbrev pub largestFrame : ℕ
 largestFrame = 256
 

@@ -38,7 +38,7 @@ pub data Judged : Type 0 where
 unfoldable pub judged : List ℕ → Judged
 judged block = pick (same block (codeblockOf (take 7 block))) (good (take 7 block) 0) bad
 
--- whether it is good
+-- clause 8.7, state S3: a codeblock is good or bad
 abbrev pub isGood : Judged → Bool
 isGood (good information corrected) = true
 isGood bad = false

@@ -30,7 +30,7 @@ use Rattle.console.specs.declared.Turn.{Turn}
 abbrev pub programSpacecraft : ℕ
 programSpacecraft = 0
 
--- and its channel
+-- and channel 0, likewise
 abbrev pub programChannel : ℕ
 programChannel = 0
 

@@ -18,7 +18,7 @@ pub record Progress : Type 0 where
   pub session : Session
   pub line : List ℕ
 
--- both together
+-- a progress by its session and its line
 abbrev pub progress : Session → List ℕ → Progress
 progress session line = record { session = session; line = line }
 

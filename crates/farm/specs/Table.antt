@@ -93,7 +93,7 @@ table E11 Lockout = cell (Report ∷ []) Lockout
 
 -- The variables of clause 7.2.3, one changed.
 
--- the state
+-- the state: Open, Wait or Lockout (S1 to S3)
 abbrev withState : State → Variables → Variables
 withState s v = record { state = s; vr = v .vr; lockout = v .lockout; wait = v .wait; retransmit = v .retransmit; counter = v .counter }
 

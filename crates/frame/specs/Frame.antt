@@ -21,7 +21,7 @@ bypassOf Bd = 1
 bypassOf Unlock = 1
 bypassOf (SetVr value) = 1
 
--- and the Control Command Flag
+-- table 6-3: the Control Command Flag of each kind of frame
 abbrev pub controlOf : Kind → ℕ
 controlOf (Ad number) = 0
 controlOf Bd = 0
@@ -39,7 +39,7 @@ numberOf (SetVr value) = 0
 abbrev pub unlockCommand : List ℕ
 unlockCommand = 0x00 ∷ []
 
--- Set V(R), with its value
+-- clause 7.8: the control command Set V(R), with its value
 abbrev pub setVrCommand : ℕ → List ℕ
 setVrCommand value = 0x82 ∷ 0x00 ∷ value ∷ []
 
@@ -63,7 +63,7 @@ unfoldable pub rawFrame : ℕ → ℕ → ℕ → ℕ → ℕ → List ℕ → L
 rawFrame bypass control number spacecraft channel field =
     bodyOf bypass control number spacecraft channel field ++ fieldOctets (fecfOf (bodyOf bypass control number spacecraft channel field))
 
--- the frame of a kind
+-- table 6-3: the frame of a kind, by its flags, its number and its data
 abbrev pub frameOf : ℕ → ℕ → Kind → List ℕ → List ℕ
 frameOf spacecraft channel kind unit = rawFrame (bypassOf kind) (controlOf kind) (numberOf kind) spacecraft channel (dataOf kind unit)
 
@@ -77,7 +77,7 @@ rawWriting bypass control number spacecraft channel field room =
     (must (leb (length field + overhead) room) (refused 11 0)
     (done (rawFrame bypass control number spacecraft channel field) tt)))))
 
--- the same for a frame of a kind
+-- document 01: the same for a frame of a kind: 10, 12, 11
 abbrev pub writing : ℕ → ℕ → Kind → List ℕ → ℕ → Outcome (Unit {0})
 writing spacecraft channel kind unit room =
     rawWriting (bypassOf kind) (controlOf kind) (numberOf kind) spacecraft channel (dataOf kind unit) room

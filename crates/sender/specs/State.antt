@@ -48,7 +48,7 @@ lengthsHold held [] = true
 lengthsHold zero (x ∷ xs) = both (leb x largestUnit) (lengthsHold zero xs)
 lengthsHold (suc held) (x ∷ xs) = both (leb 1 x) (both (leb x largestUnit) (lengthsHold held xs))
 
--- all of these
+-- a well-formed sender: all of these, which is what every event keeps (crate fop_view, specs/State, `Good`)
 unfoldable pub wellFormed : State → Bool
 wellFormed s =
     both (settingsHold (s .settings))

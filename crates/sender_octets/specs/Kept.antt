@@ -48,7 +48,7 @@ controlNumber control.None = 0
 controlNumber control.Unlock = 1
 controlNumber (control.SetVr value) = 2
 
--- and the value that it carries
+-- and V*(R), the value that a Set V(R) carries
 abbrev pub controlValue : Control → ℕ
 controlValue control.None = 0
 controlValue control.Unlock = 0
