@@ -39,3 +39,4 @@ pub mod Trace
 pub mod Example
 pub mod Premises
 pub mod Refuted
+pub mod Renumbered
