@@ -40,3 +40,4 @@ pub mod Example
 pub mod Premises
 pub mod Refuted
 pub mod Renumbered
+pub mod Universal
