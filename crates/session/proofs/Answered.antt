@@ -4,7 +4,7 @@ use mathlib.Core.Path.{_≡_, refl, sym, ap, _∙_, subst}
 use mathlib.Core.Bool.{Bool, true, false}
 use mathlib.Core.List.{List, [], _∷_, map}
 use mathlib.Core.Option.{Option}
-use Prim.Native.Nat.{ℕ, _-_, _%_, _≤_, _<_}
+use Prim.Native.Nat.{ℕ, _+_, _-_, _%_, _≤_, _<_}
 use native.Mathlib.Omega.{arith}
 use lib.Dec.{ltb}
 use lib.ListN.{length}
@@ -65,9 +65,9 @@ by-legal : (b : Bool) → (_≡_ {A = ℕ} (pick b 0 10) 0) ⊎ (_≡_ {A = ℕ}
 by-legal true = inl refl
 by-legal false = inr refl
 
-counter-is : (κ : Session) → κ .farm .counter ≡ length (κ .acceptedBd) % 4 → (report (κ .farm)) .counter ≤ 3
+counter-is : (κ : Session) (c : ℕ) → κ .farm .counter ≡ (c + length (κ .acceptedBd)) % 4 → (report (κ .farm)) .counter ≤ 3
 unfolding report
-counter-is κ e = omega (arith, e)
+counter-is κ c e = omega (arith, e)
 
 number-is : (κ : Session) (n a : ℕ) → κ .farm .vr ≡ advanced n a → (report (κ .farm)) .nr < 256
 unfolding report
@@ -176,12 +176,12 @@ module _ (set : Settings) (vw : Within set) (m : Ends) (t : Tied set m) (σ : Li
         lockout = κ .farm .lockout;
         wait = κ .farm .wait;
         retransmit = κ .farm .retransmit;
-        counter = length (κ .acceptedBd) % 4;
+        counter = (set .counter + length (κ .acceptedBd)) % 4;
         nr = expected set (historyOf κ);
       })
   unfolding report
   report-is =
       ap (readWord (set .own)) (word-is set vw m t σ κ R)
-      ∙ word-back (set .own) (vw .spacecraft) (vw .channel) (report (κ .farm)) (counter-is κ (I .receiver .counted))
+      ∙ word-back (set .own) (vw .spacecraft) (vw .channel) (report (κ .farm)) (counter-is κ (set .counter) (I .receiver .counted))
       (number-is κ (set .n) (length (κ .accepted)) (I .receiver .isVr))
       ∙ rw (I .receiver .counted, I .receiver .isVr)

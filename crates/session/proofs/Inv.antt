@@ -54,12 +54,12 @@ isLocked Open = false
 isLocked Wait = false
 isLocked Lockout = true
 
--- the receiver's part, with A accepted and D BD units accepted
+-- the receiver's part, with A accepted and D BD units accepted; they are counted on from the start
 pub record Rcv (set : Settings) (v : Variables) (A D : ℕ) : Type 0 where
   pub isVr : v .vr ≡ advanced (set .n) A
   pub unlocked : isLocked (v .state) ≡ false
   pub noLock : v .lockout ≡ false
-  pub counted : v .counter ≡ D % 4
+  pub counted : v .counter ≡ (set .counter + D) % 4
 
 -- the invariant; it knows nothing of buffers
 pub record Inv (set : Settings) (σ : Session) : Type 0 where

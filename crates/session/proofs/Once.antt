@@ -223,9 +223,9 @@ work-once own ws (directive d v) f i h =
 work-once own ws (wordArrives s) f i h = heard-once (readWord own s) f h
 
 -- The session's sender at a limit of 1, at the start and after each event.
-pub start-once : (set : Settings) → set .limit ≡ 1 → Once (begun set .fop)
+pub start-once : (set : Settings) → 1 ≤ set .count → set .limit ≡ 1 → Once (begun set .fop)
 unfolding startSender
-start-once set l = record { limit = l; alerting = refl; counted = omega arith; unmarked = refl; noBc = refl }
+start-once set k l = record { limit = l; alerting = refl; counted = k; unmarked = refl; noBc = refl }
 
 module _ (set : Settings) where
   sender-once : (ws : List (List ℕ)) (e : SenderEvent) (lent : ℕ) (κ : Session) → InSession ws e → Once (κ .fop) → Once ((sender set e lent κ) .fop)

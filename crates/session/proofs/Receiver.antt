@@ -84,7 +84,7 @@ at s v = record { state = s; vr = v .vr; lockout = v .lockout; wait = v .wait; r
 
 -- the receiver's part with another state, other flags and counter
 rcv-with : {set : Settings} {v : Variables} {A D : ℕ} → Rcv set v A D → (s : FarmState) (l w r : Bool) (c E : ℕ) → l ≡ false → isLocked s ≡ false
-    → c ≡ E % 4
+    → c ≡ (set .counter + E) % 4
     → Rcv set (record { state = s; vr = v .vr; lockout = l; wait = w; retransmit = r; counter = c }) A E
 rcv-with h s l w r c E e u k = record { isVr = h .isVr; unlocked = u; noLock = e; counted = k }
 
@@ -180,11 +180,13 @@ bd-cell : (set : Settings) (σ : Session) (o : List ℕ) (fs : List Frame) → I
     → Inv set (receiver (stepOf E6 0 (at s (σ .farm))) (σ .accepted) (takenBd (BD o) (isHanded (unitOf E6 s)) (σ .acceptedBd)) (σ .released) fs σ)
 unfolding table stepOf performAll perform accepts
 bd-cell set σ o fs I fl sb Open l =
-    let k : (σ .farm .counter + 1) % 4 ≡ length (σ .acceptedBd ++ (o ∷ [])) % 4 = omega (arith, length-append (σ .acceptedBd) (o ∷ []), I .receiver .counted) in
+    let k : (σ .farm .counter + 1) % 4 ≡ (set .counter + length (σ .acceptedBd ++ (o ∷ []))) % 4 =
+    omega (arith, length-append (σ .acceptedBd) (o ∷ []), I .receiver .counted) in
     unchanged set σ _ (σ .acceptedBd ++ (o ∷ [])) fs (σ .released) I fl (bd-accepted (σ .acceptedBd) (σ .sentBd) o fs sb)
     (rcv-with (I .receiver) Open _ _ _ _ _ (I .receiver .noLock) refl k)
 bd-cell set σ o fs I fl sb Wait l =
-    let k : (σ .farm .counter + 1) % 4 ≡ length (σ .acceptedBd ++ (o ∷ [])) % 4 = omega (arith, length-append (σ .acceptedBd) (o ∷ []), I .receiver .counted) in
+    let k : (σ .farm .counter + 1) % 4 ≡ (set .counter + length (σ .acceptedBd ++ (o ∷ []))) % 4 =
+    omega (arith, length-append (σ .acceptedBd) (o ∷ []), I .receiver .counted) in
     unchanged set σ _ (σ .acceptedBd ++ (o ∷ [])) fs (σ .released) I fl (bd-accepted (σ .acceptedBd) (σ .sentBd) o fs sb)
     (rcv-with (I .receiver) Wait _ _ _ _ _ (I .receiver .noLock) refl k)
 bd-cell set σ o fs I fl sb Lockout l = never l
@@ -298,6 +300,6 @@ start-inv set vw =
       waiting = tt;
       places = refl;
       words = omega arith;
-      receiver = record { isVr = omega (arith, vw .number); unlocked = refl; noLock = refl; counted = refl };
+      receiver = record { isVr = omega (arith, vw .number); unlocked = refl; noLock = refl; counted = omega (arith, vw .counterMost) };
       bd = none-left;
     }

@@ -241,8 +241,7 @@ module _ (set : Settings) (vw : Within set) (m : Ends) (t : Tied set m) (σ : Li
               lockout = f .variables .lockout;
               wait = f .variables .wait;
               retransmit = f .variables .retransmit;
-              counter = length
-                  (σ .history .acceptedBd) % 4;
+              counter = (set .counter + length (σ .history .acceptedBd)) % 4;
               nr = expected set (σ .history);
             }))
             (sym (G .farm))
@@ -251,8 +250,7 @@ module _ (set : Settings) (vw : Within set) (m : Ends) (t : Tied set m) (σ : Li
               lockout = κ .farm .lockout;
               wait = κ .farm .wait;
               retransmit = κ .farm .retransmit;
-              counter = length (h .acceptedBd) %
-                  4;
+              counter = (set .counter + length (h .acceptedBd)) % 4;
               nr = expected set h;
             }))
             (A.report-is set vw m t σ γ κ R G I Q));
@@ -284,5 +282,5 @@ pub stronger-claims : (set : Settings) → Within set → (m : Ends) → Tied se
     → Stronger set m (run set m es (begins m)) (run set (tables set) es (begins (tables set)))
 stronger-claims set vw m t es =
     let k = from-start set vw m t (λ κ. Tidy (set .n) κ × (set .limit ≡ 1 → Once (κ .fop)))
-    (λ e κ I x. (step-tidy set vw e κ I (x .0), λ l. step-once set e κ (x .1 l))) (start-tidy set, start-once set) es in
+    (λ e κ I x. (step-tidy set vw e κ I (x .0), λ l. step-once set e κ (x .1 l))) (start-tidy set, start-once set (vw .countLeast)) es in
     stronger set vw m t (run set m es (begins m)) (run set (tables set) es (begins (tables set))) (k .0) (k .1) (k .2) (k .3) (k .4 .0) (k .4 .1)

@@ -4,7 +4,7 @@ use mathlib.Core.Logic.{_⊎_, _≢_}
 use mathlib.Core.Bool.{Bool, true, false}
 use mathlib.Core.List.{List, [], _∷_, _++_, map}
 use mathlib.Core.Option.{Option, none, some}
-use Prim.Native.Nat.{ℕ, _≤_, _<_, _%_}
+use Prim.Native.Nat.{ℕ, _+_, _≤_, _<_, _%_}
 use lib.ListN.{length, getD}
 use Rattle.base.specs.Modulo.{advanced}
 use Rattle.fop.specs.Units.{Fdu, AD, BD, Word, valid, Own, legal, written, readWord}
@@ -117,13 +117,13 @@ pub record Stronger (set : Settings) (m : Ends) (σ : Linked m) (γ : Linked (ta
       → w .nr ≡ advanced (set .n) (length ((step set m (wordIn lent) σ) .history .confirmed))
   -- a receiver with a free buffer is Open
   pub opens : BufferFree set (σ .history) → γ .receiver .variables .state ≡ Open
-  -- a control word reports the flags as table 7-9 gives them, the count of BD units accepted, modulo 4, and the next number expected
+  -- a control word reports the flags as table 7-9 gives them, the counter of the start with the count of BD units accepted, modulo 4, and the next number expected
   pub words : readWord (set .own) (m .word (σ .receiver))
       ≡ valid (record {
         lockout = γ .receiver .variables .lockout;
         wait = γ .receiver .variables .wait;
         retransmit = γ .receiver .variables .retransmit;
-        counter = length (σ .history .acceptedBd) % 4;
+        counter = (set .counter + length (σ .history .acceptedBd)) % 4;
         nr = expected set (σ .history);
       })
   -- BD units accepted are those handed down, in order, but for those lost
