@@ -116,6 +116,6 @@ module _ (f : Fop) (g : T (sound (modeOf (f .state)))) where
   unfolding fopBd table78 hushes
   bd-hush o = do-hush _ o 0 f (first-all rowCalm (when (f .out .bd) FopEvent.E21 ∷ []) FopEvent.E22 tt) g
 
-  pub terminate-hush : Hush ownAlert ((fopDirective 5 0 f) .alert)
+  pub terminate-hush : (v : ℕ) → Hush ownAlert ((fopDirective 5 v f) .alert)
   unfolding fopDirective directiveEvent table78 hushes
-  terminate-hush = do-hush FopEvent.E29 [] 0 f tt g
+  terminate-hush v = do-hush FopEvent.E29 [] v f tt g

@@ -119,9 +119,8 @@ module _ (set : Settings) (vw : Within set) (m : Ends) (t : Tied set m) (σ : Li
   alerts fop.tick lent h = known fop.tick lent (tick-hush (κ .fop) (in-mode set κ I) (alerting set κ I))
   alerts (lower l) lent h = known (lower l) lent (lower-hush (κ .fop) (in-mode set κ I) l)
   alerts (directive d v) lent h =
-      subst (λ (x : ℕ). Known (set .limit) ((m .answer (directive x v) lent (σ .sender)) .alert)) (sym (h .0))
-      (subst (λ (x : ℕ). Known (set .limit) ((m .answer (directive 5 x) lent (σ .sender)) .alert)) (sym (h .1))
-      (known (directive 5 0) lent (terminate-hush (κ .fop) (in-mode set κ I))))
+      subst (λ (x : ℕ). Known (set .limit) ((m .answer (directive x v) lent (σ .sender)) .alert)) (sym h)
+      (known (directive 5 v) lent (terminate-hush (κ .fop) (in-mode set κ I) v))
   alerts (wordArrives s) lent h = calm-known (set .limit) _ (quiet s (h .0) lent (h .1))
 
   judge : (e : SenderEvent) → InSession (σ .words) e → (judged (set .own) e ≡ 0) ⊎ (judged (set .own) e ≡ 10)
@@ -130,7 +129,7 @@ module _ (set : Settings) (vw : Within set) (m : Ends) (t : Tied set m) (σ : Li
   judge (requestBd o) h = by-legal (legal o)
   judge fop.tick h = inl refl
   judge (lower l) h = inl refl
-  judge (directive d v) h = inl (rw (h .0))
+  judge (directive d v) h = inl (rw h)
   judge (wordArrives s) h = inl (oldest-heard s (h .0) (h .1) .6)
 
   pub refusals : (e : SenderEvent) (lent : ℕ) → InSession (σ .words) e → Mild ((m .answer e lent (σ .sender)) .refusal)

@@ -75,7 +75,7 @@ whole-list =
     adRequest (17 ∷ []) 256 ∷ frameLost ∷ lowerSays adAccept 256 ∷ ticks 256 ∷ ticks 256 ∷ frameIn
     ∷ lowerSays adAccept 256 ∷ adRequest (34 ∷ 35 ∷ []) 256 ∷ lowerSays adAccept 256 ∷ frameIn ∷ wordMade
     ∷ wordIn 256 ∷ release ∷ wordMade ∷ wordIn 256 ∷ frameIn ∷ wordMade ∷ wordIn 256 ∷ lowerSays adAccept 256
-    ∷ adRequest (51 ∷ []) 256 ∷ terminate 256 ∷ bdRequest (51 ∷ []) 256 ∷ frameLost ∷ frameIn ∷ []
+    ∷ adRequest (51 ∷ []) 256 ∷ terminate 7 256 ∷ bdRequest (51 ∷ []) 256 ∷ frameLost ∷ frameIn ∷ []
 
 abbrev Whole : Type 0
 Whole =
@@ -243,7 +243,7 @@ Both =
 -- Terminate, with a unit sent and one waiting
 abbrev ended-list : List Event
 ended-list =
-    adRequest (17 ∷ []) 256 ∷ adRequest (34 ∷ 35 ∷ []) 256 ∷ terminate 256 ∷ adRequest (51 ∷ []) 256 ∷ []
+    adRequest (17 ∷ []) 256 ∷ adRequest (34 ∷ 35 ∷ []) 256 ∷ terminate 0 256 ∷ adRequest (51 ∷ []) 256 ∷ []
 
 abbrev Ended : Type 0
 Ended =

@@ -252,11 +252,11 @@ words-are set σ ws I h =
     record { base = I .base; side = I .side; isSet = I .isSet; waiting = I .waiting; places = I .places; words = h; receiver = I .receiver; bd = I .bd }
 
 -- a row that no word brings
-plain-keeps : (set : Settings) (σ : Session) (given : Given) (e : FopEvent) (o : List ℕ) → Inv set σ → T (rowOk given e)
-    → Reports given (set .n) (length (σ .confirmed)) (length (σ .accepted)) 0 o
-    → Inv set (answered (set .n) (fopDo e o 0 (σ .fop)) σ)
+plain-keeps : (set : Settings) (σ : Session) (given : Given) (e : FopEvent) (o : List ℕ) (v : ℕ) → Inv set σ → T (rowOk given e)
+    → Reports given (set .n) (length (σ .confirmed)) (length (σ .accepted)) v o
+    → Inv set (answered (set .n) (fopDo e o v (σ .fop)) σ)
 unfolding channels
-plain-keeps set σ given e o I t r = row-keeps set σ (σ .words) given (length (σ .confirmed)) e o 0 I t (omega arith) r (I .words)
+plain-keeps set σ given e o v I t r = row-keeps set σ (σ .words) given (length (σ .confirmed)) e o v I t (omega arith) r (I .words)
 
 -- Timeout_Type is 0
 pub alerting : (set : Settings) (σ : Session) → Inv set σ → eqb (σ .fop .preset .timeoutType) 0 ≡ true
@@ -307,23 +307,23 @@ sender-keeps set e lent σ I h =
 
 pub ad-keeps : (set : Settings) (lent : ℕ) (o : List ℕ) (σ : Session) → Inv set σ → Inv set (sender set (requestAd o) lent σ)
 unfolding fopAd judged work
-ad-keeps set lent o σ I = sender-keeps set (requestAd o) lent σ I (λ j. plain-keeps set σ unit _ o I (ad-ok (isEmpty (σ .fop .waitQueue))) (legal-of o j))
+ad-keeps set lent o σ I = sender-keeps set (requestAd o) lent σ I (λ j. plain-keeps set σ unit _ o 0 I (ad-ok (isEmpty (σ .fop .waitQueue))) (legal-of o j))
 
 pub bd-keeps : (set : Settings) (lent : ℕ) (o : List ℕ) (σ : Session) → Inv set σ → Inv set (sender set (requestBd o) lent σ)
 unfolding fopBd judged work
-bd-keeps set lent o σ I = sender-keeps set (requestBd o) lent σ I (λ j. plain-keeps set σ unit _ o I (bd-ok (σ .fop .out .bd)) (legal-of o j))
+bd-keeps set lent o σ I = sender-keeps set (requestBd o) lent σ I (λ j. plain-keeps set σ unit _ o 0 I (bd-ok (σ .fop .out .bd)) (legal-of o j))
 
 pub lower-keeps : (set : Settings) (lent : ℕ) (l : Lower) (σ : Session) → Inv set σ → Inv set (sender set (lower l) lent σ)
 unfolding fopLower work
-lower-keeps set lent l σ I = sender-keeps set (lower l) lent σ I (λ j. plain-keeps set σ nothing _ [] I (lower-ok l) tt)
+lower-keeps set lent l σ I = sender-keeps set (lower l) lent σ I (λ j. plain-keeps set σ nothing _ [] 0 I (lower-ok l) tt)
 
 pub ticks-keeps : (set : Settings) (lent : ℕ) (σ : Session) → Inv set σ → Inv set (sender set fop.tick lent σ)
 unfolding work
 ticks-keeps set lent σ I = sender-keeps set fop.tick lent σ I (λ j. tick-keeps set σ I)
 
-pub terminate-keeps : (set : Settings) (lent : ℕ) (σ : Session) → Inv set σ → Inv set (sender set (directive 5 0) lent σ)
+pub terminate-keeps : (set : Settings) (v lent : ℕ) (σ : Session) → Inv set σ → Inv set (sender set (directive 5 v) lent σ)
 unfolding fopDirective directiveEvent work
-terminate-keeps set lent σ I = sender-keeps set (directive 5 0) lent σ I (λ j. plain-keeps set σ nothing FopEvent.E29 [] I terminate-ok tt)
+terminate-keeps set v lent σ I = sender-keeps set (directive 5 v) lent σ I (λ j. plain-keeps set σ nothing FopEvent.E29 [] v I terminate-ok tt)
 
 -- a word under way is read as it was reported
 pub hears : (set : Settings) → Within set → (w : Word) (f : Fop) → w .counter ≤ 3 → w .nr < 256

@@ -311,7 +311,7 @@ module _ (set : Settings) (vw : Within set) where
     same-step (bdRequest o lent) σ κ R I = plain σ κ (requestBd o) lent R (step-keeps set vw (bdRequest o lent) κ I)
     same-step (ticks lent) σ κ R I = plain σ κ fop.tick lent R (step-keeps set vw (ticks lent) κ I)
     same-step (lowerSays l lent) σ κ R I = plain σ κ (fop.lower l) lent R (step-keeps set vw (lowerSays l lent) κ I)
-    same-step (terminate lent) σ κ R I = plain σ κ (directive 5 0) lent R (step-keeps set vw (terminate lent) κ I)
+    same-step (terminate v lent) σ κ R I = plain σ κ (directive 5 v) lent R (step-keeps set vw (terminate v lent) κ I)
     same-step (wordIn lent) σ κ R I =
         subst (λ (l : List (List ℕ)). Rel (ses.wordCome set m lent l σ) (core.wordCome set lent (κ .words) κ)) (sym (R .words))
         (heard σ κ lent (κ .words) R (step-keeps set vw (wordIn lent) κ I))

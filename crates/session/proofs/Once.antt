@@ -218,8 +218,7 @@ work-once own ws (requestBd o) f i h = do-once _ o 0 f (first-all (rowOnce (f .v
 work-once own ws fop.tick f i h = tick-once f h
 work-once own ws (lower l) f i h = do-once _ [] 0 f (lower-all (rowOnce (f .vs)) tt l) h
 work-once own ws (directive d v) f i h =
-    subst (λ (x : ℕ). Stays (f .vs) (fopDirective x v f)) (sym (i .0))
-    (subst (λ (x : ℕ). Stays (f .vs) (fopDirective 5 x f)) (sym (i .1)) (do-once FopEvent.E29 [] 0 f tt h))
+    subst (λ (x : ℕ). Stays (f .vs) (fopDirective x v f)) (sym i) (do-once FopEvent.E29 [] v f tt h)
 work-once own ws (wordArrives s) f i h = heard-once (readWord own s) f h
 
 -- The session's sender at a limit of 1, at the start and after each event.
@@ -251,7 +250,7 @@ module _ (set : Settings) where
   step-once (bdRequest u lent) κ o = sender-once [] (requestBd u) lent κ tt o
   step-once (ticks lent) κ o = sender-once [] fop.tick lent κ tt o
   step-once (lowerSays l lent) κ o = sender-once [] (lower l) lent κ tt o
-  step-once (terminate lent) κ o = sender-once [] (directive 5 0) lent κ (refl, refl) o
+  step-once (terminate v lent) κ o = sender-once [] (directive 5 v) lent κ refl o
   step-once (wordIn lent) κ o = word-in lent (κ .words) κ o
   step-once wordLost κ o = o
   step-once wordMade κ o = o

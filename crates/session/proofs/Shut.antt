@@ -117,9 +117,9 @@ module _ (f : Fop) (g : T (sound (modeOf (f .state)))) where
   unfolding fopBd table78 blind
   bd-shut o = do-shut _ o 0 f (first-all rowShuts (when (f .out .bd) FopEvent.E21 ∷ []) FopEvent.E22 tt) g
 
-  pub terminate-shut : Shut (fopDirective 5 0 f)
+  pub terminate-shut : (v : ℕ) → Shut (fopDirective 5 v f)
   unfolding fopDirective directiveEvent table78 blind
-  terminate-shut = do-shut FopEvent.E29 [] 0 f tt g
+  terminate-shut v = do-shut FopEvent.E29 [] v f tt g
 
   pub word-shut : (w : Word) → Shut (fopWord w f)
   unfolding fopWord wordEvent table78 blind

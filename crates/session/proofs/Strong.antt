@@ -100,13 +100,11 @@ module _ (set : Settings) (vw : Within set) (m : Ends) (t : Tied set m) (σ : Li
         (omega arith) tt,
   )
   given-by (directive d v) lent h g =
-      let g' : goes (set .own) (directive 5 0) lent (κ .fop) ≡ true = subst (λ (x : ℕ). goes (set .own) (directive 5 x) lent (κ .fop) ≡ true) (h .1)
-      (subst (λ (x : ℕ). goes (set .own) (directive x v) lent (κ .fop) ≡ true) (h .0) g) in
-      subst (λ (x : ℕ). Given-by (directive x v)) (sym (h .0)) (subst (λ (x : ℕ). Given-by (directive 5 x)) (sym (h .1)) (
-        reads-of set (directive 5 0) lent κ g' (terminate-keeps set lent κ I),
-        row-from set κ I nothing (length (κ .confirmed)) FopEvent.E29 [] 0
-            terminate-ok (omega arith) tt,
-      ))
+      let g' : goes (set .own) (directive 5 v) lent (κ .fop) ≡ true = subst (λ (x : ℕ). goes (set .own) (directive x v) lent (κ .fop) ≡ true) h g in
+      subst (λ (x : ℕ). Given-by (directive x v)) (sym h) (
+        reads-of set (directive 5 v) lent κ g' (terminate-keeps set v lent κ I),
+        row-from set κ I nothing (length (κ .confirmed)) FopEvent.E29 [] v terminate-ok (omega arith) tt,
+      )
   given-by (wordArrives s) lent h g =
       let l = A.oldest-heard set vw m t σ γ κ R G I Q s (h .0) (h .1) in
       let wd = l .4 in
@@ -171,8 +169,7 @@ module _ (set : Settings) (vw : Within set) (m : Ends) (t : Tied set m) (σ : Li
   shut-work fop.tick h = tick-shut (κ .fop) (in-mode set κ I) (alerting set κ I)
   shut-work (lower l) h = lower-shut (κ .fop) (in-mode set κ I) l
   shut-work (directive d v) h =
-      subst (λ (x : ℕ). Shut (fopDirective x v (κ .fop))) (sym (h .0))
-      (subst (λ (x : ℕ). Shut (fopDirective 5 x (κ .fop))) (sym (h .1)) (terminate-shut (κ .fop) (in-mode set κ I)))
+      subst (λ (x : ℕ). Shut (fopDirective x v (κ .fop))) (sym h) (terminate-shut (κ .fop) (in-mode set κ I) v)
   shut-work (wordArrives s) h =
       let l = A.oldest-heard set vw m t σ γ κ R G I Q s (h .0) (h .1) in
       subst Shut (sym (l .5)) (word-shut (κ .fop) (in-mode set κ I) (l .0))

@@ -164,13 +164,13 @@ begins m = record {
   history = record { sent = []; accepted = []; confirmed = []; denied = []; released = 0; lockedOut = false; sentBd = []; acceptedBd = [] };
 }
 
--- the events; a number is the room lent for a frame. To the sender: an AD or BD request, a tick, an answer of the lower layer, Terminate, the
--- oldest word; to the receiver: the oldest frame, a release; the receiver's control word is made; the oldest frame or word is lost
+-- the events; the last number is the room lent for a frame. To the sender: an AD or BD request, a tick, an answer of the lower layer,
+-- Terminate with its value, which is not looked at, the oldest word; to the receiver: the oldest frame, a release; the receiver's control word is made; the oldest frame or word is lost
 pub data Event : Type 0 where
   adRequest bdRequest : List ℕ → ℕ → Event
   ticks : ℕ → Event
   lowerSays : Lower → ℕ → Event
-  terminate : ℕ → Event
+  terminate : ℕ → ℕ → Event
   wordIn : ℕ → Event
   wordLost wordMade frameIn frameLost release : Event
 
@@ -232,7 +232,7 @@ step set m (adRequest o lent) σ = toSender set m (requestAd o) lent (σ .words)
 step set m (bdRequest o lent) σ = toSender set m (requestBd o) lent (σ .words) σ
 step set m (ticks lent) σ = toSender set m fop.tick lent (σ .words) σ
 step set m (lowerSays l lent) σ = toSender set m (fop.lower l) lent (σ .words) σ
-step set m (terminate lent) σ = toSender set m (directive 5 0) lent (σ .words) σ
+step set m (terminate v lent) σ = toSender set m (directive 5 v) lent (σ .words) σ
 step set m (wordIn lent) σ = wordCome set m lent (σ .words) σ
 step set m wordLost σ = channels m (σ .frames) (rest (σ .words)) σ
 step set m wordMade σ = channels m (σ .frames) (σ .words ++ (m .word (σ .receiver) ∷ [])) σ

@@ -71,7 +71,7 @@ InSession ws (requestAd o) = Unit {0}
 InSession ws (requestBd o) = Unit {0}
 InSession ws fop.tick = Unit {0}
 InSession ws (lower l) = Unit {0}
-InSession ws (directive d v) = (d ≡ 5) × (v ≡ 0)
+InSession ws (directive d v) = d ≡ 5
 InSession ws (wordArrives s) = (more : List (List ℕ)) × (ws ≡ s ∷ more)
 
 -- the stronger claims, after every list of events and at whatever event comes next
