@@ -12,7 +12,7 @@ use Rattle.fop.specs.Units.{Fdu, SetVR, written}
 use Rattle.fop.specs.Events.{SenderEvent, tick, lower, directive, wordArrives, adAccept, bcAccept}
 use Rattle.farm.specs.Receiver.{atStart}
 use Rattle.farm.specs.declared.Receiver.{Receiver}
-use Rattle.session.specs.Receiver.{frameArrives, receiverNext, receiverWord}
+use Rattle.session.specs.Receiver.{frameArrives, wordLength, receiverNext, receiverWord}
 use Rattle.session.specs.Ends.{Settings, Within, startSender, startReceiver}
 use Rattle.session.specs.Session.{Event, adRequest, ticks, lowerSays, wordMade, wordIn, frameIn, frameLost}
 use Rattle.session.proofs.Trace.{computing, settings, after}
@@ -40,7 +40,7 @@ store = replicate smallestStore 0
 abbrev events : List Event
 events =
     adRequest (17 ∷ []) 256 ∷ frameLost ∷ lowerSays adAccept 256 ∷ ticks 256 ∷ adRequest (34 ∷ 35 ∷ []) 256 ∷ lowerSays adAccept 256 ∷ frameIn ∷ frameIn
-    ∷ wordMade ∷ wordIn 256 ∷ []
+    ∷ wordMade 4 ∷ wordIn 256 ∷ []
 
 abbrev units : List Fdu
 units = record { ns = 254; octets = 17 ∷ [] } ∷ record { ns = 255; octets = 34 ∷ 35 ∷ [] } ∷ []
@@ -66,13 +66,16 @@ receiver-twice =
     let frame = written (set .own) (SetVR 254) in
     receiverNext (frameArrives frame) (receiverNext (frameArrives frame) (atStart (set .own .spacecraft) (set .own .channel) 10 0 2))
 
+abbrev word-twice : List ℕ
+word-twice = 1 ∷ 36 ∷ 4 ∷ 254 ∷ []
+
 abbrev initiating : List (SenderEvent × ℕ)
 initiating =
-    (directive 4 254, 256) ∷ (lower bcAccept, 256) ∷ (tick, 256) ∷ (lower bcAccept, 256) ∷ (wordArrives (receiverWord receiver-twice), 256) ∷ []
+    (directive 4 254, 256) ∷ (lower bcAccept, 256) ∷ (tick, 256) ∷ (lower bcAccept, 256) ∷ (wordArrives word-twice, 256) ∷ []
 
-pub twice-received : receiver-twice ≡ startReceiver twice
+pub twice-received : (receiver-twice ≡ startReceiver twice) × (receiverWord wordLength receiver-twice ≡ record { refusal = 0; word = some word-twice })
 unfolding computing
-twice-received = refl
+twice-received = (refl, refl)
 
 twice-within : Within twice
 twice-within = record {

@@ -148,7 +148,7 @@ ours-tied set x b = record {
   answer = λ e lent y g. does (set .own) e lent y g .answer;
   nextReceiver = λ e r g. refl;
   answerReceiver = λ e r g. refl;
-  word = λ r g. refl;
+  word = λ lent r g. refl;
 }
 
 -- the receiver's start, at a FARM-B counter of 0, is what its own `new` gives

@@ -1,23 +1,21 @@
--- What the answers of tied ends say: alerts, refusals, control words.
+-- What the answers of tied ends say: alerts and refusals.
 use mathlib.Core.Logic.{_⊎_, inl, inr}
 use mathlib.Core.Path.{_≡_, refl, sym, ap, _∙_, subst}
 use mathlib.Core.Bool.{Bool, true, false}
 use mathlib.Core.List.{List, [], _∷_, map}
 use mathlib.Core.Option.{Option}
-use Prim.Native.Nat.{ℕ, _+_, _-_, _%_, _≤_, _<_}
+use Prim.Native.Nat.{ℕ, _-_, _<_}
 use native.Mathlib.Omega.{arith}
 use lib.Dec.{ltb}
 use lib.ListN.{length}
 use borrow.Author.Tests.{ltb-true, ltb-false}
 use Rattle.base.specs.Choice.{pick}
-use Rattle.base.specs.Modulo.{advanced}
-use Rattle.fop.specs.Units.{Frame, Word, valid, legal, written, wordOctets, readWord}
+use Rattle.fop.specs.Units.{Frame, Word, legal, written, wordOctets}
 use Rattle.fop.specs.Variables.{Fop, Work}
 use Rattle.fop.specs.Events.{SenderEvent, requestAd, requestBd, lower, directive, wordArrives, work, fopWord}
 use Rattle.fop.specs.Answers.{Answer, judged, needed, senderRefusal, senderAnswer, refused}
 use Rattle.session.specs.Ends.{Settings, Within, Ends, Tied, tables}
 use Rattle.session.specs.Session.{Linked}
-use Rattle.session.specs.Claims.{expected}
 use Rattle.session.specs.Stronger.{Calm, InSession}
 use Rattle.fop.specs.Events as fop
 use Rattle.fop.specs.Table.{Reason}
@@ -25,13 +23,10 @@ use Rattle.session.specs.Stronger.{Known}
 use Rattle.session.proofs.Choices.{by-pick}
 use Rattle.session.proofs.Alerts.{Hush, ownAlert, ad-hush, bd-hush, tick-hush, lower-hush, terminate-hush}
 use Rattle.session.proofs.Inv.{in-mode, Inv, hears, fine, alerting}
-use Rattle.session.proofs.Core.{Session, goes, report, used, isHeld}
+use Rattle.session.proofs.Core.{Session, goes, used, isHeld}
 use Rattle.session.proofs.Chan.{Wds}
-use Rattle.session.proofs.Values.{word}
-use Rattle.session.proofs.Octets.{word-back}
 use Rattle.session.proofs.Receiver.{at}
-use Rattle.session.proofs.Next.{historyOf}
-use Rattle.session.proofs.Link.{Rel, tables-tied, word-is, fly-reads, Reads}
+use Rattle.session.proofs.Link.{Rel, tables-tied, fly-reads, Reads}
 use Rattle.session.proofs.Keys.{Tidy}
 use Rattle.session.proofs.Quiet.{word-hush}
 use Rattle.session.proofs.Theorem.{oldest-word}
@@ -64,14 +59,6 @@ calm-known l r (inr e) = inr (inr (inr (inr e)))
 by-legal : (b : Bool) → (_≡_ {A = ℕ} (pick b 0 10) 0) ⊎ (_≡_ {A = ℕ} (pick b 0 10) 10)
 by-legal true = inl refl
 by-legal false = inr refl
-
-counter-is : (κ : Session) (c : ℕ) → κ .farm .counter ≡ (c + length (κ .acceptedBd)) % 4 → (report (κ .farm)) .counter ≤ 3
-unfolding report
-counter-is κ c e = omega (arith, e)
-
-number-is : (κ : Session) (n a : ℕ) → κ .farm .vr ≡ advanced n a → (report (κ .farm)) .nr < 256
-unfolding report
-number-is κ n a e = omega (arith, e)
 
 module _ (set : Settings) (vw : Within set) (m : Ends) (t : Tied set m) (σ : Linked m) (γ : Linked (tables set)) (κ : Session)
     (R : Rel set vw m t σ κ) (G : Rel set vw (tables set) (tables-tied set) γ κ) (I : Inv set κ) (Q : Tidy (set .n) κ) where
@@ -168,19 +155,3 @@ module _ (set : Settings) (vw : Within set) (m : Ends) (t : Tied set m) (σ : Li
           → Released-or-not (releaseAnswer (must b NoneTaken (Done (farm.answered 0 E10 0 (receiverOf set (used κ - 1) (κ .farm))))))
       go true z = inl (refl, omega (arith, ltb-true 0 (length (κ .accepted) - κ .released) z))
       go false z = inr (refl, omega (arith, ltb-false 0 (length (κ .accepted) - κ .released) z, R .stock .below))
-
-  -- the control word, by the histories
-  pub report-is : readWord (set .own) (m .word (σ .receiver))
-      ≡ valid (record {
-        lockout = κ .farm .lockout;
-        wait = κ .farm .wait;
-        retransmit = κ .farm .retransmit;
-        counter = (set .counter + length (κ .acceptedBd)) % 4;
-        nr = expected set (historyOf κ);
-      })
-  unfolding report
-  report-is =
-      ap (readWord (set .own)) (word-is set vw m t σ κ R)
-      ∙ word-back (set .own) (vw .spacecraft) (vw .channel) (report (κ .farm)) (counter-is κ (set .counter) (I .receiver .counted))
-      (number-is κ (set .n) (length (κ .accepted)) (I .receiver .isVr))
-      ∙ rw (I .receiver .counted, I .receiver .isVr)

@@ -19,6 +19,7 @@ pub mod Clear
 pub mod Arrive
 pub mod Received
 pub mod Link
+pub mod Words
 pub mod Theorem
 pub mod Asks
 pub mod Keys

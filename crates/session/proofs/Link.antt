@@ -5,6 +5,7 @@ use mathlib.Core.List.{List, [], _∷_, _++_, map, append-nil, map-append}
 use mathlib.Core.Option.{some}
 use Prim.Native.Nat.{_-_, ℕ, suc, _+_, _≤_, max}
 use native.Mathlib.Omega.{arith}
+use lib.Dec.{leb}
 use lib.ListN.{length}
 use Rattle.base.specs.Choice.{pick, must}
 use Rattle.fop.specs.Units.{Fdu, Frame, AD, BD, Unlock, SetVR, Refused, Word, legal, written, wordOctets}
@@ -21,7 +22,7 @@ use Rattle.farm.specs.declared.Received.{Received}
 use Rattle.farm.specs.declared.Released.{Released}
 use Rattle.farm.specs.declared.Released.the-variants.{Done, NoneTaken}
 use Rattle.session.specs.Receiver as rcv
-use Rattle.session.specs.Receiver.{frameArrives, releaseBuffer, ReceiverAnswer, receiverNext, releaseAnswer, receiverAnswer, receiverWord}
+use Rattle.session.specs.Receiver.{frameArrives, releaseBuffer, ReceiverAnswer, receiverNext, releaseAnswer, receiverAnswer, wordLength, receiverWord}
 use Rattle.session.specs.Frames.{read}
 use Rattle.session.specs.Ends.{Settings, Within, Ends, Tied, tables, startReceiver}
 use Rattle.session.specs.Session.{Linked, History, Event, adRequest, bdRequest, ticks, lowerSays, terminate, wordIn, wordLost, wordMade, frameIn, frameLost, release}
@@ -32,10 +33,10 @@ use Rattle.session.specs.Session as ses
 use Rattle.session.proofs.Core as core
 use Rattle.session.proofs.Received.{Readable, receiverOf, received-is, part-is, released-is, answerBy, accepted-is, acceptedBd-is, used-is}
 use Rattle.session.proofs.Buffers.{Stocked, stock-keeps, start-stock}
-use Rattle.session.proofs.Core.{frameEvent, star, used, free, isHeld, Session, addAll, addBds, firstOf, goes}
+use Rattle.session.proofs.Core.{addWord, frameEvent, star, used, free, isHeld, Session, addAll, addBds, firstOf, goes}
 use Rattle.session.proofs.Lists.{Numbered}
 use Rattle.session.proofs.Chan.{Fly}
-use Rattle.session.proofs.Octets.{ad-back, bd-back}
+use Rattle.session.proofs.Octets.{ad-back, bd-back, toldIf, word-told}
 use Rattle.session.proofs.Inv.{Inv}
 use Rattle.session.proofs.Receiver.{step-keeps, ad-cases, begun}
 use Rattle.session.proofs.Next.{historyOf}
@@ -117,6 +118,11 @@ module _ (set : Settings) (vw : Within set) where
   refusal-through : (r : ℕ) (f : Fop) (κ : Session) → afterSender set (refused r f) (historyOf κ) ≡ historyOf κ
   unfolding afterSender
   refusal-through r f κ = rw (append-nil (κ .confirmed), append-nil (κ .denied))
+
+  word-enters : (b : Bool) (w : Word) (ws : List Word)
+      → enters (map (wordOctets (set .own)) ws) ((toldIf b (wordOctets (set .own) w)) .word) ≡ map (wordOctets (set .own)) (addWord b w ws)
+  word-enters true w ws = sym (map-append (wordOctets (set .own)) ws (w ∷ []))
+  word-enters false w ws = refl
 
   -- the receiver's answer to a frame of the session
   abbrev answerTo : Session → Frame → ReceiverAnswer
@@ -299,10 +305,13 @@ module _ (set : Settings) (vw : Within set) where
     relink σ κ fs ws fs' ws' R f w =
         record { good = R .good; goodReceiver = R .goodReceiver; fop = R .fop; farm = R .farm; stock = R .stock; frames = f; words = w; history = R .history }
 
-    -- the receiver's control word
-    pub word-is : (σ : Linked m) (κ : Session) → Rel σ κ → m .word (σ .receiver) ≡ wordOctets (set .own) (core.report (κ .farm))
+    -- the receiver's control word: its channel and counter are within their limits
+    pub word-is : (σ : Linked m) (κ : Session) → Rel σ κ → Inv set κ → (lent : ℕ)
+        → m .word lent (σ .receiver) ≡ toldIf (leb wordLength lent) (wordOctets (set .own) (core.report (κ .farm)))
     unfolding receiverWord core.report wordOctets wordOf
-    word-is σ κ R = t .word (σ .receiver) (R .goodReceiver) ∙ ap (λ (f : Receiver). receiverWord f) (R .farm)
+    word-is σ κ R I lent =
+        t .word lent (σ .receiver) (R .goodReceiver) ∙ ap (receiverWord lent) (R .farm)
+        ∙ word-told (wordOf (receiverOf set (used κ) (κ .farm))) lent (vw .channel) (omega (arith, I .receiver .counted))
 
     -- every event
     pub same-step : (e : Event) (σ : Linked m) (κ : Session) → Rel σ κ → Inv set κ → Rel (ses.step set m e σ) (core.step set e κ)
@@ -317,9 +326,9 @@ module _ (set : Settings) (vw : Within set) where
         (heard σ κ lent (κ .words) R (step-keeps set vw (wordIn lent) κ I))
     same-step wordLost σ κ R I =
         relink σ κ (κ .frames) (rest (κ .words)) (σ .frames) (rest (σ .words)) R (R .frames) (ap rest (R .words) ∙ map-rest (wordOctets (set .own)) (κ .words))
-    same-step wordMade σ κ R I =
+    same-step (wordMade lent) σ κ R I =
         relink σ κ (κ .frames) _ (σ .frames) _ R (R .frames)
-        (rw (R .words, word-is σ κ R) (sym (map-append (wordOctets (set .own)) (κ .words) (core.report (κ .farm) ∷ []))))
+        (rw (R .words, word-is σ κ R I lent) (word-enters (leb wordLength lent) (core.report (κ .farm)) (κ .words)))
     same-step frameIn σ κ R I =
         subst (λ (l : List (List ℕ)). Rel (ses.frameCome set m l σ) (core.frameCome set (free set κ) (κ .frames) κ)) (sym (R .frames))
         (got σ κ (κ .frames) R I (I .base .fly) (stock-keeps set vw frameIn κ I (R .stock)))
@@ -350,5 +359,5 @@ tables-tied set =
       answer = λ e lent x g. refl;
       nextReceiver = λ e x g. refl;
       answerReceiver = λ e x g. refl;
-      word = λ x g. refl;
+      word = λ lent x g. refl;
     }

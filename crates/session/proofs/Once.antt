@@ -253,7 +253,7 @@ module _ (set : Settings) where
   step-once (terminate v lent) κ o = sender-once [] (directive 5 v) lent κ refl o
   step-once (wordIn lent) κ o = word-in lent (κ .words) κ o
   step-once wordLost κ o = o
-  step-once wordMade κ o = o
+  step-once (wordMade lent) κ o = o
   step-once frameIn κ o = frame-in (free set κ) (κ .frames) κ o
   step-once frameLost κ o = o
   step-once release κ o = by-pick (λ (τ : Session). Once (τ .fop)) (isHeld κ) (λ b. o) (λ b. o)

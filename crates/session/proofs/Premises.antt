@@ -62,7 +62,7 @@ ReadyAgain =
 -- the same of a sender resending without wait: the first of two units was lost, a word asked for both, and the first is on its way again
 abbrev resending-list : List Event
 resending-list =
-    adRequest (17 ∷ []) 256 ∷ lowerSays adAccept 256 ∷ adRequest (34 ∷ 35 ∷ []) 256 ∷ lowerSays adAccept 256 ∷ frameLost ∷ frameIn ∷ wordMade
+    adRequest (17 ∷ []) 256 ∷ lowerSays adAccept 256 ∷ adRequest (34 ∷ 35 ∷ []) 256 ∷ lowerSays adAccept 256 ∷ frameLost ∷ frameIn ∷ wordMade 4
     ∷ wordIn 256 ∷ []
 
 abbrev Resending : Type 0
@@ -92,7 +92,7 @@ Expires =
 
 -- "a clear control word reporting the next number to send ..": with a window of 1 full, a unit waiting and the lower layer ready
 abbrev clears-list : List Event
-clears-list = adRequest (17 ∷ []) 256 ∷ lowerSays adAccept 256 ∷ adRequest (34 ∷ 35 ∷ []) 256 ∷ frameIn ∷ wordMade ∷ []
+clears-list = adRequest (17 ∷ []) 256 ∷ lowerSays adAccept 256 ∷ adRequest (34 ∷ 35 ∷ []) 256 ∷ frameIn ∷ wordMade 4 ∷ []
 
 abbrev clear : Word
 clear = record { lockout = false; wait = false; retransmit = false; counter = 0; nr = 255 }

@@ -21,6 +21,7 @@ use Rattle.farm.specs.declared.State.the-variants.{Open, Wait, Lockout}
 use Rattle.farm.specs.declared.Event.{Event as FarmEvent}
 use Rattle.farm.specs.declared.Event.the-variants.{E1, E2, E3, E4, E5, E6, E10}
 use Rattle.farm.specs.declared.Variables.{Variables}
+use Rattle.session.specs.Receiver.{wordLength}
 use Rattle.session.specs.Ends.{Settings, Within, startSender, startReceiver}
 use Rattle.session.specs.Session.{nobody, rest, Event, adRequest, bdRequest, ticks, lowerSays, terminate, wordIn, wordLost, wordMade, frameIn, frameLost, release}
 use Rattle.session.specs.Stronger.{Sub, none-left}
@@ -256,7 +257,8 @@ stepWith-keeps set vw room held (lowerSays l lent) σ I = lower-keeps set lent l
 stepWith-keeps set vw room held (terminate v lent) σ I = terminate-keeps set v lent σ I
 stepWith-keeps set vw room held (wordIn lent) σ I = word-keeps set vw lent σ (σ .words) I (I .words)
 stepWith-keeps set vw room held wordLost σ I = words-are set σ (rest (σ .words)) I (rest-words (set .n) _ _ (σ .words) (I .words))
-stepWith-keeps set vw room held wordMade σ I = words-are set σ _ I (reported set σ I)
+stepWith-keeps set vw room held (wordMade lent) σ I =
+    words-are set σ _ I (by-pick (Wds (set .n) _ _) (leb wordLength lent) (λ t. reported set σ I) (λ t. I .words))
 stepWith-keeps set vw room held frameIn σ I = frame-keeps set vw σ room (σ .frames) I (I .base .fly) (I .bd)
 stepWith-keeps set vw room held frameLost σ I = lost-keeps set σ I
 stepWith-keeps set vw room held release σ I =

@@ -1,12 +1,12 @@
 -- The stronger claims of all tied ends. What an event of the session hands down is a unit sent and not confirmed (Handed), by an event that
--- leaves the sender serving (Shut); a word makes the count confirmed exact (Exact); alerts, refusals and words are in Answered, what is
--- outstanding in Standing. Each is said of the tables' session and carried to the ends' by Link.
+-- leaves the sender serving (Shut); a word makes the count confirmed exact (Exact); alerts and refusals are in Answered, that of a word in
+-- Words, what is outstanding in Standing. Each is said of the tables' session and carried to the ends' by Link.
 use mathlib.Core.Logic.{_⊎_, inl, inr}
 use mathlib.Core.Path.{_≡_, refl, sym, ap, _∙_, subst}
 use mathlib.Core.Bool.{true}
 use mathlib.Core.List.{List, [], _∷_, _++_, map, map-append}
 use mathlib.Core.Option.{Option, some}
-use Prim.Native.Nat.{ℕ, _+_, _%_, _≤_, _<_}
+use Prim.Native.Nat.{ℕ, _+_, _≤_, _<_}
 use native.Mathlib.Omega.{arith}
 use lib.ListN.{length, getD}
 use Rattle.base.specs.Modulo.{advanced}
@@ -20,7 +20,7 @@ use Rattle.fop.specs.Answers.{octetsDown, Answer, judged, needed, senderAnswer}
 use Rattle.session.specs.Frames.{read}
 use Rattle.session.specs.Ends.{Settings, Within, Ends, Tied, tables}
 use Rattle.session.specs.Session.{Linked, History, Event, adRequest, bdRequest, wordIn, frameIn, begins, run, nobody}
-use Rattle.session.specs.Claims.{unitsAt, outstanding, expected, IsOutstanding, nextNumber, Resends, Marked}
+use Rattle.session.specs.Claims.{unitsAt, outstanding, IsOutstanding, nextNumber, Resends, Marked}
 use Rattle.session.specs.Stronger.{unitsOf, somes, inService, InSession, Stronger, Sub}
 use Rattle.fop.specs.Events as fop
 use Rattle.session.specs.Session as ses
@@ -54,6 +54,7 @@ use Rattle.session.specs.Receiver.{releaseBuffer}
 use Rattle.fop.specs.Units.{readWord, valid}
 use lib.ListN.{length-append}
 use Rattle.session.specs.Claims.{serves}
+use Rattle.session.proofs.Words.{word-refusal}
 use Rattle.session.proofs.Answered as A
 
 module _ (set : Settings) (vw : Within set) (m : Ends) (t : Tied set m) (σ : Linked m) (γ : Linked (tables set)) (κ : Session)
@@ -232,25 +233,6 @@ module _ (set : Settings) (vw : Within set) (m : Ends) (t : Tied set m) (σ : Li
         exact = exactly;
         opens = λ b. ap (λ (f : Receiver). f .variables .state) (G .farm)
             ∙ opens set κ I (κ .farm .state) (I .receiver .unlocked) (R .stock .full) (rw (R .history) at b);
-        words = subst
-            (λ (f : Receiver). readWord (set .own) (m .word (σ .receiver))
-            ≡ valid (record {
-              lockout = f .variables .lockout;
-              wait = f .variables .wait;
-              retransmit = f .variables .retransmit;
-              counter = (set .counter + length (σ .history .acceptedBd)) % 4;
-              nr = expected set (σ .history);
-            }))
-            (sym (G .farm))
-            (by (λ h. readWord (set .own) (m .word (σ .receiver))
-            ≡ valid (record {
-              lockout = κ .farm .lockout;
-              wait = κ .farm .wait;
-              retransmit = κ .farm .retransmit;
-              counter = (set .counter + length (h .acceptedBd)) % 4;
-              nr = expected set h;
-            }))
-            (A.report-is set vw m t σ γ κ R G I Q));
         inOrderBd = by (λ h. Sub (h .acceptedBd) (h .sentBd)) (bd-part (κ .acceptedBd) (κ .sentBd) (κ .frames) (I .bd));
         expedited = λ o lent g r b.
             let x = expedites set κ o lent g (subst (λ (f : Fop). needed (set .own) (requestBd o) f ≤ lent) (G .fop) r) (rw (G .fop) at b) in
@@ -272,6 +254,7 @@ module _ (set : Settings) (vw : Within set) (m : Ends) (t : Tied set m) (σ : Li
             (((m .answerReceiver releaseBuffer (σ .receiver)) .refusal ≡ 0) × (h .released < length (h .accepted)))
             ⊎ (((m .answerReceiver releaseBuffer (σ .receiver)) .refusal ≡ 13) × (h .released ≡ length (h .accepted)))) (A.release-refusal set vw m t
             σ γ κ R G I Q);
+        wordRefusal = word-refusal set vw m t σ κ R I;
       }
 
 -- the stronger claims: after every list of events and at whatever event comes next

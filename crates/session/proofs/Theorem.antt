@@ -3,7 +3,7 @@
 --
 -- How it is proved. Core is the tables' session with frames and words before they are octets. Its invariant (Inv) is kept by every event,
 -- whatever is told of the buffers (Receiver, `stepWith-keeps`; the sender's rows in Rows and Sender); that a receiver which waits has no
--- buffer free is a fact apart (Buffers). What holds at the next event is in Next, Clear and Arrive. Link says that a session of tied ends,
+-- buffer free is a fact apart (Buffers). What holds at the next event is in Next, Clear, Arrive and Words. Link says that a session of tied ends,
 -- octets and all, is a session of Core, so the ends' run and the tables' run share one.
 use mathlib.Core.Logic.{_⊎_, inl, inr, _↔_}
 use mathlib.Core.Path.{_≡_, refl, sym, ap, _∙_, subst}
@@ -36,6 +36,7 @@ use Rattle.session.proofs.Receiver.{step-keeps, begun, start-inv}
 use Rattle.session.proofs.Clear.{clears-all, clears-sends}
 use Rattle.session.proofs.Arrive.{accepts}
 use Rattle.session.proofs.Next.{historyOf, Sent, Resent, offers, ready-again, ready-new, expires}
+use Rattle.session.proofs.Words.{word-made}
 use Rattle.session.proofs.Link.{Rel, at-start, same-step, tables-tied, reads, fly-reads, Reads}
 
 -- confirmed units are a first part of those accepted, and these of those sent
@@ -170,6 +171,7 @@ module _ (set : Settings) (vw : Within set) (m : Ends) (t : Tied set m) (σ : Li
                   (sends (wordIn lent) _
                   (clears-sends set vw κ I a' w (k .0) lent (k .1) (k .2) b c d f' o (rw (R .history) at p) (rw (G .fop) at x) (rw (G .fop) at y))),
             );
+        words = word-made set vw m t σ κ R I (γ .receiver .variables) (ap (λ (f : Receiver). f .variables) (G .farm));
       }
 
 -- the two sessions after a list of events, both seen as one, with whatever X else every event keeps

@@ -17,6 +17,7 @@ use Rattle.fop.specs.Machine.{fopDo, performCell, performAll, perform}
 use Rattle.fop.specs.Events.{Seen, seen, wordEvent, fopWord, fopTick, fopAd, fopBd, fopLower, fopDirective, directiveEvent}
 use Rattle.fop.specs.Events.{when, first, Lower, lowerEvent, isEmpty, SenderEvent, requestAd, requestBd, lower, directive, wordArrives, work}
 use Rattle.fop.specs.Answers.{judged}
+use Rattle.session.specs.Receiver.{wordLength}
 use Rattle.session.specs.Ends.{Settings, Within, startSender, startReceiver}
 use Rattle.session.specs.Session.{Event, adRequest, bdRequest, ticks, lowerSays, terminate, wordIn, wordLost, wordMade, frameIn, frameLost, release, places}
 use Rattle.session.specs.Session.{rest, addSent}
@@ -308,10 +309,12 @@ step-tidy set vw (terminate v lent) σ I t =
     sender-tidy set (directive 5 v) lent σ t (λ j. plain-tidy set σ nothing FopEvent.E29 [] v I t terminate-ok terminate-holds tt)
 step-tidy set vw (wordIn lent) σ I t = word-tidy set vw lent σ (σ .words) I t (I .words) (t .keys)
 step-tidy set vw wordLost σ I t = words-tidy (set .n) σ (σ .frames) (rest (σ .words)) t (rest-keys (set .n) _ _ _ (σ .words) (t .keys))
-step-tidy set vw wordMade σ I t =
+step-tidy set vw (wordMade lent) σ I t =
     words-tidy (set .n) σ (σ .frames) _ t
-    (keys-add (set .n) _ _ (length (σ .accepted)) (σ .farm) (σ .words) (I .receiver .isVr) (I .receiver .noLock)
+    (by-pick (Keys (set .n) _ _ _) (leb wordLength lent)
+    (λ b. keys-add (set .n) _ _ (length (σ .accepted)) (σ .farm) (σ .words) (I .receiver .isVr) (I .receiver .noLock)
     (omega (arith, t .waitFlag, t .waitMissing)) (t .missing) (t .keys))
+    (λ b. t .keys))
 step-tidy set vw frameIn σ I t = frame-tidy set vw σ (free set σ) (σ .frames) I t (I .base .fly)
 step-tidy set vw frameLost σ I t = words-tidy (set .n) σ (rest (σ .frames)) (σ .words) t (t .keys)
 step-tidy set vw release σ I t = by-pick (Tidy (set .n)) (isHeld σ) (λ e. release-tidy set σ I t) (λ e. t)

@@ -46,7 +46,7 @@ unfolding outstanding ses.run ses.begins ses.step ses.toSender ses.wordCome ses.
     answers.senderAnswer answers.senderNext t79.table t79.perform t79.performAll t79.stepOf t79.accepts window.adEvent receiver.eventOf
     receiver.answered receiver.arrived receiver.byReading receiver.receiveOf receiver.unitPart receiver.releaseOf receiver.wordOf frame.bodyOf
     frame.rawFrame frame.totalOf frame.dataField frame.isCommand frame.commandHeld frame.headerRefusal frame.contentRefusal frame.refusalOf frame.kindOf
-    frameAnswers.fieldsOf frameAnswers.readingOf frameAnswers.partOf header.headerFields header.headerOf clcw.wordFields clcw.clcwOf
+    frameAnswers.fieldsOf frameAnswers.readingOf frameAnswers.partOf header.headerFields header.headerOf clcw.wordFields clcw.clcwOf clcw.writing
     clcw.isValid clcw.wordOf clcwAnswers.receivedOf clcwAnswers.readingOf fecf.fecfOf fecf.syndromeOf register.shiftBit register.shiftBits
     register.register fields.digitsOf fields.valueOf fields.packed fields.octetsOf fields.fieldAt octets.bitsOf octets.octetBits
 computing = tt
@@ -82,7 +82,7 @@ said s (lowerSays x l) σ = S (senderAnswer (s .own) (lower x) l (σ .sender))
 said s (terminate v l) σ = S (senderAnswer (s .own) (directive 5 v) l (σ .sender))
 said s (wordIn l) σ = ask s (σ .words) l (σ .sender)
 said s wordLost σ = N
-said s wordMade σ = N
+said s (wordMade l) σ = N
 said s frameIn σ = arrive (σ .frames) (σ .receiver)
 said s frameLost σ = N
 said s release σ = R (receiverAnswer releaseBuffer (σ .receiver))

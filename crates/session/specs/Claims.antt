@@ -11,7 +11,7 @@ use mathlib.Core.Logic.{_⊎_, _↔_, _≢_}
 use mathlib.Core.Bool.{Bool, true, false, _||_}
 use mathlib.Core.List.{List, [], _∷_, _++_, map}
 use mathlib.Core.Option.{Option, none, some}
-use Prim.Native.Nat.{ℕ, zero, suc, _+_, _≤_, _<_}
+use Prim.Native.Nat.{ℕ, zero, suc, _+_, _%_, _≤_, _<_}
 use lib.Dec.{eqb}
 use lib.ListN.{length, getD}
 use Rattle.base.specs.Choice.{pick}
@@ -24,9 +24,11 @@ use Rattle.fop.specs.Events.{SenderEvent, requestAd, lower, wordArrives, adAcce
 use Rattle.fop.specs.Events as fop
 use Rattle.fop.specs.Answers.{needed}
 use Rattle.farm.specs.declared.State.the-variants.{Open, Lockout}
+use Rattle.farm.specs.declared.Variables.{Variables}
 use Rattle.session.specs.Frames.{read}
+use Rattle.session.specs.Receiver.{wordLength}
 use Rattle.session.specs.Ends.{Settings, Ends, tables}
-use Rattle.session.specs.Session.{adRequest, ticks, lowerSays, wordIn, frameIn, Linked, History, step, nobody}
+use Rattle.session.specs.Session.{adRequest, ticks, lowerSays, wordIn, wordMade, frameIn, Linked, History, step, nobody}
 
 -- "a first part, in order"
 abbrev pub Prefix : {A : Type 0} → List A → List A → Type 0
@@ -68,6 +70,17 @@ expected set h = advanced (set .n) (length (h .accepted))
 -- "A buffer is free while fewer units are accepted than buffers set plus releases done"
 abbrev pub BufferFree : Settings → History → Type 0
 BufferFree set h = length (h .accepted) < set .buffers + h .released
+
+-- the control word of a receiver with these flags: "the FARM-B counter modulo 4", counted on from the start by the BD units accepted, and the
+-- number expected
+abbrev pub reported : Settings → Variables → History → Word
+reported set v h = record {
+  lockout = v .lockout;
+  wait = v .wait;
+  retransmit = v .retransmit;
+  counter = (set .counter + length (h .acceptedBd)) % 4;
+  nr = expected set h;
+}
 
 -- the unit o, with the next number to send
 abbrev pub nextUnit : Settings → History → List ℕ → Fdu
@@ -148,3 +161,7 @@ pub record Claims (set : Settings) (m : Ends) (σ : Linked m) (γ : Linked (tabl
       → ((i : ℕ) → IsOutstanding (σ .history) i → member i ((step set m (wordIn lent) σ) .history .confirmed) ≡ true)
       × ((o : List ℕ) → 0 < length (outstanding (σ .history)) → γ .sender .out .ad ≡ true → γ .sender .waitQueue ≡ some o
       → Sends set (nextUnit set (σ .history) o) σ (step set m (wordIn lent) σ))
+  -- "the receiver's control word, with V(R), flags and counter as table 7-9 gives them, enters its channel", where its room is lent
+  pub words : (lent : ℕ) → wordLength ≤ lent
+      → (s : List ℕ) × ((step set m (wordMade lent) σ) .words ≡ σ .words ++ (s ∷ []))
+      × (readWord (set .own) s ≡ valid (reported set (γ .receiver .variables) (σ .history)))

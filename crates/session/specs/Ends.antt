@@ -1,7 +1,6 @@
 -- The settings of a session, the start, and a pair of ends: whatever they do, and what it is that they do as the tables say.
 use mathlib.Core.Path.{_≡_}
 use mathlib.Core.Bool.{false}
-use mathlib.Core.List.{List}
 use Prim.Native.Nat.{ℕ, _/_, _%_, _≤_}
 use Rattle.base.specs.Limits.{largestSpacecraft, largestChannel}
 use Rattle.fop.specs.Limits.{largestK, largestTransmissionLimit, largestTimer, largestNumber}
@@ -13,7 +12,7 @@ use Rattle.fop.specs.Answers.{Answer, senderNext, senderAnswer}
 use Rattle.farm.specs.Receiver.{largestBuffers}
 use Rattle.farm.specs.declared.State.the-variants.{Open}
 use Rattle.farm.specs.declared.Receiver.{Receiver}
-use Rattle.session.specs.Receiver.{ReceiverEvent, ReceiverAnswer, receiverNext, receiverAnswer, receiverWord}
+use Rattle.session.specs.Receiver.{ReceiverEvent, ReceiverAnswer, WordAnswer, receiverNext, receiverAnswer, receiverWord}
 
 -- "the FARM-B counter modulo 4"
 abbrev pub largestCounter : ℕ
@@ -73,7 +72,7 @@ startReceiver s = record {
 }
 
 -- A sender and a receiver, whatever they are: how they stand at the start, and the next state, answer and control word that they give. A
--- number is the room lent for a frame.
+-- number is the room lent for a frame or word.
 pub record Ends : Type 1 where
   pub Sender : Type 0
   pub Receiver : Type 0
@@ -83,7 +82,7 @@ pub record Ends : Type 1 where
   pub answer : SenderEvent → ℕ → Sender → Answer
   pub nextReceiver : ReceiverEvent → Receiver → Receiver
   pub answerReceiver : ReceiverEvent → Receiver → ReceiverAnswer
-  pub word : Receiver → List ℕ
+  pub word : ℕ → Receiver → WordAnswer
 
 -- the ends that the tables themselves are: table 7-8 by crate fop, table 7-9 by crate farm
 abbrev pub tables : Settings → Ends
@@ -116,4 +115,4 @@ pub record Tied (s : Settings) (m : Ends) : Type 1 where
   pub answer : (e : SenderEvent) (lent : ℕ) (x : m .Sender) → Good x → m .answer e lent x ≡ senderAnswer (s .own) e lent (fop x)
   pub nextReceiver : (e : ReceiverEvent) (x : m .Receiver) → GoodReceiver x → farm (m .nextReceiver e x) ≡ receiverNext e (farm x)
   pub answerReceiver : (e : ReceiverEvent) (x : m .Receiver) → GoodReceiver x → m .answerReceiver e x ≡ receiverAnswer e (farm x)
-  pub word : (x : m .Receiver) → GoodReceiver x → m .word x ≡ receiverWord (farm x)
+  pub word : (lent : ℕ) (x : m .Receiver) → GoodReceiver x → m .word lent x ≡ receiverWord lent (farm x)

@@ -164,17 +164,17 @@ begins m = record {
   history = record { sent = []; accepted = []; confirmed = []; denied = []; released = 0; lockedOut = false; sentBd = []; acceptedBd = [] };
 }
 
--- the events; the last number is the room lent for a frame. To the sender: an AD or BD request, a tick, an answer of the lower layer,
+-- the events; the last number is the room lent for a frame or word. To the sender: an AD or BD request, a tick, an answer of the lower layer,
 -- Terminate with its value, which is not looked at, the oldest word; to the receiver: the oldest frame, a release; the receiver's control word is made; the oldest frame or word is lost
 pub data Event : Type 0 where
   adRequest bdRequest : List ℕ → ℕ → Event
   ticks : ℕ → Event
   lowerSays : Lower → ℕ → Event
   terminate : ℕ → ℕ → Event
-  wordIn : ℕ → Event
-  wordLost wordMade frameIn frameLost release : Event
+  wordIn wordMade : ℕ → Event
+  wordLost frameIn frameLost release : Event
 
--- "each frame handed down, even if aborted later, enters its channel"
+-- "each frame handed down, even if aborted later, enters its channel", and so does a control word that is made
 abbrev pub enters : List (List ℕ) → Option (List ℕ) → List (List ℕ)
 enters fs none = fs
 enters fs (some o) = fs ++ (o ∷ [])
@@ -235,7 +235,7 @@ step set m (lowerSays l lent) σ = toSender set m (fop.lower l) lent (σ .words)
 step set m (terminate v lent) σ = toSender set m (directive 5 v) lent (σ .words) σ
 step set m (wordIn lent) σ = wordCome set m lent (σ .words) σ
 step set m wordLost σ = channels m (σ .frames) (rest (σ .words)) σ
-step set m wordMade σ = channels m (σ .frames) (σ .words ++ (m .word (σ .receiver) ∷ [])) σ
+step set m (wordMade lent) σ = channels m (σ .frames) (enters (σ .words) ((m .word lent (σ .receiver)) .word)) σ
 step set m frameIn σ = frameCome set m (σ .frames) σ
 step set m frameLost σ = channels m (rest (σ .frames)) (σ .words) σ
 step set m release σ = releases m σ

@@ -4,7 +4,7 @@ use mathlib.Core.Logic.{_⊎_, _≢_}
 use mathlib.Core.Bool.{Bool, true, false}
 use mathlib.Core.List.{List, [], _∷_, _++_, map}
 use mathlib.Core.Option.{Option, none, some}
-use Prim.Native.Nat.{ℕ, _+_, _≤_, _<_, _%_}
+use Prim.Native.Nat.{ℕ, _≤_, _<_}
 use lib.ListN.{length, getD}
 use Rattle.base.specs.Modulo.{advanced}
 use Rattle.fop.specs.Units.{Fdu, AD, BD, Word, valid, Own, legal, written, readWord}
@@ -17,10 +17,10 @@ use Rattle.fop.specs.Answers.{senderNext, senderAnswer}
 use Rattle.farm.specs.declared.State.the-variants.{Open}
 use Rattle.farm.specs.declared.Receiver.{Receiver}
 use Rattle.session.specs.Frames.{read}
-use Rattle.session.specs.Receiver.{ReceiverEvent, frameArrives, releaseBuffer, receiverNext, receiverAnswer}
+use Rattle.session.specs.Receiver.{ReceiverEvent, frameArrives, releaseBuffer, wordLength, receiverNext, receiverAnswer}
 use Rattle.session.specs.Ends.{Settings, Ends, tables}
-use Rattle.session.specs.Session.{adRequest, bdRequest, wordIn, frameIn, Linked, step, nobody}
-use Rattle.session.specs.Claims.{unitsAt, IsOutstanding, outstanding, nextNumber, expected, BufferFree, serves, Lent, Resends, Marked}
+use Rattle.session.specs.Session.{adRequest, bdRequest, wordIn, wordMade, frameIn, Linked, step, nobody}
+use Rattle.session.specs.Claims.{unitsAt, IsOutstanding, outstanding, nextNumber, BufferFree, serves, Lent, Resends, Marked}
 
 -- S1 to S3
 abbrev pub inService : State → Bool
@@ -117,15 +117,6 @@ pub record Stronger (set : Settings) (m : Ends) (σ : Linked m) (γ : Linked (ta
       → w .nr ≡ advanced (set .n) (length ((step set m (wordIn lent) σ) .history .confirmed))
   -- a receiver with a free buffer is Open
   pub opens : BufferFree set (σ .history) → γ .receiver .variables .state ≡ Open
-  -- a control word reports the flags as table 7-9 gives them, the counter of the start with the count of BD units accepted, modulo 4, and the next number expected
-  pub words : readWord (set .own) (m .word (σ .receiver))
-      ≡ valid (record {
-        lockout = γ .receiver .variables .lockout;
-        wait = γ .receiver .variables .wait;
-        retransmit = γ .receiver .variables .retransmit;
-        counter = (set .counter + length (σ .history .acceptedBd)) % 4;
-        nr = expected set (σ .history);
-      })
   -- BD units accepted are those handed down, in order, but for those lost
   pub inOrderBd : Sub (σ .history .acceptedBd) (σ .history .sentBd)
   -- with BD_Out ready, a legal BD unit offered is handed down at once, in every state; a BD unit that arrives is accepted
@@ -138,7 +129,7 @@ pub record Stronger (set : Settings) (m : Ends) (σ : Linked m) (γ : Linked (ta
   pub quiet : (s : List ℕ) (ws : List (List ℕ)) (lent : ℕ) → σ .words ≡ s ∷ ws → Calm (set .limit) ((m .answer (wordArrives s) lent (σ .sender)) .alert)
   -- and to whatever event no alert but term, T1, LLIF and that of the limit
   pub alerts : (e : SenderEvent) (lent : ℕ) → InSession (σ .words) e → Known (set .limit) ((m .answer e lent (σ .sender)) .alert)
-  -- the refusals of the session are 10 and 11 (sender) and 13 (receiver)
+  -- the refusals of the session are 10 and 11 (sender), 11 and 13 (receiver)
   pub refusals : (e : SenderEvent) (lent : ℕ) → InSession (σ .words) e
       → ((m .answer e lent (σ .sender)) .refusal ≡ 0) ⊎ (((m .answer e lent (σ .sender)) .refusal ≡ 10) ⊎ ((m .answer e lent (σ .sender)) .refusal ≡ 11))
   pub frameRefusal : (s : List ℕ) (fs : List (List ℕ)) → σ .frames ≡ s ∷ fs → (m .answerReceiver (frameArrives s) (σ .receiver)) .refusal ≡ 0
@@ -146,6 +137,10 @@ pub record Stronger (set : Settings) (m : Ends) (σ : Linked m) (γ : Linked (ta
   pub releaseRefusal :
       (((m .answerReceiver releaseBuffer (σ .receiver)) .refusal ≡ 0) × (σ .history .released < length (σ .history .accepted)))
       ⊎ (((m .answerReceiver releaseBuffer (σ .receiver)) .refusal ≡ 13) × (σ .history .released ≡ length (σ .history .accepted)))
+  -- a control word is refused exactly where its room is not lent; then the words under way stay
+  pub wordRefusal : (lent : ℕ)
+      → (((m .word lent (σ .receiver)) .refusal ≡ 0) × (wordLength ≤ lent))
+      ⊎ (((m .word lent (σ .receiver)) .refusal ≡ 11) × (lent < wordLength) × ((step set m (wordMade lent) σ) .words ≡ σ .words))
 
 -- of the table machines: what is refused keeps the state (a refused frame is E9, which keeps it by table 7-9)
 pub record RefusedKeeps (own : Own) : Type 0 where
