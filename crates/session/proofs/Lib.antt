@@ -40,3 +40,5 @@ pub mod Trace
 pub mod Example
 pub mod Premises
 pub mod Refuted
+pub mod Renumbered
+pub mod Universal

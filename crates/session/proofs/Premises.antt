@@ -1,4 +1,5 @@
--- For each claim of demand 3 about the next event, a computed session of the table machines that meets all its premises.
+-- For each claim of demand 3 about the next event, a computed session of the table machines that meets all its premises; of a sender "active or
+-- resending without wait" one in each of the two states.
 use mathlib.Core.Path.{_≡_, refl}
 use mathlib.Core.Bool.{true, false}
 use mathlib.Core.List.{List, [], _∷_}
@@ -11,18 +12,21 @@ use Rattle.fop.specs.Events as events
 use Rattle.session.specs.Frames as frames
 use Rattle.session.specs.Session as ses
 use Rattle.fop.specs.Units.{Fdu, AD, Word, valid, legal}
-use Rattle.fop.specs.Table.{S1, S2}
+use Rattle.fop.specs.Table.{State, S1, S2}
 use Rattle.fop.specs.Machine.{firstMarked}
 use Rattle.fop.specs.Events.{requestAd, lower, wordArrives, adAccept}
 use Rattle.farm.specs.declared.State.the-variants.{Open}
 use Rattle.session.specs.Ends.{Settings, tables}
 use Rattle.session.specs.Session.{Event, Linked, adRequest, ticks, lowerSays, wordMade, frameIn, frameLost, wordIn}
-use Rattle.session.specs.Claims.{IsOutstanding, outstanding, expected, BufferFree, serves, Lent, nextNumber}
+use Rattle.session.specs.Claims.{IsOutstanding, outstanding, expected, BufferFree, Lent, nextNumber}
 use Rattle.session.proofs.Trace.{computing, settings}
 
--- a window of 1, and a wider one
+-- a window of 1, and wider ones
 abbrev set : Settings
 set = settings 1 2 2 3
+
+abbrev two : Settings
+two = settings 2 2 2 3
 
 abbrev wide : Settings
 wide = settings 3 2 2 3
@@ -32,6 +36,10 @@ after s es = ses.run s (tables s) es (ses.begins (tables s))
 
 abbrev one : Fdu
 one = record { ns = 254; octets = 17 ∷ [] }
+
+-- a clear control word
+abbrev clear : ℕ → Word
+clear number = record { lockout = false; wait = false; retransmit = false; counter = 0; nr = number }
 
 -- "The receiver accepts an AD frame exactly when ..": a frame under way to a receiver that is Open, expects it and has a buffer free
 abbrev accepts-list : List Event
@@ -50,68 +58,86 @@ Offered =
     × ((after set []) .sender .out .ad ≡ true) × ((after set []) .sender .waitQueue ≡ none) × (firstMarked ((after set []) .sender .sentQueue) ≡ none)
     × (length (outstanding ((after set []) .history)) < set .k)
 
--- "When the lower layer comes ready, .. its oldest marked unit": the timer expired before the lower layer answered
+-- The other claims speak of a sender active or resending without wait: each is met in both states, st.
+module _ (s : Settings) (es : List Event) (st : State) where
+  -- "When the lower layer comes ready, .. its oldest marked unit"
+  abbrev ReadyAgain : Fdu → Type 0
+  ReadyAgain u =
+      Lent s (lower adAccept) 9 ((after s es) .sender) × ((after s es) .sender .state ≡ st)
+      × (firstMarked ((after s es) .sender .sentQueue) ≡ some u)
+
+  -- "with none marked and fewer than K outstanding, .. the unit waiting"
+  abbrev ReadyNew : List ℕ → Type 0
+  ReadyNew o =
+      Lent s (lower adAccept) 9 ((after s es) .sender) × ((after s es) .sender .state ≡ st)
+      × (firstMarked ((after s es) .sender .sentQueue) ≡ none) × (length (outstanding ((after s es) .history)) < s .k)
+      × ((after s es) .sender .waitQueue ≡ some o)
+
+  -- "a timer expiry short of the transmission limit": one tick before it, the first unit outstanding
+  abbrev Expires : Type 0
+  Expires =
+      Lent s events.tick 8 ((after s es) .sender) × ((after s es) .sender .state ≡ st)
+      × ((after s es) .sender .clock .timer ≡ 1) × ((after s es) .sender .clock .transmissionCount < s .limit)
+      × IsOutstanding ((after s es) .history) 0
+
+  -- "a clear control word reporting the next number to send ..": units outstanding, a unit waiting and the lower layer ready
+  abbrev Clears : ℕ → List ℕ → Type 0
+  Clears number o =
+      (w : List ℕ) × (ws : List (List ℕ)) × ((after s es) .words ≡ w ∷ ws) × (units.readWord (s .own) w ≡ valid (clear number))
+      × Lent s (wordArrives w) 9 ((after s es) .sender) × ((after s es) .sender .state ≡ st)
+      × (number ≡ nextNumber s ((after s es) .history)) × (0 < length (outstanding ((after s es) .history)))
+      × ((after s es) .sender .out .ad ≡ true) × ((after s es) .sender .waitQueue ≡ some o)
+
+-- active: the timer expired before the lower layer answered
 abbrev again-list : List Event
 again-list = adRequest (17 ∷ []) 256 ∷ ticks 256 ∷ ticks 256 ∷ []
 
-abbrev ReadyAgain : Type 0
-ReadyAgain =
-    Lent set (lower adAccept) 8 ((after set again-list) .sender) × (serves ((after set again-list) .sender .state) ≡ true)
-    × (firstMarked ((after set again-list) .sender .sentQueue) ≡ some one)
-
--- the same of a sender resending without wait: the first of two units was lost, a word asked for both, and the first is on its way again
-abbrev resending-list : List Event
-resending-list =
-    adRequest (17 ∷ []) 256 ∷ lowerSays adAccept 256 ∷ adRequest (34 ∷ 35 ∷ []) 256 ∷ lowerSays adAccept 256 ∷ frameLost ∷ frameIn ∷ wordMade 4
-    ∷ wordIn 256 ∷ []
-
-abbrev Resending : Type 0
-Resending =
-    Lent wide (lower adAccept) 9 ((after wide resending-list) .sender) × ((after wide resending-list) .sender .state ≡ S2)
-    × (firstMarked ((after wide resending-list) .sender .sentQueue) ≡ some (record { ns = 255; octets = 34 ∷ 35 ∷ [] }))
-
--- "with none marked and fewer than K outstanding, .. the unit waiting": a second unit is offered before the lower layer answered
+-- a second unit is offered before the lower layer answered
 abbrev new-list : List Event
 new-list = adRequest (17 ∷ []) 256 ∷ adRequest (34 ∷ 35 ∷ []) 256 ∷ []
 
-abbrev ReadyNew : Type 0
-ReadyNew =
-    Lent wide (lower adAccept) 9 ((after wide new-list) .sender) × (serves ((after wide new-list) .sender .state) ≡ true)
-    × (firstMarked ((after wide new-list) .sender .sentQueue) ≡ none) × (length (outstanding ((after wide new-list) .history)) < wide .k)
-    × ((after wide new-list) .sender .waitQueue ≡ some (34 ∷ 35 ∷ []))
-
--- "a timer expiry short of the transmission limit": one tick before it
+-- the timer has one tick left
 abbrev expires-list : List Event
 expires-list = adRequest (17 ∷ []) 256 ∷ lowerSays adAccept 256 ∷ ticks 256 ∷ []
 
-abbrev Expires : Type 0
-Expires =
-    Lent set events.tick 8 ((after set expires-list) .sender) × (serves ((after set expires-list) .sender .state) ≡ true)
-    × ((after set expires-list) .sender .clock .timer ≡ 1) × ((after set expires-list) .sender .clock .transmissionCount < set .limit)
-    × IsOutstanding ((after set expires-list) .history) 0
-
--- "a clear control word reporting the next number to send ..": with a window of 1 full, a unit waiting and the lower layer ready
+-- with a window of 1 full
 abbrev clears-list : List Event
 clears-list = adRequest (17 ∷ []) 256 ∷ lowerSays adAccept 256 ∷ adRequest (34 ∷ 35 ∷ []) 256 ∷ frameIn ∷ wordMade 4 ∷ []
 
-abbrev clear : Word
-clear = record { lockout = false; wait = false; retransmit = false; counter = 0; nr = 255 }
+-- resending without wait: the first of two units was lost, a word asked for both, and the first is on its way again
+abbrev resending-list : List Event → List Event
+resending-list es =
+    adRequest (17 ∷ []) 256 ∷ lowerSays adAccept 256 ∷ adRequest (34 ∷ 35 ∷ []) 256 ∷ lowerSays adAccept 256 ∷ frameLost ∷ frameIn ∷ wordMade 4
+    ∷ wordIn 256 ∷ es
 
-abbrev Clears : Type 0
-Clears =
-    (s : List ℕ) × (ws : List (List ℕ)) × ((after set clears-list) .words ≡ s ∷ ws) × (units.readWord (set .own) s ≡ valid clear)
-    × Lent set (wordArrives s) 9 ((after set clears-list) .sender) × (serves ((after set clears-list) .sender .state) ≡ true)
-    × (clear .nr ≡ nextNumber set ((after set clears-list) .history)) × (0 < length (outstanding ((after set clears-list) .history)))
-    × ((after set clears-list) .sender .out .ad ≡ true) × ((after set clears-list) .sender .waitQueue ≡ some (34 ∷ 35 ∷ []))
+-- the second is too, and a third unit is offered
+abbrev resending-new : List Event
+resending-new = resending-list (lowerSays adAccept 256 ∷ adRequest (51 ∷ 52 ∷ []) 256 ∷ [])
 
-pub premises : Accepts × Offered × ReadyAgain × Resending × ReadyNew × Expires × Clears
+abbrev resending-expires : List Event
+resending-expires = resending-list (ticks 256 ∷ [])
+
+-- with a window of 2 full, both units arrive
+abbrev resending-clears : List Event
+resending-clears =
+    resending-list
+    (lowerSays adAccept 256 ∷ lowerSays adAccept 256 ∷ adRequest (51 ∷ 52 ∷ []) 256 ∷ frameIn ∷ frameIn ∷ wordMade 4 ∷ [])
+
+pub premises : Accepts × Offered
+    × ReadyAgain set again-list S1 one × ReadyAgain wide (resending-list []) S2 (record { ns = 255; octets = 34 ∷ 35 ∷ [] })
+    × ReadyNew wide new-list S1 (34 ∷ 35 ∷ []) × ReadyNew wide resending-new S2 (51 ∷ 52 ∷ [])
+    × Expires set expires-list S1 × Expires wide resending-expires S2
+    × Clears set clears-list S1 255 (34 ∷ 35 ∷ []) × Clears two resending-clears S2 0 (51 ∷ 52 ∷ [])
 unfolding computing
 premises = (
   (0 ∷ 5 ∷ 36 ∷ 7 ∷ 254 ∷ 17 ∷ 103 ∷ 182 ∷ [], [], refl, refl, refl, refl, leb→le 1 2 tt),
   (refl, leb→le 8 8 tt, refl, refl, refl, refl, leb→le 1 1 tt),
-  (leb→le 8 8 tt, refl, refl),
+  (leb→le 8 9 tt, refl, refl),
   (leb→le 9 9 tt, refl, refl),
   (leb→le 9 9 tt, refl, refl, leb→le 2 3 tt, refl),
+  (leb→le 9 9 tt, refl, refl, leb→le 3 3 tt, refl),
   (leb→le 8 8 tt, refl, refl, leb→le 2 3 tt, (leb→le 1 1 tt, refl, refl)),
+  (leb→le 0 8 tt, refl, refl, leb→le 3 3 tt, (leb→le 1 2 tt, refl, refl)),
   (1 ∷ 36 ∷ 0 ∷ 255 ∷ [], [], refl, refl, leb→le 9 9 tt, refl, refl, leb→le 1 1 tt, refl, refl),
+  (1 ∷ 36 ∷ 0 ∷ 0 ∷ [], [], refl, refl, leb→le 9 9 tt, refl, refl, leb→le 1 2 tt, refl, refl),
 )

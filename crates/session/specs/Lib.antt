@@ -4,3 +4,4 @@ pub mod Ends
 pub mod Session
 pub mod Claims
 pub mod Stronger
+pub mod Signed
