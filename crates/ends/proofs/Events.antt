@@ -57,8 +57,8 @@ use Rattle.ends.proofs.Meets.{word-meets, directive-meets, expiry-meets
 abbrev plain : FopEvent → Bool
 plain e = both (not (isOffering (brings e))) (not (eqb (eventNumber e) 21))
 
-plain-quiet : (e : FopEvent) → plain e ≡ true → isOffering (brings e) ≡ false
-plain-quiet e p = not-true _ (both-left _ _ p)
+plain-not-offering : (e : FopEvent) → plain e ≡ true → isOffering (brings e) ≡ false
+plain-not-offering e p = not-true _ (both-left _ _ p)
 
 plain-unbypassed : (e : FopEvent) → plain e ≡ true → eqb (eventNumber e) 21 ≡ false
 plain-unbypassed e p = not-true _ (both-right (not (isOffering (brings e))) _ p)
@@ -69,9 +69,9 @@ unfolding begun
 stored own s store g = le-leb smallestStore (length store) (g .formed .room)
 
 -- octets as they are read at our channel
-yes-heard : (own : Own) (octets : List ℕ) → areOctets octets ≡ true → (r : Reading) → readingOf octets (own .channel) ≡ r → readWord own octets ≡ heard r
+yes-received : (own : Own) (octets : List ℕ) → areOctets octets ≡ true → (r : Reading) → readingOf octets (own .channel) ≡ r → readWord own octets ≡ heard r
 unfolding readWord
-yes-heard own octets t r q = ap (λ (b : Bool). heard (pick b (readingOf octets (own .channel)) reading.Length)) t ∙ ap heard q
+yes-received own octets t r q = ap (λ (b : Bool). heard (pick b (readingOf octets (own .channel)) reading.Length)) t ∙ ap heard q
 
 module _ (own : Own) (s : Sender) (store : List ℕ) (lent : ℕ) (good : Good own s store) where
   abbrev f : Fop
@@ -88,7 +88,7 @@ module _ (own : Own) (s : Sender) (store : List ℕ) (lent : ℕ) (good : Good o
       subst (λ (x : Step). Agrees own lent f (fopDo e [] n (fopOf (begun g) store)) x)
       (sym (ap (λ (t : Bool). must t (refusedStep 11 s store output) (servedBy (eventNumber e) s (rowNumbered (eventNumber e) n 0 (begun g)) store output)) (stored own s store good)
       ∙ ap (λ (w : Work). servedBy (eventNumber e) s w store output) (row-event e n 0 (begun g))))
-      (serves own e n s g store lent good by-good meets q (plain-quiet e p) (plain-unbypassed e p))
+      (serves own e n s g store lent good by-good meets q (plain-not-offering e p) (plain-unbypassed e p))
 
   refused-by : (e : SenderEvent) (j : ℕ) → judged own e ≡ j → eqb j 0 ≡ false → answerBy (refusedStep j s store output) ≡ refused j f
       → Does own lent e f (refusedStep j s store output)
@@ -223,28 +223,28 @@ module _ (own : Own) (s : Sender) (store : List ℕ) (lent : ℕ) (good : Good o
   word-plain w = is-true _ (first-all plain (wordLines (seen w (variablesOf s))) E103 tt)
 
   -- by what the octets are read as
-  heard-does : (octets : List ℕ) → areOctets octets ≡ true → (r : Reading) → readingOf octets (own .channel) ≡ r → reportIn r < 256
+  received-does : (octets : List ℕ) → areOctets octets ≡ true → (r : Reading) → readingOf octets (own .channel) ≡ r → reportIn r < 256
       → Does own lent (wordArrives octets) f (wordBy r s store output)
   unfolding wordNumber work fopHeard fopWord judged readWord begun
-  heard-does octets t (reading.Word r) q o =
-      let h : readWord own octets ≡ heard (reading.Word r) = yes-heard own octets t (reading.Word r) q in
+  received-does octets t (reading.Word r) q o =
+      let h : readWord own octets ≡ heard (reading.Word r) = yes-received own octets t (reading.Word r) q in
       agreed own lent (wordArrives octets) f (wordBy (reading.Word r) s store output) (ap otherRefusal h)
       (subst (λ (x : Heard). Agrees own lent f (fopHeard x f) (wordBy (reading.Word r) s store output)) (sym h)
       (by-row (wordEvent (seen (told (r .word)) (variablesOf s))) (r .word .report) s good (word-meets (told (r .word)) s o) refl (word-plain (told (r .word)))))
-  heard-does octets t reading.Invalid q o =
-      let h : readWord own octets ≡ invalid = yes-heard own octets t reading.Invalid q in
+  received-does octets t reading.Invalid q o =
+      let h : readWord own octets ≡ invalid = yes-received own octets t reading.Invalid q in
       agreed own lent (wordArrives octets) f (wordBy reading.Invalid s store output) (ap otherRefusal h)
       (subst (λ (x : Heard). Agrees own lent f (fopHeard x f) (wordBy reading.Invalid s store output)) (sym h) (by-row E15 0 s good tt refl refl))
-  heard-does octets t reading.Address q o =
-      refused-by (wordArrives octets) 7 (ap otherRefusal (yes-heard own octets t reading.Address q)) refl (refuses-7 s store output)
-  heard-does octets t reading.Length q o =
-      refused-by (wordArrives octets) 10 (ap otherRefusal (yes-heard own octets t reading.Length q)) refl (refuses-10 s store output)
+  received-does octets t reading.Address q o =
+      refused-by (wordArrives octets) 7 (ap otherRefusal (yes-received own octets t reading.Address q)) refl (refuses-7 s store output)
+  received-does octets t reading.Length q o =
+      refused-by (wordArrives octets) 10 (ap otherRefusal (yes-received own octets t reading.Length q)) refl (refuses-10 s store output)
 
   pub word-does : (octets : List ℕ) → areOctets octets ≡ true → Does own lent (wordArrives octets) f (controlWordOf octets s store output)
   unfolding controlWordOf
   word-does octets t =
       subst (λ (c : ℕ). Does own lent (wordArrives octets) f (wordBy (readingOf octets c) s store output)) (sym (good .channel))
-      (heard-does octets t (readingOf octets (own .channel)) refl (report-octet octets (own .channel) t))
+      (received-does octets t (readingOf octets (own .channel)) refl (report-octet octets (own .channel) t))
 
   -- Requests.
   legal-fits : (o : List ℕ) → leb 1 (length o) ≡ true → leb (length o) largestUnit ≡ true → Fits o

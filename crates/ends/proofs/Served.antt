@@ -40,7 +40,7 @@ others b o s w store t = (no _ _ _ t, no _ _ _ t)
 
 -- g is the state whose row it is: s, or s with its timer lowered
 module _ (own : Own) (e : FopEvent) (n : ℕ) (s g : Sender) (store : List ℕ) (lent : ℕ) (good : Good own s store) (by-good : Good own g store)
-    (meets : Meets e [] n g) (same-queues : g .queues ≡ s .queues) (quiet : isOffering (brings e) ≡ false)
+    (meets : Meets e [] n g) (same-queues : g .queues ≡ s .queues) (not-offering : isOffering (brings e) ≡ false)
     (unbypassed : eqb (eventNumber e) 21 ≡ false) where
   abbrev w : Work
   w = rowOf e n 0 (begun g)
@@ -55,11 +55,11 @@ module _ (own : Own) (e : FopEvent) (n : ℕ) (s g : Sender) (store : List ℕ) 
   m = fopDo e [] n (fopOf (begun g) store)
 
   shows : Shows own e [] n w new m
-  shows = subst (λ (x : List ℕ). Shows own e [] n w x m) (others (brings e) [] g w store quiet .0) (row-view own e [] n g store by-good meets)
+  shows = subst (λ (x : List ℕ). Shows own e [] n w x m) (others (brings e) [] g w store not-offering .0) (row-view own e [] n g store by-good meets)
 
   lengths-are : w .queues .lengths ≡ slid count (s .queues .lengths)
   lengths-are =
-      row-lengths own e [] n g store by-good meets ∙ others (brings e) [] g w store quiet .1 ∙ ap (λ (q : Queues). slid count (q .lengths)) same-queues
+      row-lengths own e [] n g store by-good meets ∙ others (brings e) [] g w store not-offering .1 ∙ ap (λ (q : Queues). slid count (q .lengths)) same-queues
 
   -- the unit at place i after the event stood at place i + count before it
   unit-is : (i : ℕ) → i < w .queues .sent → unitAt (s .queues .lengths) (i + count) store ≡ unitAt (w .queues .lengths) i new

@@ -127,9 +127,9 @@ module _ (x : Held) (lent : ℕ) where
   reads reading.Address = refused-with 7
   reads reading.Length = refused-with 10
 
-  hears : (octets : List ℕ) → C (λ output. controlWordOf octets s store output)
+  word-read : (octets : List ℕ) → C (λ output. controlWordOf octets s store output)
   unfolding controlWordOf
-  hears octets = reads (readingOf octets (s .settings .channel))
+  word-read octets = reads (readingOf octets (s .settings .channel))
 
   -- what is lent as octets
   as-octets : (o : List ℕ) (y : List ℕ → Step) → C y → C (λ output. pick (areOctets o) (y output) (refusedStep 10 s store output))
@@ -142,4 +142,4 @@ module _ (x : Held) (lent : ℕ) where
   concluded tick = serves (tickNumber s) 0 (ticked s)
   concluded (lower l) = serves (lowerNumber (lowerAnswer l)) 0 s
   concluded (directive d v) = directs d v
-  concluded (wordArrives octets) = as-octets octets _ (hears octets)
+  concluded (wordArrives octets) = as-octets octets _ (word-read octets)

@@ -34,7 +34,7 @@ use Rattle.session.proofs.Strong.{stronger-claims}
 use Rattle.sender.specs.Limits.{smallestStore}
 use Rattle.sender.specs.Start.{startingOf, withinLimits}
 use Rattle.ends.specs.Ours.{Held, senderSettings, freshHeld, heldAfterAll, startHeld, reads, Begins, ours}
-use Rattle.ends.specs.Demand.{Demand3, Besides}
+use Rattle.ends.specs.Demand.{Demand3, StrongerOurs}
 use Rattle.ends.proofs.Events.{does}
 
 -- A sender after events is well-formed, and reads as the table machine after them.
@@ -171,8 +171,8 @@ receiver-starts set within zero =
 pub demand3-ours : Demand3
 demand3-ours set within x b es = demand3 set within (ours set x) (ours-tied set x b) es
 
-pub besides-ours : Besides
-besides-ours set within x b es = stronger-claims set within (ours set x) (ours-tied set x b) es
+pub stronger-ours : StrongerOurs
+stronger-ours set within x b es = stronger-claims set within (ours set x) (ours-tied set x b) es
 
 -- and so of a fresh sender that is told to initiate without check
 pub demand3-fresh : (set : Settings) → Within set → set .count ≡ 1 → (store : List ℕ) → smallestStore ≤ length store → (es : List Event)

@@ -19,8 +19,8 @@ Demand3 =
     → Claims set (ours set x) (run set (ours set x) es (begins (ours set x))) (run set (tables set) es (begins (tables set)))
 
 -- and what holds besides
-abbrev pub Besides : Type 0
-Besides =
+abbrev pub StrongerOurs : Type 0
+StrongerOurs =
     (set : Settings) → Within set → (x : Held) → Begins set x → (es : List Event)
     → Stronger set (ours set x) (run set (ours set x) es (begins (ours set x))) (run set (tables set) es (begins (tables set)))
 

@@ -12,7 +12,7 @@ use Rattle.fop.specs.Variables.{acceptAdUnit, rejectAdUnit, acceptBdUnit, rejec
 use Rattle.fop.specs.Events.{adAccept, bdAccept}
 use Rattle.session.specs.Ends.{Settings, tables}
 use Rattle.session.specs.Session.{Event, History, adRequest, bdRequest, ticks, lowerSays, terminate, wordIn, wordMade, frameIn, frameLost, release}
-use Rattle.session.proofs.Trace.{computing, settings, Said, S, R, N, trace, by, silent, down, aborting, responding, alerting, confirming, denying, discarding, handing}
+use Rattle.session.proofs.Trace.{computing, settings, Said, S, R, N, trace, by, noEvent, down, aborting, responding, alerting, confirming, denying, discarding, handing}
 
 -- a session over a list of events: every answer, and the histories at the end
 abbrev Runs : Settings → List Event → List Said → History → Type 0
@@ -83,7 +83,7 @@ Whole =
     (sends frame-254
     ∷ N
     ∷ S (by E41 S1)
-    ∷ S (silent S1)
+    ∷ S (noEvent S1)
     ∷ S (aborting (down frame-254 (by E16 S1)))
     ∷ R (handing (17 ∷ []) farm.E1)
     ∷ S (by E41 S1)
@@ -128,7 +128,7 @@ Lost =
     (sends frame-254
     ∷ N
     ∷ S (by E41 S1)
-    ∷ S (silent S1)
+    ∷ S (noEvent S1)
     ∷ S (aborting (down frame-254 (by E16 S1)))
     ∷ R (handing (17 ∷ []) farm.E1)
     ∷ N

@@ -117,11 +117,11 @@ lower-few : (l : Lower) (f : Fop) → Most 1 (fopLower l f)
 unfolding fopLower table78 sends
 lower-few l f = do-few _ [] 0 f (lower-all rowFew tt l)
 
-heard-few : (h : Heard) (f : Fop) → Most 1 (fopHeard h f)
+received-few : (h : Heard) (f : Fop) → Most 1 (fopHeard h f)
 unfolding fopHeard fopWord wordEvent table78 sends
-heard-few (valid w) f = do-few _ [] (w .nr) f (first-all rowFew (wordLines (seen w f)) FopEvent.E103 tt)
-heard-few invalid f = do-few _ [] 0 f tt
-heard-few (other r) f = omega arith
+received-few (valid w) f = do-few _ [] (w .nr) f (first-all rowFew (wordLines (seen w f)) FopEvent.E103 tt)
+received-few invalid f = do-few _ [] 0 f tt
+received-few (other r) f = omega arith
 
 ad-few : (o : List ℕ) (f : Fop) → Most 1 (fopAd o f)
 unfolding fopAd table78 sends
@@ -142,4 +142,4 @@ work-few own (requestBd o) f = bd-few o f
 work-few own fop.tick f = tick-few f
 work-few own (lower l) f = lower-few l f
 work-few own (directive d v) f = directive-few d v f
-work-few own (wordArrives s) f = heard-few (readWord own s) f
+work-few own (wordArrives s) f = received-few (readWord own s) f

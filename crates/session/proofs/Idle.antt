@@ -111,12 +111,12 @@ lower-still : (l : Lower) (f : Fop) → Idle f → Stays (fopLower l f)
 unfolding fopLower table78 still
 lower-still l f h = do-still false _ [] 0 f (lower-all (rowStill false) tt l) (λ e. absurd (false≢true e)) h
 
-heard-still : (x : Heard) (f : Fop) → Idle f → Stays (fopHeard x f)
+received-still : (x : Heard) (f : Fop) → Idle f → Stays (fopHeard x f)
 unfolding fopHeard fopWord wordEvent table78 still
-heard-still (valid w) f h =
+received-still (valid w) f h =
     do-still false _ [] (w .nr) f (first-all (rowStill false) (wordLines (seen w f)) FopEvent.E103 tt) (λ e. absurd (false≢true e)) h
-heard-still invalid f h = do-still false _ [] 0 f tt (λ e. absurd (false≢true e)) h
-heard-still (other r) f h = (h, refl)
+received-still invalid f h = do-still false _ [] 0 f tt (λ e. absurd (false≢true e)) h
+received-still (other r) f h = (h, refl)
 
 ad-still : (o : List ℕ) (f : Fop) → Idle f → Stays (fopAd o f)
 unfolding fopAd table78 still
@@ -182,7 +182,7 @@ work-still own (requestBd o) f j h = bd-still o f h
 work-still own fop.tick f j h = tick-still f h
 work-still own (lower l) f j h = lower-still l f h
 work-still own (directive d v) f j h = directive-still d v f (unrefused (validDirective d v) 11 j) h
-work-still own (wordArrives s) f j h = heard-still (readWord own s) f h
+work-still own (wordArrives s) f j h = received-still (readWord own s) f h
 
 pub idle : (own : Own) (e : SenderEvent) (lent : ℕ) (f : Fop) → Idle f → Idle (senderNext own e lent f) × ((senderAnswer own e lent f) .suspended ≡ false)
 unfolding senderNext senderAnswer

@@ -326,10 +326,10 @@ unfolding fopDirective directiveEvent work
 terminate-keeps set v lent σ I = sender-keeps set (directive 5 v) lent σ I (λ j. plain-keeps set σ nothing FopEvent.E29 [] v I terminate-ok tt)
 
 -- a word under way is read as it was reported
-pub hears : (set : Settings) → Within set → (w : Word) (f : Fop) → w .counter ≤ 3 → w .nr < 256
+pub word-read : (set : Settings) → Within set → (w : Word) (f : Fop) → w .counter ≤ 3 → w .nr < 256
     → work (set .own) (wordArrives (wordOctets (set .own) w)) f ≡ fopWord w f
 unfolding work fopHeard
-hears set vw w f c b = rw (word-back (set .own) (vw .spacecraft) (vw .channel) w c b)
+word-read set vw w f c b = rw (word-back (set .own) (vw .spacecraft) (vw .channel) w c b)
 
 -- and is judged fit
 pub fine : (set : Settings) → Within set → (w : Word) → w .counter ≤ 3 → w .nr < 256 → judged (set .own) (wordArrives (wordOctets (set .own) w)) ≡ 0
@@ -343,5 +343,5 @@ unfolding wordCome fopWord channels
 word-keeps set vw lent σ [] I h = I
 word-keeps set vw lent σ (w ∷ ws) I h =
     sender-keeps set _ lent (channels (σ .frames) ws σ) (words-are set σ ws I (wds-lower (set .n) (h .0) _ _ ws (h .2) (h .4)))
-    (λ j. rw (hears set vw w (σ .fop) (h .3) (omega (arith, h .1)))
+    (λ j. rw (word-read set vw w (σ .fop) (h .3) (omega (arith, h .1)))
     (row-keeps set σ ws word (h .0) _ [] (w .nr) I (word-ok (seen w (σ .fop))) (h .2) (h .1, wds-le (set .n) (h .0) _ ws (h .4)) (h .4)))

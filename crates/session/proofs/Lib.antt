@@ -26,8 +26,8 @@ pub mod Keys
 pub mod Every
 pub mod Tidy
 pub mod Alerts
-pub mod Quiet
-pub mod Shut
+pub mod WordAlerts
+pub mod Serving
 pub mod Exact
 pub mod Handed
 pub mod Standing

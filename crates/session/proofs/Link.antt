@@ -199,11 +199,11 @@ module _ (set : Settings) (vw : Within set) where
         (t .answer e lent (σ .sender) (R .good) ∙ ap (λ (f : Fop). senderAnswer (set .own) e lent f) (R .fop))
 
     -- the oldest word to the sender
-    heard : (σ : Linked m) (κ : Session) (lent : ℕ) (ws : List Word) → Rel σ κ → Inv set (core.wordCome set lent ws κ)
+    word-in : (σ : Linked m) (κ : Session) (lent : ℕ) (ws : List Word) → Rel σ κ → Inv set (core.wordCome set lent ws κ)
         → Rel (ses.wordCome set m lent (map (wordOctets (set .own)) ws) σ) (core.wordCome set lent ws κ)
     unfolding ses.wordCome core.wordCome
-    heard σ κ lent [] R J = R
-    heard σ κ lent (w ∷ ws) R J = to-sender σ κ (wordArrives (wordOctets (set .own) w)) lent ws R J
+    word-in σ κ lent [] R J = R
+    word-in σ κ lent (w ∷ ws) R J = to-sender σ κ (wordArrives (wordOctets (set .own) w)) lent ws R J
 
     -- no frame of the session locks the receiver out
     unlocks : (κ : Session) (x : Frame) (fs : List Frame) → Inv set κ → Fly (set .k) (κ .sent) (length (κ .accepted)) (length (κ .accepted)) (x ∷ fs)
@@ -323,7 +323,7 @@ module _ (set : Settings) (vw : Within set) where
     same-step (terminate v lent) σ κ R I = plain σ κ (directive 5 v) lent R (step-keeps set vw (terminate v lent) κ I)
     same-step (wordIn lent) σ κ R I =
         subst (λ (l : List (List ℕ)). Rel (ses.wordCome set m lent l σ) (core.wordCome set lent (κ .words) κ)) (sym (R .words))
-        (heard σ κ lent (κ .words) R (step-keeps set vw (wordIn lent) κ I))
+        (word-in σ κ lent (κ .words) R (step-keeps set vw (wordIn lent) κ I))
     same-step wordLost σ κ R I =
         relink σ κ (κ .frames) (rest (κ .words)) (σ .frames) (rest (σ .words)) R (R .frames) (ap rest (R .words) ∙ map-rest (wordOctets (set .own)) (κ .words))
     same-step (wordMade lent) σ κ R I =

@@ -204,11 +204,11 @@ word-once v s e = go (s .once) e
         FopEvent.E102 tt
     go false q = absurd (false≢true q)
 
-heard-once : (x : Heard) (f : Fop) → Once f → Stays (f .vs) (fopHeard x f)
+received-once : (x : Heard) (f : Fop) → Once f → Stays (f .vs) (fopHeard x f)
 unfolding fopHeard fopWord wordEvent table78 once
-heard-once (valid w) f h = do-once _ [] (w .nr) f (word-once (f .vs) (seen w f) (eq-eqb _ 1 (h .limit))) h
-heard-once invalid f h = do-once _ [] 0 f tt h
-heard-once (other r) f h = (h, refl)
+received-once (valid w) f h = do-once _ [] (w .nr) f (word-once (f .vs) (seen w f) (eq-eqb _ 1 (h .limit))) h
+received-once invalid f h = do-once _ [] 0 f tt h
+received-once (other r) f h = (h, refl)
 
 -- an event of the session
 pub work-once : (own : Own) (ws : List (List ℕ)) (e : SenderEvent) (f : Fop) → InSession ws e → Once f → Stays (f .vs) (work own e f)
@@ -219,7 +219,7 @@ work-once own ws fop.tick f i h = tick-once f h
 work-once own ws (lower l) f i h = do-once _ [] 0 f (lower-all (rowOnce (f .vs)) tt l) h
 work-once own ws (directive d v) f i h =
     subst (λ (x : ℕ). Stays (f .vs) (fopDirective x v f)) (sym i) (do-once FopEvent.E29 [] v f tt h)
-work-once own ws (wordArrives s) f i h = heard-once (readWord own s) f h
+work-once own ws (wordArrives s) f i h = received-once (readWord own s) f h
 
 -- The session's sender at a limit of 1, at the start and after each event.
 pub start-once : (set : Settings) → 1 ≤ set .count → set .limit ≡ 1 → Once (begun set .fop)

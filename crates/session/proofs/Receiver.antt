@@ -23,7 +23,7 @@ use Rattle.farm.specs.declared.Event.the-variants.{E1, E2, E3, E4, E5, E6, E10}
 use Rattle.farm.specs.declared.Variables.{Variables}
 use Rattle.session.specs.Receiver.{wordLength}
 use Rattle.session.specs.Ends.{Settings, Within, startSender, startReceiver}
-use Rattle.session.specs.Session.{nobody, rest, Event, adRequest, bdRequest, ticks, lowerSays, terminate, wordIn, wordLost, wordMade, frameIn, frameLost, release}
+use Rattle.session.specs.Session.{noUnit, rest, Event, adRequest, bdRequest, ticks, lowerSays, terminate, wordIn, wordLost, wordMade, frameIn, frameLost, release}
 use Rattle.session.specs.Stronger.{Sub, none-left}
 use Rattle.session.proofs.Choices.{by-pick, never}
 use Rattle.session.proofs.Core.{Session, channels, receiver, frameCome, frameEvent, isHanded, releases, taken, takenBd, report, stepWith, step, free}
@@ -45,7 +45,7 @@ unchanged set σ v b fs r I f s h =
 
 -- one that accepted the expected unit
 accepted : (set : Settings) (σ : Session) (v : Variables) (u : Fdu) (fs : List Frame) → Inv set σ
-    → u ≡ getD (σ .sent) (length (σ .accepted)) nobody → length (σ .accepted) < length (σ .sent)
+    → u ≡ getD (σ .sent) (length (σ .accepted)) noUnit → length (σ .accepted) < length (σ .sent)
     → Fly (set .k) (σ .sent) (length (σ .accepted)) (suc (length (σ .accepted))) fs → Sub (σ .acceptedBd ++ bdsOf fs) (σ .sentBd)
     → Rcv set v (suc (length (σ .accepted))) (length (σ .acceptedBd))
     → Inv set (receiver v (σ .accepted ++ (u ∷ [])) (σ .acceptedBd) (σ .released) fs σ)
@@ -55,7 +55,7 @@ accepted set σ v u fs I eu b f s h =
     record {
       base = record {
         num = I .base .num;
-        order = rw (la, take-suc (σ .sent) (length (σ .accepted)) nobody b, ← eu, ← I .base .order);
+        order = rw (la, take-suc (σ .sent) (length (σ .accepted)) noUnit b, ← eu, ← I .base .order);
         behind = omega arith;
         truly = omega arith;
         room = I .base .room;
@@ -99,7 +99,7 @@ module _ (set : Settings) (σ : Session) (u : Fdu) (fs : List Frame) (I : Inv se
         → Inv set (receiver v (σ .accepted) (σ .acceptedBd) (σ .released) fs σ)
     stays v h = unchanged set σ v (σ .acceptedBd) fs (σ .released) I fl sb h
 
-    takes : u ≡ getD (σ .sent) (length (σ .accepted)) nobody → length (σ .accepted) < length (σ .sent)
+    takes : u ≡ getD (σ .sent) (length (σ .accepted)) noUnit → length (σ .accepted) < length (σ .sent)
         → Fly (set .k) (σ .sent) (length (σ .accepted)) (suc (length (σ .accepted))) fs
         → (s : FarmState) → isLocked s ≡ false → R E1 s
     unfolding table stepOf performAll perform accepts

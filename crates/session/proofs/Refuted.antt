@@ -29,8 +29,8 @@ abbrev set : Settings
 set = settings 3 2 1 3
 
 -- the tables, but for the sender's answers, the receiver's answers and its control word
-abbrev but-for : (SenderEvent → Answer → Answer) → (ReceiverEvent → ReceiverAnswer → ReceiverAnswer) → (ℕ → Receiver → WordAnswer) → Ends
-but-for f g word = record {
+abbrev changed : (SenderEvent → Answer → Answer) → (ReceiverEvent → ReceiverAnswer → ReceiverAnswer) → (ℕ → Receiver → WordAnswer) → Ends
+changed f g word = record {
   Sender = Fop;
   Receiver = Receiver;
   sender = startSender set;
@@ -43,18 +43,18 @@ but-for f g word = record {
 }
 
 -- but for the sender's answers alone, and but for the receiver's part alone
-abbrev sayer : (SenderEvent → Answer → Answer) → Ends
-sayer f = but-for f (λ e a. a) receiverWord
+abbrev sender-by : (SenderEvent → Answer → Answer) → Ends
+sender-by f = changed f (λ e a. a) receiverWord
 
-abbrev listener : (ReceiverEvent → ReceiverAnswer → ReceiverAnswer) → (ℕ → Receiver → WordAnswer) → Ends
-listener g word = but-for (λ e a. a) g word
+abbrev receiver-by : (ReceiverEvent → ReceiverAnswer → ReceiverAnswer) → (ℕ → Receiver → WordAnswer) → Ends
+receiver-by g word = changed (λ e a. a) g word
 
 abbrev Holds : Ends → List Event → Type 0
 Holds m es = Claims set m (after set m es) (after set (tables set) es)
 
 -- a sender that queues and never sends
 abbrev never-sends : Ends
-never-sends = sayer (λ e a. withDown none a)
+never-sends = sender-by (λ e a. withDown none a)
 
 refuted-sends : Holds never-sends [] → ⊥
 unfolding computing
@@ -90,16 +90,16 @@ unfolding computing
 refuted-first c = let e = c .offered (8 ∷ []) 256 refl (leb→le _ 256 tt) refl refl refl refl (leb→le _ 3 tt) .down in omega (arith, ap length e)
 
 -- a sender that never resends: nothing is handed down when the timer expires
-abbrev quiet-tick : SenderEvent → Answer → Answer
-quiet-tick (requestAd o) a = a
-quiet-tick (requestBd o) a = a
-quiet-tick tick a = withDown none a
-quiet-tick (lower l) a = a
-quiet-tick (directive d v) a = a
-quiet-tick (wordArrives s) a = a
+abbrev no-resending : SenderEvent → Answer → Answer
+no-resending (requestAd o) a = a
+no-resending (requestBd o) a = a
+no-resending tick a = withDown none a
+no-resending (lower l) a = a
+no-resending (directive d v) a = a
+no-resending (wordArrives s) a = a
 
 abbrev never-resends : Ends
-never-resends = sayer quiet-tick
+never-resends = sender-by no-resending
 
 refuted-resends : Holds never-resends first-sent → ⊥
 unfolding computing
@@ -118,19 +118,19 @@ refuted-resends c = go (c .expires 0 256 (leb→le _ 256 tt) refl refl (leb→le
 
 -- a sender whose run of confirmed units is made up
 abbrev confirms-all : Ends
-confirms-all = sayer (λ e a. withConfirmed (record { number = 254; count = 1 }) a)
+confirms-all = sender-by (λ e a. withConfirmed (record { number = 254; count = 1 }) a)
 
 refuted-confirms : Holds confirms-all (adRequest (7 ∷ []) 256 ∷ []) → ⊥
 unfolding computing
 refuted-confirms c = omega (arith, ap length (c .truly .1))
 
 -- a receiver that always answers E4, and so never accepts
-abbrev deaf : ReceiverEvent → ReceiverAnswer → ReceiverAnswer
-deaf (frameArrives s) a = record { refusal = 0; event = some farm.E4; unit = none }
-deaf releaseBuffer a = a
+abbrev always-e4 : ReceiverEvent → ReceiverAnswer → ReceiverAnswer
+always-e4 (frameArrives s) a = record { refusal = 0; event = some farm.E4; unit = none }
+always-e4 releaseBuffer a = a
 
 abbrev never-accepts : Ends
-never-accepts = listener deaf receiverWord
+never-accepts = receiver-by always-e4 receiverWord
 
 refuted-accepts : Holds never-accepts (adRequest (7 ∷ []) 256 ∷ []) → ⊥
 unfolding computing
@@ -140,7 +140,7 @@ refuted-accepts c =
 
 -- a receiver whose control word is made up
 abbrev words-by : (Clcw → Clcw) → Ends
-words-by f = listener (λ e a. a) (λ lent r. wordTold (clcw.writing (f (receiver.wordOf r)) lent))
+words-by f = receiver-by (λ e a. a) (λ lent r. wordTold (clcw.writing (f (receiver.wordOf r)) lent))
 
 abbrev with-counts : ℕ → ℕ → Clcw → Clcw
 with-counts counter report w = record { channel = w .channel; lockout = w .lockout; wait = w .wait; retransmit = w .retransmit; counter = counter; report = report }

@@ -29,7 +29,7 @@ use Rattle.session.proofs.Core.{releases, frameEvent, isHanded, free, i
 use Rattle.session.proofs.Chan.{Fly, Wds}
 use Rattle.session.proofs.Values.{Given, word, unit, nothing, Reports}
 use Rattle.session.proofs.Rows.{modeOf, sound, atAll, at-cell, rowOk, word-ok, ad-ok, bd-ok, lower-ok, terminate-ok}
-use Rattle.session.proofs.Inv.{Inv, alerting, in-mode, isLocked, row-bound, withFop, timed, fit, hears, legal-of}
+use Rattle.session.proofs.Inv.{Inv, alerting, in-mode, isLocked, row-bound, withFop, timed, fit, word-read, legal-of}
 use Rattle.session.proofs.Receiver.{ad-cases, begun, at}
 use Rattle.session.proofs.Clear.{length-places}
 use Rattle.session.proofs.Keys.{bit, bit-le, rank, rank-le, floor, waits, Keys, keys-le, keys-mono, keys-add, Tidy}
@@ -187,7 +187,7 @@ word-tidy set vw lent σ (w ∷ ws) I t h k =
     let cb = row-bound set σ word (k .0) (wordEvent (seen w (σ .fop))) [] (w .nr) I (word-ok (seen w (σ .fop))) ca (k .1, al) in
     sender-tidy set (wordArrives (wordOctets (set .own) w)) lent (channels (σ .frames) ws σ)
     (words-tidy (set .n) σ (σ .frames) ws t (keys-mono (set .n) _ _ _ _ _ _ ws (omega arith) (k .2) (omega arith) (k .6)))
-    (λ j. rw (hears set vw w (σ .fop) (h .3) (omega (arith, h .1)))
+    (λ j. rw (word-read set vw w (σ .fop) (h .3) (omega (arith, h .1)))
     (tidy-answered (set .n) σ ws (fopWord w (σ .fop)) (2 * k .0 + bit (w .retransmit)) t (k .6) (low (in-mode set σ I) (w .retransmit) refl cb) (omega (arith, k .5))))
   where
     low : T (sound (modeOf (σ .fop .state))) → (b : Bool) → w .retransmit ≡ b → length (σ .confirmed) + length ((fopWord w (σ .fop)) .confirmed) ≤ k .0

@@ -112,8 +112,8 @@ answering e s = record {
 abbrev pub by : FopEvent → State → Answer
 by e s = answering (some e) s
 
-abbrev pub silent : State → Answer
-silent s = answering none s
+abbrev pub noEvent : State → Answer
+noEvent s = answering none s
 
 -- the same answer but for the frame, the abort, the responses, the alert and the runs
 abbrev telling : Option (List ℕ) → Bool → List Response → Option Reason → Run → Run → Answer → Answer

@@ -28,7 +28,7 @@ use Rattle.farm.specs.declared.Variables.{Variables}
 use Rattle.session.specs.Frames.{read}
 use Rattle.session.specs.Receiver.{wordLength}
 use Rattle.session.specs.Ends.{Settings, Ends, tables}
-use Rattle.session.specs.Session.{adRequest, ticks, lowerSays, wordIn, wordMade, frameIn, Linked, History, step, nobody}
+use Rattle.session.specs.Session.{adRequest, ticks, lowerSays, wordIn, wordMade, frameIn, Linked, History, step, noUnit}
 
 -- "a first part, in order"
 abbrev pub Prefix : {A : Type 0} → List A → List A → Type 0
@@ -37,7 +37,7 @@ Prefix a b = (c : List _) × (a ++ c ≡ b)
 -- the units at places of s
 abbrev pub unitsAt : List Fdu → List (Option ℕ) → List (Option Fdu)
 unitsAt s [] = []
-unitsAt s (some i ∷ is) = some (getD s i nobody) ∷ unitsAt s is
+unitsAt s (some i ∷ is) = some (getD s i noUnit) ∷ unitsAt s is
 unitsAt s (none ∷ is) = none ∷ unitsAt s is
 
 -- the place x is among these
@@ -107,13 +107,13 @@ module _ (set : Settings) {m : Ends} where
     pub counted : τ .history .sent ≡ σ .history .sent
     pub place : ℕ
     pub out : IsOutstanding (σ .history) place
-    pub is : u ≡ getD (σ .history .sent) place nobody
+    pub is : u ≡ getD (σ .history .sent) place noUnit
 
 -- u is on the Sent_Queue, marked
 pub record Marked (u : Fdu) (f : Fop) : Type 0 where
   pub place : ℕ
   pub on : place < length (f .sentQueue)
-  pub is : getD (f .sentQueue) place (record { fdu = nobody; marked = false }) ≡ record { fdu = u; marked = true }
+  pub is : getD (f .sentQueue) place (record { fdu = noUnit; marked = false }) ≡ record { fdu = u; marked = true }
 
 -- "What demand 3 says of the sender at the next event supposes that the room it needs there is lent"
 abbrev pub Lent : Settings → SenderEvent → ℕ → Fop → Type 0
@@ -151,8 +151,8 @@ pub record Claims (set : Settings) (m : Ends) (σ : Linked m) (γ : Linked (tabl
   -- "To either, a timer expiry short of the transmission limit resends or marks every outstanding unit,"
   pub expires : (i lent : ℕ) → Lent set fop.tick lent (γ .sender)
       → serves (γ .sender .state) ≡ true → γ .sender .clock .timer ≡ 1 → γ .sender .clock .transmissionCount < set .limit → IsOutstanding (σ .history) i
-      → Resends set (getD (σ .history .sent) i nobody) σ (step set m (ticks lent) σ)
-      ⊎ Marked (getD (σ .history .sent) i nobody) ((step set (tables set) (ticks lent) γ) .sender)
+      → Resends set (getD (σ .history .sent) i noUnit) σ (step set m (ticks lent) σ)
+      ⊎ Marked (getD (σ .history .sent) i noUnit) ((step set (tables set) (ticks lent) γ) .sender)
   -- "and a clear control word reporting the next number to send confirms them all and, if there were any and the lower layer is ready,
   -- sends the unit waiting, if any."
   pub clears : (s : List ℕ) (ws : List (List ℕ)) (w : Word) (lent : ℕ) → σ .words ≡ s ∷ ws → readWord (set .own) s ≡ valid w

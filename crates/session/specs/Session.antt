@@ -29,8 +29,8 @@ pub record History : Type 0 where
   pub acceptedBd : List (List ℕ)
 
 -- what stands at a place where no unit is
-abbrev pub nobody : Fdu
-nobody = record { ns = 0; octets = [] }
+abbrev pub noUnit : Fdu
+noUnit = record { ns = 0; octets = [] }
 
 -- Sent: "the units of AD frames handed down whose N(S) is n plus the count sent before"
 abbrev pub addSent : ℕ → List Fdu → Frame → List Fdu
@@ -61,7 +61,7 @@ sentBdAfter own b (some o) = addBd b (read own o)
 -- the place below i of the unit last sent with the number x
 abbrev pub lastPlace : List Fdu → ℕ → ℕ → Option ℕ
 lastPlace s x zero = none
-lastPlace s x (suc i) = pick (eqb ((getD s i nobody) .ns) x) (some i) (lastPlace s x i)
+lastPlace s x (suc i) = pick (eqb ((getD s i noUnit) .ns) x) (some i) (lastPlace s x i)
 
 -- Confirmed, Denied: "those of the answers' runs end to end, a number meaning the unit last sent with it by then": the places of `count` units
 -- from the number x on

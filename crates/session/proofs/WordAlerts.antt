@@ -26,7 +26,7 @@ use Rattle.session.proofs.Inv.{Inv, Side}
 use Rattle.session.proofs.Receiver.{at}
 use Rattle.session.proofs.Keys.{bit, bit-le, rank, floor, Keys, Tidy}
 use Rattle.session.proofs.Every.{implies, implied, everySeen, seen-at}
-use Rattle.session.proofs.Alerts.{hushes, calm, Hush, cell-hush}
+use Rattle.session.proofs.Alerts.{allows, cellAllows, Allowed, cell-allowed}
 
 -- that of the limit, where it is 1
 abbrev limitAlert : Bool → Reason → Bool
@@ -44,26 +44,26 @@ abbrev pub fitting : State → Seen → Bool
 fitting s x = not (x .lockout) && (not (x .invalid) && (not (x .all && x .retransmit) &&
     ((x .retransmit || not (x .wait)) && (x .retransmit || (x .new || leb (rank s) 0)))))
 
--- the test: in every state of the session, a word that fits meets a calm cell
-abbrev calmAt : State → Seen → Bool
-calmAt s x = implies (fitting s x) (calm (limitAlert (x .once)) (cell78 (table78 (wordEvent x)) s))
+-- the test: in every state of the session, a word that fits meets a cell without another alert
+abbrev allowsAt : State → Seen → Bool
+allowsAt s x = implies (fitting s x) (cellAllows (limitAlert (x .once)) (cell78 (table78 (wordEvent x)) s))
 
-calm-all : (s : State) → T (sound (modeOf s)) → T (everySeen (calmAt s))
-unfolding table78 wordEvent hushes
-calm-all S1 g = tt
-calm-all S2 g = tt
-calm-all S3 g = tt
-calm-all S4 g = absurd g
-calm-all S5 g = absurd g
-calm-all S6 g = tt
+allows-all : (s : State) → T (sound (modeOf s)) → T (everySeen (allowsAt s))
+unfolding table78 wordEvent allows
+allows-all S1 g = tt
+allows-all S2 g = tt
+allows-all S3 g = tt
+allows-all S4 g = absurd g
+allows-all S5 g = absurd g
+allows-all S6 g = tt
 
--- out of service every cell is calm
-abbrev calm6 : Seen → Bool
-calm6 x = calm (limitAlert (x .once)) (cell78 (table78 (wordEvent x)) S6)
+-- in Initial no cell has another
+abbrev allowsInitial : Seen → Bool
+allowsInitial x = cellAllows (limitAlert (x .once)) (cell78 (table78 (wordEvent x)) S6)
 
-calm-six : T (everySeen calm6)
-unfolding table78 wordEvent hushes
-calm-six = tt
+allows-initial : T (everySeen allowsInitial)
+unfolding table78 wordEvent allows
+allows-initial = tt
 
 -- what is said of a word of the session makes it fit
 fits : (L X A R W N K : Bool) → L ≡ false → X ≡ false → (A ≡ true → R ≡ false) → (W ≡ true → R ≡ true) → (R ≡ false → N ≡ false → K ≡ true)
@@ -114,32 +114,32 @@ module _ (set : Settings) (σ : Session) (I : Inv set σ) (w : Word) (ws : List 
       λ r q. rank-zero s (omega (arith, k .2, ap bit r, eqb-true (offset (w .nr) (σ .fop .nnr)) 0 (not-false _ q), new, ca)) in
       fits (w .lockout) _ _ (w .retransmit) (w .wait) _ _ (k .3) v a z m
 
-  live-calm : (s : State) → T (sound (modeOf s))
+  live-allows : (s : State) → T (sound (modeOf s))
       → Live (set .n) (length (σ .confirmed)) (σ .denied) (σ .sent) [] [] (fdus (σ .fop .sentQueue)) (σ .fop .vs) (σ .fop .nnr)
       → Keys (set .n) (length (σ .sent)) (floor s (length (σ .confirmed))) (2 * length (σ .accepted) + bit (σ .farm .retransmit)) (w ∷ ws)
-      → T (calm (limitAlert ((seen w (σ .fop)) .once)) (cell78 (table78 (wordEvent (seen w (σ .fop)))) s))
-  live-calm s g h k =
-      implied (fitting s (seen w (σ .fop))) _ (seen-at (calmAt s) (seen w (σ .fop)) (calm-all s g)) (live-fits s h k)
+      → T (cellAllows (limitAlert ((seen w (σ .fop)) .once)) (cell78 (table78 (wordEvent (seen w (σ .fop)))) s))
+  live-allows s g h k =
+      implied (fitting s (seen w (σ .fop))) _ (seen-at (allowsAt s) (seen w (σ .fop)) (allows-all s g)) (live-fits s h k)
 
-  calm-at : (s : State) → Side (modeOf s) (set .n) (length (σ .confirmed)) (σ .sent) (σ .denied) (fdus (σ .fop .sentQueue)) (σ .fop .vs) (σ .fop .nnr)
+  allows-at : (s : State) → Side (modeOf s) (set .n) (length (σ .confirmed)) (σ .sent) (σ .denied) (fdus (σ .fop .sentQueue)) (σ .fop .vs) (σ .fop .nnr)
       → Keys (set .n) (length (σ .sent)) (floor s (length (σ .confirmed))) (2 * length (σ .accepted) + bit (σ .farm .retransmit)) (w ∷ ws)
-      → T (calm (limitAlert ((seen w (σ .fop)) .once)) (cell78 (table78 (wordEvent (seen w (σ .fop)))) s))
-  calm-at S1 h k = live-calm S1 tt h k
-  calm-at S2 h k = live-calm S2 tt h k
-  calm-at S3 h k = live-calm S3 tt h k
-  calm-at S4 h k = absurd h
-  calm-at S5 h k = absurd h
-  calm-at S6 h k = seen-at calm6 (seen w (σ .fop)) calm-six
+      → T (cellAllows (limitAlert ((seen w (σ .fop)) .once)) (cell78 (table78 (wordEvent (seen w (σ .fop)))) s))
+  allows-at S1 h k = live-allows S1 tt h k
+  allows-at S2 h k = live-allows S2 tt h k
+  allows-at S3 h k = live-allows S3 tt h k
+  allows-at S4 h k = absurd h
+  allows-at S5 h k = absurd h
+  allows-at S6 h k = seen-at allowsInitial (seen w (σ .fop)) allows-initial
 
-pub word-hush : (set : Settings) (σ : Session) → Inv set σ → Tidy (set .n) σ → (w : Word) (ws : List Word) → σ .words ≡ w ∷ ws
+pub word-alerts : (set : Settings) (σ : Session) → Inv set σ → Tidy (set .n) σ → (w : Word) (ws : List Word) → σ .words ≡ w ∷ ws
     → ((fopWord w (σ .fop)) .alert ≡ none) ⊎ (((fopWord w (σ .fop)) .alert ≡ some Reason.limit) × (set .limit ≡ 1))
 unfolding fopWord fopDo
-word-hush set σ I t w ws e =
-    last (cell-hush (limitAlert ((seen w (σ .fop)) .once)) (cell78 (table78 (wordEvent (seen w (σ .fop)))) (σ .fop .state))
+word-alerts set σ I t w ws e =
+    last (cell-allowed (limitAlert ((seen w (σ .fop)) .once)) (cell78 (table78 (wordEvent (seen w (σ .fop)))) (σ .fop .state))
     (begin (some (wordEvent (seen w (σ .fop)))) [] (w .nr) (σ .fop))
-    (calm-at set σ I w ws (σ .fop .state) (I .side) (rw e at (t .keys))) (inl refl))
+    (allows-at set σ I w ws (σ .fop .state) (I .side) (rw e at (t .keys))) (inl refl))
   where
-    last : Hush (limitAlert ((seen w (σ .fop)) .once)) ((fopWord w (σ .fop)) .alert)
+    last : Allowed (limitAlert ((seen w (σ .fop)) .once)) ((fopWord w (σ .fop)) .alert)
         → ((fopWord w (σ .fop)) .alert ≡ none) ⊎ (((fopWord w (σ .fop)) .alert ≡ some Reason.limit) × (set .limit ≡ 1))
     last (inl a) = inl a
     last (inr (Reason.limit, a, b)) =
