@@ -3,8 +3,8 @@
 // The sender's state goes in by value and comes back in the answer. The units lie in a store that the host lends at every event, the
 // same one each time and written by nobody else: units of 249 octets from offset 0 on, the oldest first, the unit waiting behind the sent
 // ones. The frame handed down to the lower layer is written at the front of the lent output. A refusal changes nothing.
-pub mod answers;
-pub mod frames;
+mod answers;
+mod frames;
 mod state;
 
 use crate::answers::conclude;
