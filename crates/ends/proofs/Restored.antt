@@ -108,7 +108,7 @@ good-passes own s store g =
     (joined _ _ (le-leb (s .settings .spacecraft) largestSpacecraft (omega (arith, g .spacecraft, g .spacecraft-most)))
     (le-leb (s .settings .channel) largestChannel (omega (arith, g .channel, g .channel-most)))))))))
     (joined _ _
-    (joined _ _ (le-leb (offset (s .variables .vs) (s .variables .nnr)) largestK (g .formed .window))
+    (joined _ _ (le-leb (s .queues .sent) largestK (g .formed .sent-most))
     (joined _ _ (le-leb (s .queues .sent) (offset (s .variables .vs) (s .variables .nnr)) (g .formed .outstanding))
     (joined _ _ (le-leb (s .queues .marked) (s .queues .sent) (g .formed .last))
     (joined _ _ (le-leb 1 (s .variables .«transmission_count») (g .count-least)) (eq-eqb (s .variables .«suspend_state») 0 (g .serving))))))
@@ -146,7 +146,7 @@ passes-good s store z long t =
     let e = right (eqb (g .«timeout_type») 0) _ d in
     let f = right (leb (g .spacecraft) largestSpacecraft) _ e in
     let x = offset (v .vs) (v .nnr) in
-    let h = right (leb x largestK) _ numbers in
+    let h = right (leb (q .sent) largestK) _ numbers in
     let i = right (leb (q .sent) x) _ h in
     let j = right (leb (q .marked) (q .sent)) _ i in
     let k = right (leb 1 (v .«transmission_count»)) _ j in
@@ -154,7 +154,7 @@ passes-good s store z long t =
       formed = record {
         vs-octet = z .vs;
         nnr-octet = z .nnr;
-        window = leb-true x largestK (left _ _ numbers);
+        sent-most = leb-true (q .sent) largestK (left _ _ numbers);
         outstanding = leb-true (q .sent) x (left _ _ h);
         last = leb-true (q .marked) (q .sent) (left _ _ i);
         all-places = z .lengths;
@@ -176,13 +176,13 @@ passes-good s store z long t =
       control-s5 = framed v q (s .state) states;
       filled = λ n p. lengths-least (unitsHeld (q .sent) (q .waiting)) (q .lengths) units n
           (subst (λ (y : ℕ). n < y) (sym (held-is (q .sent) (q .waiting))) p)
-          (places-enough (q .sent) (q .waiting) n p (leb-true (q .sent) x (left _ _ h)) (leb-true x largestK (left _ _ numbers)) (z .lengths));
+          (places-enough (q .sent) (q .waiting) n p (leb-true (q .sent) largestK (left _ _ numbers)) (z .lengths));
       spacecraft = refl;
       channel = refl;
       spacecraft-most = leb-true (g .spacecraft) largestSpacecraft (left _ _ e);
       channel-most = leb-true (g .channel) largestChannel f;
     } where
-      places-enough : (sent : ℕ) (waiting : Bool) (n : ℕ) → n < held sent waiting → sent ≤ offset (s .variables .vs) (s .variables .nnr)
-          → offset (s .variables .vs) (s .variables .nnr) ≤ largestK → length (s .queues .lengths) ≡ places → n < length (s .queues .lengths)
-      places-enough sent true n p o m l = omega (arith, p, o, m, l)
-      places-enough sent false n p o m l = omega (arith, p, o, m, l)
+      places-enough : (sent : ℕ) (waiting : Bool) (n : ℕ) → n < held sent waiting → sent ≤ largestK → length (s .queues .lengths) ≡ places
+          → n < length (s .queues .lengths)
+      places-enough sent true n p m l = omega (arith, p, m, l)
+      places-enough sent false n p m l = omega (arith, p, m, l)

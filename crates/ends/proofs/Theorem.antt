@@ -8,7 +8,6 @@ use mathlib.Core.List.{List}
 use native.Mathlib.Omega.{arith}
 use borrow.Author.Tests.{le-leb, eq-eqb}
 use lib.ListN.{length}
-use Rattle.base.specs.Modulo.{offset}
 use Rattle.fop.specs.Limits.{largestK}
 use Rattle.fop.specs.Table as table
 use Rattle.fop.specs.Variables.{Fop}
@@ -27,7 +26,7 @@ use Rattle.session.specs.Ends.{Settings, Within, Tied, startSender, startReceiv
 use Rattle.session.proofs.Theorem.{demand3}
 use Rattle.session.proofs.Strong.{stronger-claims}
 use Rattle.sender.specs.Limits.{smallestStore}
-use Rattle.sender.specs.Start.{startingOf, withinLimits}
+use Rattle.sender.specs.Start.{startingOf, settingsHold}
 use Rattle.sender.specs.Events.{directiveOf}
 use Rattle.ends.specs.Ours.{Held, heldAfter, senderSettings, lentOutput, startHeld, ours}
 use Rattle.ends.specs.Demand.{Demand3, Besides}
@@ -45,10 +44,7 @@ module _ (set : Settings) (within : Within set) (store : List ℕ) (long : small
   active = refl
 
   -- the settings of a session are within the limits of a start
-  no-offset : offset (set .n) (set .n) ≤ largestK
-  no-offset = omega (arith, within .number)
-
-  limits-hold : withinLimits (senderSettings set) (set .n) (set .n) ≡ true
+  limits-hold : settingsHold (senderSettings set) ≡ true
   limits-hold =
       simp (
         le-leb 1 (set .k) (within .windowLeast),
@@ -57,7 +53,6 @@ module _ (set : Settings) (within : Within set) (store : List ℕ) (long : small
         le-leb 1 (set .limit) (within .limitLeast),
         le-leb (set .own .spacecraft) 1023 (within .spacecraft),
         le-leb (set .own .channel) 63 (within .channel),
-        le-leb (offset (set .n) (set .n)) largestK no-offset,
       )
 
   pub starts : startingOf (senderSettings set) (set .n) (set .n) (length store) .sender .fop ≡ first
@@ -67,7 +62,7 @@ module _ (set : Settings) (within : Within set) (store : List ℕ) (long : small
   first-good : Good (set .own) first store
   unfolding startOf begun
   first-good = record {
-    formed = well-started (senderSettings set) (set .n) (set .n) store (omega (arith, within .number)) (omega (arith, within .number)) no-offset long;
+    formed = well-started (senderSettings set) (set .n) (set .n) store (omega (arith, within .number)) (omega (arith, within .number)) long;
     window-least = within .windowLeast;
     window = within .windowMost;
     clock-least = within .timerLeast;

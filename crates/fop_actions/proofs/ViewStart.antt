@@ -7,8 +7,6 @@ use Prim.Native.Nat.{ℕ, zero, suc, _*_, _≤_, _<_}
 use native.Mathlib.Omega.{arith}
 use lib.ListN.{length, getD, replicate, length-replicate}
 use Rattle.base.specs.Limits.{largestUnit}
-use Rattle.base.specs.Modulo.{offset}
-use Rattle.fop.specs.Limits.{largestK}
 use Rattle.fop.specs.Table.{FopEvent}
 use Rattle.fop.specs.Variables as machine
 use Rattle.fop_actions.specs.declared.Sender.{Sender}
@@ -38,13 +36,13 @@ zeros zero i = omega arith
 zeros (suc k) zero = omega arith
 zeros (suc k) (suc i) = zeros k i
 
-pub well-started : (s : Settings) (vs nnr : ℕ) (store : List ℕ) → vs < 256 → nnr < 256 → offset vs nnr ≤ largestK → largestUnit * places ≤ length store
+pub well-started : (s : Settings) (vs nnr : ℕ) (store : List ℕ) → vs < 256 → nnr < 256 → largestUnit * places ≤ length store
     → WellFormed (begun (startOf s vs nnr)) store
 unfolding startOf begun
-well-started s vs nnr store a b w r = record {
+well-started s vs nnr store a b r = record {
   vs-octet = a;
   nnr-octet = b;
-  window = w;
+  sent-most = omega arith;
   outstanding = omega arith;
   last = omega arith;
   all-places = length-replicate {A = ℕ} places 0;
