@@ -1,5 +1,5 @@
 -- The test by which a kept state is restored (crate sender, specs/State) holds of every state that a sender can reach, and a state of which it
--- holds is well-formed: the test is the conjunction of what every event keeps.
+-- holds is well-formed: the test is the conjunction of what every event keeps. A start with any two numbers is well-formed.
 use Prim.Native.Nat.{ℕ, zero, suc, _≤_, _<_}
 use mathlib.Core.Path.{_≡_, refl, sym, ap, subst}
 use mathlib.Core.Bool.{Bool, true, false, not, true≢false}
@@ -7,7 +7,7 @@ use mathlib.Core.List.{List, [], _∷_}
 use native.Mathlib.Omega.{arith}
 use borrow.Author.Tests.{leb-true, le-leb, eqb-true, eq-eqb, not-true}
 use lib.Dec.{leb, eqb}
-use lib.ListN.{length, getD}
+use lib.ListN.{length, getD, length-replicate}
 use Rattle.base.specs.Choice.{both}
 use Rattle.base.specs.Limits.{largestUnit, largestSpacecraft, largestChannel}
 use Rattle.base.specs.Modulo.{offset}
@@ -16,11 +16,12 @@ use Rattle.fop.specs.Limits.{largestK, largestTransmissionLimit}
 use Rattle.fop.specs.Units.{Own}
 use Rattle.fop_actions.specs.declared.Queues.{Queues}
 use Rattle.fop_actions.specs.declared.Sender.{Sender}
+use Rattle.fop_actions.specs.declared.Settings.{Settings}
 use Rattle.fop_actions.specs.declared.State.{State}
 use Rattle.fop_actions.specs.declared.State.the-variants as state
 use Rattle.fop_actions.specs.declared.Variables.{Variables}
 use Rattle.fop_actions.specs.Limits.{places}
-use Rattle.fop_actions.specs.Start.{begun}
+use Rattle.fop_actions.specs.Start.{startOf, begun}
 use Rattle.fop_rows.specs.Rows.{inMain, isFrame}
 use Rattle.fop_view.specs.State.{Good, held, withFrame}
 use Rattle.sender.specs.Limits.{smallestStore}
@@ -186,3 +187,15 @@ passes-good s store z long t =
           → n < length (s .queues .lengths)
       places-enough sent true n p m l = omega (arith, p, m, l)
       places-enough sent false n p m l = omega (arith, p, m, l)
+
+-- A start with settings within their limits passes, whichever two numbers it is given, so it is well-formed.
+module _ (g : Settings) (vs nnr : ℕ) (limits : settingsHold g ≡ true) where
+  start-passes : wellFormed (startOf g vs nnr) ≡ true
+  unfolding wellFormed startOf
+  start-passes = joined _ _ limits (rw (le-leb 0 (offset vs nnr) (omega arith)) refl)
+
+  pub start-good : (store : List ℕ) → vs < 256 → nnr < 256 → g .«transmission_limit» ≤ largestTransmissionLimit → smallestStore ≤ length store
+      → Good (record { spacecraft = g .spacecraft; channel = g .channel }) (startOf g vs nnr) store
+  unfolding startOf
+  start-good store v n l long =
+      passes-good (startOf g vs nnr) store (record { vs = v; nnr = n; limit = l; count = omega arith; lengths = length-replicate {A = ℕ} places 0 }) long start-passes

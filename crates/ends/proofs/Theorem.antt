@@ -18,7 +18,6 @@ use Rattle.fop.specs.Answers as answers
 use Rattle.fop_actions.specs.declared.Sender.{Sender}
 use Rattle.fop_actions.specs.Start.{startOf, begun}
 use Rattle.fop_actions.specs.View.{fopOf}
-use Rattle.fop_actions.proofs.ViewStart.{well-started}
 use Rattle.fop_view.specs.State.{Good}
 use Rattle.farm.specs.Receiver as farm
 use Rattle.farm.specs.declared.Start.the-variants.{Ready}
@@ -32,6 +31,7 @@ use Rattle.ends.specs.Ours.{Held, heldAfter, senderSettings, lentOutput,
 use Rattle.ends.specs.Demand.{Demand3, Besides}
 use Rattle.ends.proofs.Judged.{Does}
 use Rattle.ends.proofs.Events.{directive-does, does}
+use Rattle.ends.proofs.Restored.{start-good}
 
 module _ (set : Settings) (within : Within set) (store : List ℕ) (long : smallestStore ≤ length store) where
   abbrev first : Sender
@@ -60,28 +60,8 @@ module _ (set : Settings) (within : Within set) (store : List ℕ) (long : small
   starts = simp (limits-hold, le-leb smallestStore (length store) long)
 
   first-good : Good (set .own) first store
-  unfolding startOf begun
-  first-good = record {
-    formed = well-started (senderSettings set) (set .n) (set .n) store (omega (arith, within .number)) (omega (arith, within .number)) long;
-    window-least = within .windowLeast;
-    window = within .windowMost;
-    clock-least = within .timerLeast;
-    limit-least = within .limitLeast;
-    limit = within .limitMost;
-    count-least = omega arith;
-    count-most = omega arith;
-    alerting = refl;
-    serving = refl;
-    sent-main = λ q. refl;
-    waiting-main = λ q. refl;
-    stopped = λ q. refl;
-    control-s5 = refl;
-    filled = λ i h. absurd (omega (arith, h));
-    spacecraft = refl;
-    channel = refl;
-    spacecraft-most = within .spacecraft;
-    channel-most = within .channel;
-  }
+  first-good =
+      start-good (senderSettings set) (set .n) (set .n) limits-hold store (omega (arith, within .number)) (omega (arith, within .number)) (within .limitMost) long
 
   -- Initiate without check, at the start
   initiated : Does (set .own) 0 (directive 1 0) (fopOf (begun first) store) (directiveOf 1 0 first store (lentOutput 0))
