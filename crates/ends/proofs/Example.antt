@@ -1,6 +1,7 @@
 -- A session of our own two ends, computed: the first frame is lost and sent again when the timer expires, a second unit waits until the lower
 -- layer is ready, both are accepted, and one control word confirms both (`our-session`). And two ends that come to the session's start by
--- Initiate with Set V(R), its frame sent twice: Transmission_Count and the FARM-B counter are 2 there (`twice-begins`, `twice-received`).
+-- Initiate with Set V(R), its frame sent twice: Transmission_Count and the FARM-B counter are 2 there (`twice-begins`, `twice-received`). And a
+-- sender at a start with two numbers far apart (`far-start`).
 use mathlib.Core.Path.{_≡_, refl, ap, _∙_}
 use mathlib.Core.Bool.{false}
 use mathlib.Core.List.{List, [], _∷_}
@@ -9,7 +10,7 @@ use Prim.Native.Nat.{ℕ, _≤_}
 use lib.Dec.{leb→le}
 use lib.ListN.{length, replicate}
 use Rattle.fop.specs.Units.{Fdu, SetVR, written}
-use Rattle.fop.specs.Events.{SenderEvent, tick, lower, directive, wordArrives, adAccept, bcAccept}
+use Rattle.fop.specs.Events.{SenderEvent, requestAd, tick, lower, directive, wordArrives, adAccept, bcAccept}
 use Rattle.farm.specs.Receiver.{atStart}
 use Rattle.farm.specs.declared.Receiver.{Receiver}
 use Rattle.session.specs.Receiver.{frameArrives, wordLength, receiverNext, receiverWord}
@@ -28,7 +29,7 @@ use Rattle.sender.specs.Limits.{smallestStore}
 use Rattle.sender.specs.Answers as answers
 use Rattle.sender.specs.Start as starting
 use Rattle.sender.specs.Events as sender
-use Rattle.ends.specs.Ours.{stepOf, freshHeld, heldAfterAll, startHeld, reads, Begins, ours}
+use Rattle.ends.specs.Ours.{Held, senderSettings, lentOutput, stepOf, heldAfter, freshHeld, heldAfterAll, startHeld, reads, Begins, ours}
 use Rattle.ends.proofs.Theorem.{nextAll, begins-after, fresh-good, fresh-reads}
 
 abbrev set : Settings
@@ -45,15 +46,21 @@ events =
 abbrev units : List Fdu
 units = record { ns = 254; octets = 17 ∷ [] } ∷ record { ns = 255; octets = 34 ∷ 35 ∷ [] } ∷ []
 
-pub our-session : (after set (ours set (startHeld set store)) events) .history
-    ≡ record { sent = units; accepted = units; confirmed = some 0 ∷ some 1 ∷ []; denied = []; released = 0; lockedOut = false; sentBd = []; acceptedBd = [] }
+-- to unfold this is to unfold every definition that our two ends compute with
+unfoldable pub computingOurs : Unit {0}
 unfolding computing rawWriting freshHeld stepOf starting.startingOf start.startOf start.noneTold start.begun start.senderOf sender.handedWriting sender.servedBy
     sender.served sender.offeredBy sender.requestAdOf sender.directiveOf sender.tickOf sender.lowerLayerOf sender.controlWordOf answers.answered
     answers.refusing number.wordNumber number.directiveNumber number.expiryNumber number.adNumber number.lowerNumber rows.done rows.doneAll rows.doneCell
     rows.rowOf rows.eventOf rows.rowIf rows.rowNumbered parts.withSettings parts.withVariables parts.withQueues parts.withTold act.toState act.startTimer
     act.cancelTimer act.countOne act.adOutReady act.setSuspendState act.responsesWith act.respond act.handDown act.abort act.addToWaitQueue
     act.holdControl act.releaseBcFrame act.transmitAdFrame act.sendMarked act.inWindow act.lookForFdu act.again act.initiateAdRetransmission
-    act.removeAcknowledgedFrames act.emptied act.denyControl act.purgeSentQueue act.notWaiting act.purgeWaitQueue act.initialise slide.slid slide.slidWithin place.placed
+    act.setVs act.setNnr act.notify act.alert act.removeAcknowledgedFrames act.emptied act.denyControl act.purgeSentQueue act.notWaiting
+    act.purgeWaitQueue act.initialise slide.slid slide.slidWithin place.placed
+computingOurs = tt
+
+pub our-session : (after set (ours set (startHeld set store)) events) .history
+    ≡ record { sent = units; accepted = units; confirmed = some 0 ∷ some 1 ∷ []; denied = []; released = 0; lockedOut = false; sentBd = []; acceptedBd = [] }
+unfolding computingOurs
 our-session = refl
 
 -- The sender starts at 0. The lower layer takes the frame of Set V(R), the timer expires, and the lower layer takes it again; then a control
@@ -107,3 +114,23 @@ module _ (lent : List ℕ) (long : smallestStore ≤ length lent) where
 
   pub twice-begins : Begins twice (heldAfterAll initiating (freshHeld twice 0 lent))
   twice-begins = begins-after twice initiating (freshHeld twice 0 lent) (fresh-good twice twice-within 0 (leb→le _ _ tt) lent long) twice-reads
+
+-- A start with V(S) 100 and NN(R) 0, further apart than any K: the first unit waits until Terminate; Set V(S) brings both to one number, and the
+-- next unit is handed down, in a frame of 8 octets.
+abbrev far : Held
+far = record { sender = starting.startingOf (senderSettings set) 100 0 (length store) .sender; store = store }
+
+-- the number of each event in table 7-8, and the count of octets handed down
+abbrev eventsOf : List SenderEvent → Held → List (ℕ × ℕ)
+eventsOf [] x = []
+eventsOf (e ∷ es) x =
+    let step = stepOf e (lentOutput 256) x in
+    (step .answer .event, step .answer .down) ∷ eventsOf es (heldAfter step)
+
+abbrev offering : SenderEvent
+offering = requestAd (17 ∷ [])
+
+pub far-start : eventsOf (directive 1 0 ∷ offering ∷ directive 5 0 ∷ directive 7 6 ∷ directive 1 0 ∷ offering ∷ []) far
+    ≡ (23, 0) ∷ (19, 0) ∷ (29, 0) ∷ (35, 0) ∷ (23, 0) ∷ (19, 8) ∷ []
+unfolding computingOurs
+far-start = refl

@@ -105,7 +105,7 @@ module _ (own : Own) (o : List ℕ) (s : Sender) (store : List ℕ) (lent : ℕ)
 
   few : s .queues .sent < places
   unfolding begun
-  few = omega (arith, good .formed .outstanding, good .formed .window)
+  few = omega (arith, good .formed .sent-most)
 
   fits-store : largestUnit * s .queues .sent + length o ≤ length store
   unfolding begun

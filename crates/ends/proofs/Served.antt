@@ -66,7 +66,7 @@ module _ (own : Own) (e : FopEvent) (n : ℕ) (s g : Sender) (store : List ℕ) 
   unfolding begun
   unit-is i h =
       let few : count + held (w .queues .sent) (w .queues .waiting) ≤ places =
-      omega (arith, row-few own e [] n g store by-good meets, by-good .formed .outstanding, by-good .formed .window) in
+      omega (arith, row-few own e [] n g store by-good meets, by-good .formed .sent-most) in
       let fewer : count + i < places = room-left (w .queues .sent) (w .queues .waiting) h few in
       let turned : i + count ≡ count + i = omega arith in
       ap (λ (k : ℕ). unitAt (s .queues .lengths) k store) turned

@@ -49,7 +49,7 @@ module _ (own : Own) where
 pub held-fits : (own : Own) (s : Sender) (store : List ℕ) (i : ℕ) → Good own s store → i < s .queues .sent → Fits (unitAt (s .queues .lengths) i store)
 unfolding begun
 held-fits own s store i g h =
-    unit-fits (s .queues .lengths) store i (omega (arith, g .formed .outstanding, g .formed .window, h)) (g .filled i (below (s .queues .sent) (s .queues .waiting) h))
+    unit-fits (s .queues .lengths) store i (omega (arith, g .formed .sent-most, h)) (g .filled i (below (s .queues .sent) (s .queues .waiting) h))
     (g .formed .units i) (g .formed .room) where
       below : (sent : ℕ) (waiting : Bool) → i < sent → i < held sent waiting
       below sent true k = omega arith

@@ -9,7 +9,6 @@ use mathlib.Core.List.{List, [], _∷_}
 use native.Mathlib.Omega.{arith}
 use borrow.Author.Tests.{le-leb, eq-eqb}
 use lib.ListN.{length}
-use Rattle.base.specs.Modulo.{offset}
 use Rattle.fop.specs.Limits.{largestK, largestNumber}
 use Rattle.fop.specs.Units.{Own}
 use Rattle.fop.specs.Table as table
@@ -22,7 +21,6 @@ use Rattle.fop.specs.Answers.{senderNext}
 use Rattle.fop_actions.specs.declared.Sender.{Sender}
 use Rattle.fop_actions.specs.Start.{startOf, begun}
 use Rattle.fop_actions.specs.View.{fopOf}
-use Rattle.fop_actions.proofs.ViewStart.{well-started}
 use Rattle.fop_view.specs.State.{Good}
 use Rattle.farm.specs.Receiver as farm
 use Rattle.farm.specs.declared.Start.the-variants.{Ready}
@@ -32,10 +30,11 @@ use Rattle.session.specs.Claims.{Claims}
 use Rattle.session.proofs.Theorem.{demand3}
 use Rattle.session.proofs.Strong.{stronger-claims}
 use Rattle.sender.specs.Limits.{smallestStore}
-use Rattle.sender.specs.Start.{startingOf, withinLimits}
+use Rattle.sender.specs.Start.{startingOf, settingsHold}
 use Rattle.ends.specs.Ours.{Held, senderSettings, freshHeld, heldAfterAll, startHeld, reads, Begins, ours}
 use Rattle.ends.specs.Demand.{Demand3, StrongerOurs}
 use Rattle.ends.proofs.Events.{does}
+use Rattle.ends.proofs.Restored.{start-good}
 
 -- A sender after events is well-formed, and reads as the table machine after them.
 abbrev GoodHeld : Own → Held → Type 0
@@ -64,10 +63,7 @@ module _ (set : Settings) (within : Within set) (v : ℕ) (octet : v ≤ largest
   abbrev first : Sender
   first = startOf (senderSettings set) v v
 
-  no-offset : offset v v ≤ largestK
-  no-offset = omega (arith, octet)
-
-  limits-hold : withinLimits (senderSettings set) v v ≡ true
+  limits-hold : settingsHold (senderSettings set) ≡ true
   limits-hold =
       simp (
         le-leb 1 (set .k) (within .windowLeast),
@@ -76,7 +72,6 @@ module _ (set : Settings) (within : Within set) (v : ℕ) (octet : v ≤ largest
         le-leb 1 (set .limit) (within .limitLeast),
         le-leb (set .own .spacecraft) 1023 (within .spacecraft),
         le-leb (set .own .channel) 63 (within .channel),
-        le-leb (offset v v) largestK no-offset,
       )
 
   starts : startingOf (senderSettings set) v v (length store) .sender .fop ≡ first
@@ -84,28 +79,7 @@ module _ (set : Settings) (within : Within set) (v : ℕ) (octet : v ≤ largest
   starts = simp (limits-hold, le-leb smallestStore (length store) long)
 
   first-good : Good (set .own) first store
-  unfolding startOf begun
-  first-good = record {
-    formed = well-started (senderSettings set) v v store (omega (arith, octet)) (omega (arith, octet)) no-offset long;
-    window-least = omega (arith, within .windowLeast);
-    window = omega (arith, within .windowMost);
-    clock-least = within .timerLeast;
-    limit-least = within .limitLeast;
-    limit = within .limitMost;
-    count-least = omega arith;
-    count-most = omega arith;
-    alerting = refl;
-    serving = refl;
-    sent-main = λ q. refl;
-    waiting-main = λ q. refl;
-    stopped = λ q. refl;
-    control-s5 = refl;
-    filled = λ i h. absurd (omega (arith, h));
-    spacecraft = refl;
-    channel = refl;
-    spacecraft-most = within .spacecraft;
-    channel-most = within .channel;
-  }
+  first-good = start-good (senderSettings set) v v limits-hold store (omega (arith, octet)) (omega (arith, octet)) (within .limitMost) long
 
   pub fresh-good : GoodHeld (set .own) (freshHeld set v store)
   unfolding freshHeld

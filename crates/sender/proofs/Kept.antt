@@ -1,4 +1,4 @@
--- The tests of a state that was kept: V(S) - NN(R) with the counts, and the lengths as a loop meets them.
+-- The tests of a state that was kept: the counts with V(S) - NN(R), and the lengths as a loop meets them.
 use mathlib.Core.Path.{_≡_, sym, ap, ap₂, _∙_}
 use mathlib.Core.Bool.{Bool, true, false, not}
 use mathlib.Core.List.{List}
@@ -27,7 +27,7 @@ use Rattle.sender.specs.State.{numbersHold, isEmpty, stateHolds, unitsHe
 -- numbersHold with the difference given
 abbrev pub numbersWith : ℕ → Variables → Queues → Bool
 numbersWith d v q =
-    both (leb d largestK) (both (leb (q .sent) d) (both (leb (q .marked) (q .sent)) (both (leb 1 (v .«transmission_count»)) (eqb (v .«suspend_state») 0))))
+    both (leb (q .sent) largestK) (both (leb (q .sent) d) (both (leb (q .marked) (q .sent)) (both (leb 1 (v .«transmission_count»)) (eqb (v .«suspend_state») 0))))
 
 pub numbers-by : (v : Variables) (q : Queues) (d : ℕ) (b : Bool) → d ≡ offset (v .vs) (v .nnr) → b ≡ numbersWith d v q → b ≡ numbersHold v q
 numbers-by v q d b e h = h ∙ ap (λ (x : ℕ). numbersWith x v q) e

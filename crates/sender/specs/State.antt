@@ -21,11 +21,11 @@ use Rattle.sender.specs.Start.{settingsHold, refusedStart}
 abbrev pub unitsHeld : ℕ → Bool → ℕ
 unitsHeld sent waiting = pick waiting (suc sent) sent
 
--- V(S) - NN(R) within the largest K; the units sent are among them, and the marked ones among these; Transmission_Count is at least 1;
+-- the units sent are no more than the largest K and than V(S) - NN(R), and the marked ones are among them; Transmission_Count is at least 1;
 -- Suspend_State is 0
 abbrev pub numbersHold : Variables → Queues → Bool
 numbersHold v q =
-    both (leb (offset (v .vs) (v .nnr)) largestK)
+    both (leb (q .sent) largestK)
     (both (leb (q .sent) (offset (v .vs) (v .nnr)))
     (both (leb (q .marked) (q .sent)) (both (leb 1 (v .«transmission_count»)) (eqb (v .«suspend_state») 0))))
 

@@ -3,8 +3,8 @@
 // The sender's state goes in by value and comes back in the answer. The units lie in a store that the host lends at every event, the
 // same one each time and written by nobody else: units of 249 octets from offset 0 on, the oldest first, the unit waiting behind the sent
 // ones. The frame handed down to the lower layer is written at the front of the lent output. A refusal changes nothing.
-pub mod answers;
-pub mod frames;
+mod answers;
+mod frames;
 mod state;
 
 use crate::answers::conclude;
@@ -20,7 +20,6 @@ use base::LARGEST_UNIT;
 use clcw::Clcw;
 use clcw::Reading;
 use fop_actions::Alert;
-use fop_actions::LARGEST_K;
 use fop_actions::PLACES;
 use fop_actions::Responses;
 use fop_actions::Run;
@@ -30,7 +29,6 @@ use fop_actions::Work;
 use fop_actions::start::begin;
 use fop_actions::start::start;
 use fop_actions::units::put_unit;
-use fop_actions::values::difference;
 use fop_events::Lower;
 use fop_events::ad_event;
 use fop_events::bd_event;
@@ -50,7 +48,7 @@ ghost use Rattle.base.specs.Outcome.{answer, after};
 ghost use Rattle.frame.specs.Answers.{writtenAnswer};
 ghost use Rattle.sender.specs.Answers.{concluded};
 ghost use Rattle.sender.specs.Limits.{smallestStore};
-ghost use Rattle.sender.specs.Start.{withinLimits, refusedStart, startingOf};
+ghost use Rattle.sender.specs.Start.{refusedStart, startingOf};
 ghost use Rattle.sender.specs.State.{restoredOf};
 ghost use Rattle.sender.specs.Events.{handedWriting, unitOffered, servedBy, served, mustBeUnit, offeredBy, added, ticked, tickNumber, requestAdOf, requestBdOf, directiveOf, tickOf, lowerLayerOf, controlWordOf};
 
@@ -268,16 +266,6 @@ fn tick_event(sender: fop_actions::Sender) -> u8
     0
 }
 
-// Document 01's limits of the settings and numbers of a start.
-fn within_limits(settings: Settings, vs: u8, nnr: u8) -> bool
-    ensures { λ r. ⌜ r ≡ withinLimits settings vs nnr ⌝ }
-{
-    if !settings_hold(settings) {
-        return false;
-    }
-    difference(vs, nnr) <= LARGEST_K
-}
-
 // A start that is refused.
 fn refused_start(number: u8) -> Start
     ensures { λ r. ⌜ r ≡ refusedStart number ⌝ }
@@ -332,7 +320,7 @@ impl Sender {
     pub fn new(settings: Settings, vs: u8, nnr: u8, store: &[u8]) -> Start
         ensures { λ r. ⌜ r ≡ startingOf settings vs nnr (length (now (store .entry))) ⌝ }
     {
-        if !within_limits(settings, vs, nnr) {
+        if !settings_hold(settings) {
             return refused_start(12);
         }
         if store.len() < SMALLEST_STORE {

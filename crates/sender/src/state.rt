@@ -47,7 +47,7 @@ fn numbers_hold(variables: Variables, queues: Queues) -> bool
     ensures { λ r. ⌜ r ≡ numbersHold variables queues ⌝ }
 {
     let outstanding = difference(variables.vs, variables.nnr);
-    if LARGEST_K < outstanding {
+    if LARGEST_K < queues.sent {
         return false;
     }
     if outstanding < queues.sent {
