@@ -44,11 +44,12 @@ use Rattle.session.proofs.Octets.{octets-are}
 use Rattle.sender.specs.Answers.{Step, stepBy, refusedStep}
 use Rattle.sender.specs.Limits.{smallestStore}
 use Rattle.sender.specs.Events.{handedWriting, servedBy, served, offeredBy, bypassedBy, requestAdOf, requestBdOf, directiveOf, ticked, tickOf, lowerLayerOf, wordBy, controlWordOf}
-use Rattle.ends.specs.Ours.{Held, stepOf, lowerAnswer, answerBy, lentOutput}
+use Rattle.ends.specs.Ours.{Held, stepOf, lowerAnswer, answerBy, lentOutput, reads}
+use Rattle.ends.specs.Does.{Does}
 use Rattle.ends.proofs.Numbers.{row-event}
 use Rattle.ends.proofs.Writing.{Fits, fitting}
 use Rattle.ends.proofs.Concluding.{Agrees, concludes, refuses-7, refuses-10, refuses-12}
-use Rattle.ends.proofs.Judged.{Does, agreed, refuses, refused-keeps, refused-good}
+use Rattle.ends.proofs.Judged.{agreed, refuses, refused-keeps, refused-good}
 use Rattle.ends.proofs.Served.{serves}
 use Rattle.ends.proofs.Requested.{offers, rejects-ad, rejects-bd, bypasses-down, lengthless}
 use Rattle.ends.proofs.Meets.{word-meets, directive-meets, expiry-meets, valid-not-40, invalid-is-40}
@@ -345,7 +346,7 @@ module _ (own : Own) (s : Sender) (store : List ℕ) (lent : ℕ) (good : Good o
 
 -- every event
 pub does : (own : Own) (e : SenderEvent) (lent : ℕ) (x : Held) → Good own (x .sender .fop) (x .store)
-    → Does own lent e (fopOf (begun (x .sender .fop)) (x .store)) (stepOf e (lentOutput lent) x)
+    → Does own lent e (reads x) (stepOf e (lentOutput lent) x)
 unfolding stepOf
 does own (requestAd o) lent x g = ad-does own (x .sender .fop) (x .store) lent g o
 does own (requestBd o) lent x g = bd-does own (x .sender .fop) (x .store) lent g o

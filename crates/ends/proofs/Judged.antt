@@ -18,13 +18,8 @@ use Rattle.fop_view.specs.State.{Good}
 use Rattle.sender.specs.Answers as sender
 use Rattle.sender.specs.Answers.{Step, refusedStep}
 use Rattle.ends.specs.Ours.{answerBy}
+use Rattle.ends.specs.Does.{Does}
 use Rattle.ends.proofs.Concluding.{Agrees}
-
--- a step of our sender is what the table machine does at the event
-pub record Does (own : Own) (lent : ℕ) (e : SenderEvent) (f : Fop) (x : Step) : Type 0 where
-  pub answer : answerBy x ≡ senderAnswer own e lent f
-  pub next : fopOf (begun (x .answer .next .fop)) (x .store) ≡ senderNext own e lent f
-  pub good : Good own (x .answer .next .fop) (x .store)
 
 -- the refusal, by whether the frame fits and how the event was judged: j, or 11, or 0
 abbrev number : Bool → ℕ → ℕ

@@ -1,4 +1,4 @@
--- Demand 3 of our own two ends. Every event of our sender does what the table machine does (Events); the receiver's definitions are those of
+-- Demands 2 and 3 of our own two ends. Every event of our sender does what the table machine does (Events); the receiver's definitions are those of
 -- the session. So our ends are tied to the tables from every sender that begins a session, and crate session's theorem holds of them.
 -- A sender begins a session wherever the table machine, over the same events, comes to the session's start (`begins-after`): a fresh one
 -- that is told to initiate without check is one (`fresh-begins`), with every store that is long enough.
@@ -8,7 +8,7 @@ use mathlib.Core.Bool.{true}
 use mathlib.Core.List.{List, [], _∷_}
 use native.Mathlib.Omega.{arith}
 use borrow.Author.Tests.{le-leb, eq-eqb}
-use lib.ListN.{length}
+use lib.ListN.{length, length-replicate}
 use Rattle.fop.specs.Limits.{largestK, largestNumber}
 use Rattle.fop.specs.Units.{Own}
 use Rattle.fop.specs.Table as table
@@ -31,20 +31,35 @@ use Rattle.session.proofs.Theorem.{demand3}
 use Rattle.session.proofs.Strong.{stronger-claims}
 use Rattle.sender.specs.Limits.{smallestStore}
 use Rattle.sender.specs.Start.{startingOf, settingsHold}
-use Rattle.ends.specs.Ours.{Held, senderSettings, freshHeld, heldAfterAll, startHeld, reads, Begins, ours}
+use Rattle.ends.specs.Ours.{Held, lentOutput, senderSettings, freshHeld, heldAfterAll, startHeld, reads, Begins, ours}
 use Rattle.ends.specs.Demand.{Demand3, StrongerOurs}
+use Rattle.ends.specs.Does.{Demand2}
 use Rattle.ends.proofs.Events.{does}
+use Rattle.ends.proofs.Output.{output-content-free}
 use Rattle.ends.proofs.Restored.{start-good}
 
--- A sender after events is well-formed, and reads as the table machine after them.
+-- the sender is well-formed with its store
 abbrev GoodHeld : Own → Held → Type 0
 GoodHeld own x = Good own (x .sender .fop) (x .store)
+
+-- Demand 2 of our sender: what stands in the output lent is not looked at (Output), so it may be zeros.
+pub demand2-ours : Demand2
+demand2-ours own e output x g =
+    let n : ℕ = length output in
+    let same = output-content-free e x output (lentOutput n) (sym (length-replicate n 0)) in
+    let d = does own e n x g in
+    record {
+      answer = same .1 ∙ d .answer;
+      next = ap reads (same .0) ∙ d .next;
+      good = subst (GoodHeld own) (sym (same .0)) (d .good);
+    }
 
 -- the table machine after events
 abbrev pub nextAll : Own → List (SenderEvent × ℕ) → Fop → Fop
 nextAll own [] f = f
 nextAll own (e ∷ es) f = nextAll own es (senderNext own (e .0) (e .1) f)
 
+-- a sender after events is well-formed, and reads as that
 pub after-all : (own : Own) (es : List (SenderEvent × ℕ)) (x : Held) → GoodHeld own x
     → GoodHeld own (heldAfterAll es x) × (reads (heldAfterAll es x) ≡ nextAll own es (reads x))
 after-all own [] x g = (g, refl)

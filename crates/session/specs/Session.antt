@@ -165,7 +165,8 @@ begins m = record {
 }
 
 -- the events; the last number is the room lent for a frame or word. To the sender: an AD or BD request, a tick, an answer of the lower layer,
--- Terminate with its value, which is not looked at, the oldest word; to the receiver: the oldest frame, a release; the receiver's control word is made; the oldest frame or word is lost
+-- Terminate with its value, which is not looked at, the oldest word; to the receiver: the oldest frame, a release; the receiver's control
+-- word is made; the oldest frame or word is lost
 pub data Event : Type 0 where
   adRequest bdRequest : List ℕ → ℕ → Event
   ticks : ℕ → Event
