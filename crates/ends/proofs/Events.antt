@@ -31,7 +31,7 @@ use Rattle.fop.specs.Machine.{fopDo}
 use Rattle.fop.specs.Events.{when, first, SenderEvent, requestAd, requestBd, tick, lower, directive, wordArrives, isEmpty, seen, wordLines, wordEvent, expiryLines, validDirective, directiveLines, directiveEvent, work, fopAd, fopBd, fopTick, fopExpiry, fopLower, fopDirective, fopHeard, fopWord}
 use Rattle.fop.specs.Events as fop
 use Rattle.fop.specs.Answers.{judged, otherRefusal, refused}
-use Rattle.fop_actions.specs.declared.Sender.{Sender}
+use Rattle.fop_actions.specs.declared.SenderState.{SenderState}
 use Rattle.fop_actions.specs.declared.Work.{Work}
 use Rattle.fop_actions.specs.Start.{begun, noneTold, senderOf}
 use Rattle.fop_actions.specs.View.{unitAt, fopOf, without}
@@ -64,7 +64,7 @@ plain-unbypassed : (e : FopEvent) → plain e ≡ true → eqb (eventNumber e) 2
 plain-unbypassed e p = not-true _ (both-right (not (isOffering (brings e))) _ p)
 
 -- the store that is lent is long enough
-stored : (own : Own) (s : Sender) (store : List ℕ) → Good own s store → leb smallestStore (length store) ≡ true
+stored : (own : Own) (s : SenderState) (store : List ℕ) → Good own s store → leb smallestStore (length store) ≡ true
 unfolding begun
 stored own s store g = le-leb smallestStore (length store) (g .formed .room)
 
@@ -73,7 +73,7 @@ yes-heard : (own : Own) (octets : List ℕ) → areOctets octets ≡ true → (r
 unfolding readWord
 yes-heard own octets t r q = ap (λ (b : Bool). heard (pick b (readingOf octets (own .channel)) reading.Length)) t ∙ ap heard q
 
-module _ (own : Own) (s : Sender) (store : List ℕ) (lent : ℕ) (good : Good own s store) where
+module _ (own : Own) (s : SenderState) (store : List ℕ) (lent : ℕ) (good : Good own s store) where
   abbrev f : Fop
   f = fopOf (begun s) store
 
@@ -81,7 +81,7 @@ module _ (own : Own) (s : Sender) (store : List ℕ) (lent : ℕ) (good : Good o
   output = lentOutput lent
 
   -- an event of the table that is served, of the state g
-  by-row : (e : FopEvent) (n : ℕ) (g : Sender) → Good own g store → Meets e [] n g → g .queues ≡ s .queues → plain e ≡ true
+  by-row : (e : FopEvent) (n : ℕ) (g : SenderState) → Good own g store → Meets e [] n g → g .queues ≡ s .queues → plain e ≡ true
       → Agrees own lent f (fopDo e [] n (fopOf (begun g) store)) (served (eventNumber e) n s g store output)
   unfolding served
   by-row e n g by-good meets q p =

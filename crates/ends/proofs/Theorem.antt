@@ -15,7 +15,7 @@ use Rattle.fop.specs.Machine as action
 use Rattle.fop.specs.Events as events
 use Rattle.fop.specs.Events.{directive}
 use Rattle.fop.specs.Answers as answers
-use Rattle.fop_actions.specs.declared.Sender.{Sender}
+use Rattle.fop_actions.specs.declared.SenderState.{SenderState}
 use Rattle.fop_actions.specs.Start.{startOf, begun}
 use Rattle.fop_actions.specs.View.{fopOf}
 use Rattle.fop_view.specs.State.{Good}
@@ -34,7 +34,7 @@ use Rattle.ends.proofs.Events.{directive-does, does}
 use Rattle.ends.proofs.Restored.{start-good}
 
 module _ (set : Settings) (within : Within set) (store : List ℕ) (long : smallestStore ≤ length store) where
-  abbrev first : Sender
+  abbrev first : SenderState
   first = startOf (senderSettings set) (set .n) (set .n)
 
   -- told to initiate without check, the machine's start is the session's
@@ -69,7 +69,7 @@ module _ (set : Settings) (within : Within set) (store : List ℕ) (long : small
 
   started-as : startHeld set store ≡ heldAfter (directiveOf 1 0 first store (lentOutput 0))
   unfolding startHeld
-  started-as = ap (λ (s : Sender). heldAfter (directiveOf 1 0 s store (lentOutput 0))) starts
+  started-as = ap (λ (s : SenderState). heldAfter (directiveOf 1 0 s store (lentOutput 0))) starts
 
   abbrev reads : Held → Fop
   reads x = fopOf (begun (x .sender .fop)) (x .store)

@@ -13,7 +13,7 @@ use Rattle.frame.specs.declared.writer.Written.{Written}
 use Rattle.frame.specs.declared.writer.Written.the-variants.{Done, Length, Setting, Room}
 use Rattle.fop_actions.specs.declared.Settings.{Settings}
 use Rattle.fop_actions.specs.declared.Handed.{Handed}
-use Rattle.fop_actions.specs.declared.Sender.{Sender as State}
+use Rattle.fop_actions.specs.declared.SenderState.{SenderState}
 use Rattle.fop_actions.specs.declared.Work.{Work}
 use Rattle.sender.specs.declared.Answer.{Answer}
 use Rattle.sender.specs.Answers.{Step, answered, refusing, refusedStep, concluded, stored, stepBy}
@@ -53,12 +53,12 @@ same-step p h =
     (h .0 ∙ ap (λ (x : Step). x .answer) (sym p), (h .1 .0 ∙ ap (λ (x : Step). x .store) (sym p), h .1 .1 ∙ ap (λ (x : Step). x .output) (sym p)))
 
 -- a step that refuses
-pub refuses : (n : ℕ) (s : State) {a : Answer} {store output : List ℕ} {t : Step} → t ≡ refusedStep n s store output → a ≡ refusing n s
+pub refuses : (n : ℕ) (s : SenderState) {a : Answer} {store output : List ℕ} {t : Step} → t ≡ refusedStep n s store output → a ≡ refusing n s
     → Meets a store output t
 refuses n s p e = same-step p (e, (refl, refl))
 
 -- what was written picks the answer
-pub concludes : (event : ℕ) (s : State) (w : Work) (x y : Written) (a : Answer) → x ≡ y → a ≡ concluded event s w (writtenAnswer y)
+pub concludes : (event : ℕ) (s : SenderState) (w : Work) (x y : Written) (a : Answer) → x ≡ y → a ≡ concluded event s w (writtenAnswer y)
     → a ≡ concluded event s w (writtenAnswer x)
 concludes event s w x y a p e = e ∙ ap (λ (z : Written). concluded event s w (writtenAnswer z)) (sym p)
 
@@ -83,7 +83,7 @@ stored-same (outcome.Answer.done count more) store = refl
 stored-same (outcome.Answer.refused number place) store = refl
 
 -- the refusal in the answer is 0 exactly where the frame is written, so the store changes exactly there
-module _ (event : ℕ) (s : State) (w : Work) (new old : List ℕ) where
+module _ (event : ℕ) (s : SenderState) (w : Work) (new old : List ℕ) where
   stored-new : (x : Written) → concluded event s w (writtenAnswer x) .refusal ≡ 0 → stored (writtenAnswer x) new old ≡ new
   unfolding refusing
   stored-new (Done count) z = refl
@@ -99,17 +99,17 @@ module _ (event : ℕ) (s : State) (w : Work) (new old : List ℕ) where
   stored-old Room z = refl
 
 -- the writing of the frame handed down, with its unit
-abbrev pub handing : State → Work → List ℕ → List ℕ → Outcome (Unit {0})
+abbrev pub handing : SenderState → Work → List ℕ → List ℕ → Outcome (Unit {0})
 handing s w unit output = handedWriting (s .settings) (w .told .handed) unit (length output)
 
 -- the answer by the frame written
-pub answered-by : (event : ℕ) (s : State) (w : Work) (x : Written) (a : Answer) (unit out output : List ℕ) → Writes x out (handing s w unit output) output
+pub answered-by : (event : ℕ) (s : SenderState) (w : Work) (x : Written) (a : Answer) (unit out output : List ℕ) → Writes x out (handing s w unit output) output
     → a ≡ concluded event s w (writtenAnswer x)
     → (a ≡ concluded event s w (answer (handing s w unit output))) × (out ≡ after (handing s w unit output) output)
 answered-by event s w x a unit out output f e = (e ∙ ap (concluded event s w) (f .0), f .1)
 
 -- an event judged, where the unit given is the unit to hand down: the answer by the frame written, and the store by the refusal in it
-module _ (event : ℕ) (s : State) (w : Work) (x : Written) (a : Answer) (unit given out new old output : List ℕ) (same : given ≡ unit)
+module _ (event : ℕ) (s : SenderState) (w : Work) (x : Written) (a : Answer) (unit given out new old output : List ℕ) (same : given ≡ unit)
     (written : Writes x out (handing s w given output) output) (told : a ≡ concluded event s w (writtenAnswer x)) where
   frame : Writes x out (handing s w unit output) output
   frame = unit-told (s .settings) (w .told .handed) x out output given unit same written

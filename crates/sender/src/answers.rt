@@ -69,7 +69,7 @@ fn refused_event(number: u8) -> u8
 }
 
 // A refusal: nothing changes.
-pub fn refused(sender: fop_actions::Sender, number: u8) -> Answer
+pub fn refused(sender: fop_actions::SenderState, number: u8) -> Answer
     ensures { λ r. ⌜ r ≡ refusing number sender ⌝ }
 {
     let state = sender.state;
@@ -95,7 +95,7 @@ pub fn refused(sender: fop_actions::Sender, number: u8) -> Answer
 }
 
 // The answer by what writing the frame handed down came to.
-pub fn conclude(sender: fop_actions::Sender, event: u8, work: Work, written: Written) -> Answer
+pub fn conclude(sender: fop_actions::SenderState, event: u8, work: Work, written: Written) -> Answer
     ensures { λ r. ⌜ r ≡ concluded event sender work (writtenAnswer written) ⌝ }
 {
     match written {

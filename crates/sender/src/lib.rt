@@ -57,7 +57,7 @@ pub const SMALLEST_STORE: usize = LARGEST_UNIT * PLACES;
 
 // The sender's state. No other crate can write one: a start gives one, and each answer the next.
 pub struct Sender {
-    fop: fop_actions::Sender,
+    fop: fop_actions::SenderState,
 }
 
 // A start: document 01's refusal (0 for done, 12 for a setting, 11 for the lent store), and the sender; after a refusal that of the least
@@ -86,7 +86,7 @@ pub struct Answer {
 
 // An event that offers no unit, judged: the frame is written, then the units confirmed leave the store.
 fn serve_work(
-    sender: fop_actions::Sender,
+    sender: fop_actions::SenderState,
     event: u8,
     work: Work,
     store: &mut [u8],
@@ -113,8 +113,8 @@ fn serve_work(
 
 // The same by the event's row, of the state `by`, with the value that the event brings.
 fn serve(
-    sender: fop_actions::Sender,
-    by: fop_actions::Sender,
+    sender: fop_actions::SenderState,
+    by: fop_actions::SenderState,
     event: u8,
     value: u16,
     store: &mut [u8],
@@ -132,7 +132,7 @@ fn serve(
 }
 
 // Whether the unit offered is added to the wait queue: E19 in S1 to S3.
-fn adds(event: u8, sender: fop_actions::Sender) -> bool
+fn adds(event: u8, sender: fop_actions::SenderState) -> bool
     ensures { λ r. ⌜ r ≡ added event sender ⌝ }
 {
     if event != 19 {
@@ -151,7 +151,7 @@ fn adds(event: u8, sender: fop_actions::Sender) -> bool
 
 // An AD request, judged: the frame is written, then the unit offered goes into the store.
 fn offer_work(
-    sender: fop_actions::Sender,
+    sender: fop_actions::SenderState,
     event: u8,
     work: Work,
     unit: &[u8],
@@ -174,7 +174,7 @@ fn offer_work(
 
 // Writes the frame that an AD request hands down: of the unit offered, or of an older unit that is marked.
 fn write_offered(
-    sender: fop_actions::Sender,
+    sender: fop_actions::SenderState,
     work: Work,
     unit: &[u8],
     store: &[u8],
@@ -197,7 +197,7 @@ fn write_offered(
 
 // A BD request, judged: the frame is written.
 fn bypass_work(
-    sender: fop_actions::Sender,
+    sender: fop_actions::SenderState,
     event: u8,
     work: Work,
     unit: &[u8],
@@ -232,7 +232,7 @@ fn request_refusal(unit: &[u8], store: &[u8]) -> u8
 }
 
 // The state after a tick lowered a running timer by one.
-fn lower_timer(sender: fop_actions::Sender) -> fop_actions::Sender
+fn lower_timer(sender: fop_actions::SenderState) -> fop_actions::SenderState
     ensures { λ r. ⌜ r ≡ ticked sender ⌝ }
 {
     let ticks = sender.variables.timer;
@@ -246,7 +246,7 @@ fn lower_timer(sender: fop_actions::Sender) -> fop_actions::Sender
 }
 
 // The event of a tick: the expiry where it makes the timer zero.
-fn tick_event(sender: fop_actions::Sender) -> u8
+fn tick_event(sender: fop_actions::SenderState) -> u8
     ensures { λ r. ⌜ r ≡ tickNumber sender ⌝ }
 {
     if sender.variables.timer == 1 {
@@ -285,14 +285,14 @@ pub fn refused_state() -> Start
 
 impl Sender {
     // The state, to be kept.
-    pub fn state(self) -> fop_actions::Sender
+    pub fn state(self) -> fop_actions::SenderState
         ensures { λ r. ⌜ r ≡ self .fop ⌝ }
     {
         self.fop
     }
 
     // A sender from a state that was kept; 12 where no sender has it.
-    pub fn restore(state: fop_actions::Sender) -> Start
+    pub fn restore(state: fop_actions::SenderState) -> Start
         ensures { λ r. ⌜ r ≡ restoredOf state ⌝ }
     {
         if !well_formed(state) {
