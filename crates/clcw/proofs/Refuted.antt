@@ -16,8 +16,15 @@ use Rattle.clcw.specs.declared.Reading.{Reading}
 use Rattle.clcw.specs.declared.Reading.the-variants.{Word}
 use Rattle.clcw.specs.Clcw.{firstSpare, waitFlag, secondSpare, wordFields, clcwOf, isValid, wordOf}
 use Rattle.clcw.specs.Answers.{receivedOf, readingOf}
-use Rattle.clcw.proofs.Back.{Case, Case.not-four, Case.invalid, Case.address, Case.ours, reading-cases}
+use Rattle.clcw.proofs.Back.{Case, Case.not-four, Case.invalid, Case.address, Case.ours, reading-cases, word-back}
 use Rattle.clcw.proofs.Examples.{flags}
+
+-- a reader that refuses all: one that takes no octets for a word
+pub refuses-all : (reader : List ℕ → ℕ → Reading) → ((octets : List ℕ) (channel : ℕ) (received : Received) → reader octets channel ≡ Word received → ⊥)
+    → ((s : List ℕ) (k : ℕ) → reader s k ≡ readingOf s k) → ⊥
+refuses-all reader never agrees =
+    let word = flags false false false in
+    never (clcwOf word) 0 _ (agrees (clcwOf word) 0 ∙ word-back word (omega arith) (omega arith) (omega arith))
 
 -- octets with a spare bit set
 abbrev pub SpareSet : List ℕ → Type 0

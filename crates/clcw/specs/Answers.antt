@@ -36,6 +36,14 @@ readingOf octets channel =
     (must (eqb (fieldAt virtualChannel octets) channel) Address
     (Word (receivedOf octets))))
 
+-- document 01's refusal of octets as a word of a channel: "a CLCW not of four octets" is 10; an invalid CLCW "is no refusal"; "otherwise
+-- another channel's word is refusal 7"
+unfoldable pub refusalOf : List ℕ → ℕ → ℕ
+refusalOf octets channel =
+    must (eqb (length octets) 4) 10
+    (must (isValid octets) 0
+    (must (eqb (fieldAt virtualChannel octets) channel) 7 0))
+
 -- document 01's number of a reading, 0 where it is no refusal
 abbrev pub readingNumber : Reading → ℕ
 readingNumber (Word received) = 0

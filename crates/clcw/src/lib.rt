@@ -7,7 +7,7 @@ ghost use Rattle.base.specs.Outcome.{answer, after};
 ghost use Rattle.base.specs.Limits.{largestChannel};
 ghost use Rattle.base.specs.Flags.{bitOf};
 ghost use Rattle.clcw.specs.Clcw.{clcwOf, writing, isValid, wordOf};
-ghost use Rattle.clcw.specs.Answers.{writtenAnswer, receivedOf, readingOf};
+ghost use Rattle.clcw.specs.Answers.{writtenAnswer, receivedOf, readingOf, refusalOf, readingNumber};
 
 // The fields of a control word that FOP-1 and FARM-1 give a meaning: channel, the three flags, the FARM-B counter (0 to 3) and
 // the report value.
@@ -114,7 +114,8 @@ impl Clcw {
 
     // What lent octets are to a channel.
     pub fn read(octets: &[u8], channel: u8) -> Reading
-        ensures { λ r. ⌜ r ≡ readingOf (now (octets .entry)) channel ⌝ }
+        ensures value { λ r. ⌜ r ≡ readingOf (now (octets .entry)) channel ⌝ }
+        ensures number { λ r. ⌜ readingNumber r ≡ refusalOf (now (octets .entry)) channel ⌝ }
     {
         if octets.len() != 4 {
             return Reading::Length;

@@ -22,7 +22,7 @@ ghost use Rattle.frame.specs.Answers.{readingNumber};
 ghost use Rattle.farm.specs.declared.Event.the-variants.{E1, E2, E3, E5, E6, E7, E8, E9, E10};
 ghost use Rattle.farm.specs.Table.{stepOf};
 ghost use Rattle.farm.specs.Window.{notWait, adEvent};
-ghost use Rattle.farm.specs.Receiver.{startOf, unitOf, answered, arrived, receiveOf, unitPart, releaseOf, wordOf};
+ghost use Rattle.farm.specs.Receiver.{startOf, startRefusal, startNumber, unitOf, answered, arrived, receiveOf, unitPart, releaseOf, releaseRefusal, releasedNumber, wordOf};
 
 // Document 01, "Limits": AD buffers 1 to 8.
 pub const LARGEST_BUFFERS: u8 = 8;
@@ -399,7 +399,8 @@ impl Variables {
 impl Receiver {
     // A receiver at its start, or 12 where a setting is outside its limit.
     pub fn new(spacecraft: u16, channel: u8, window: u8, vr: u8, buffers: u8) -> Start
-        ensures { λ r. ⌜ r ≡ startOf spacecraft channel window vr buffers ⌝ }
+        ensures value { λ r. ⌜ r ≡ startOf spacecraft channel window vr buffers ⌝ }
+        ensures number { λ r. ⌜ startNumber r ≡ startRefusal spacecraft channel window buffers ⌝ }
     {
         if LARGEST_SPACECRAFT < spacecraft {
             return Start::Setting;
@@ -526,7 +527,8 @@ impl Receiver {
 
     // A buffer release, or 13 where none is taken.
     pub fn release(self) -> Released
-        ensures { λ r. ⌜ r ≡ releaseOf self ⌝ }
+        ensures value { λ r. ⌜ r ≡ releaseOf self ⌝ }
+        ensures number { λ r. ⌜ releasedNumber r ≡ releaseRefusal self ⌝ }
     {
         let taken = self.taken;
         if taken == 0 {
