@@ -14,15 +14,15 @@ use Rattle.memory.specs.Placed.{placed}
 use Rattle.memory.proofs.Laws.{placed-fits}
 use Rattle.frame.specs.Frame.{refusalOf, totalOf, dataField}
 use Rattle.frame.specs.Answers.{partOf}
-use Rattle.frame.specs.declared.Reading.{Reading}
+use Rattle.frame.specs.declared.FrameReading.{FrameReading}
 use Rattle.frame.proofs.Accepted.{accepted, reading-refused, part-frame}
 use Rattle.clcw.specs.Clcw.{writing}
 use Rattle.farm.specs.Kept.{octetsOf, receiverIn, isState, restoredOf}
 use Rattle.farm.specs.Receiver.{startOf, answered, byReading, receiveOf, partFor, unitPart, releaseOf, wordOf}
 use Rattle.farm.specs.declared.Receiver.{Receiver}
 use Rattle.farm.specs.declared.Received.{Received}
-use Rattle.farm.specs.declared.Unit.{Unit as AcceptedUnit}
-use Rattle.farm.specs.declared.Unit.the-variants.{None, AdUnit, BdUnit}
+use Rattle.farm.specs.declared.AcceptedUnit.{AcceptedUnit}
+use Rattle.farm.specs.declared.AcceptedUnit.the-variants.{None, AdUnit, BdUnit}
 use Rattle.farm.specs.declared.Start.{Start}
 use Rattle.farm.specs.declared.Start.the-variants.{Ready, Setting}
 use Rattle.farm.specs.declared.Released.{Released}
@@ -46,7 +46,7 @@ module _ (r : Receiver) (frame : List ℕ) where
 
   none-of-refused : (refusal ≡ 0 → ⊥) → receiveOf r frame .unit ≡ None
   unfolding receiveOf byReading answered
-  none-of-refused d = ap (λ (x : Reading). byReading r x .unit) (reading-refused frame (r .spacecraft) (r .channel) d)
+  none-of-refused d = ap (λ (x : FrameReading). byReading r x .unit) (reading-refused frame (r .spacecraft) (r .channel) d)
 
   not-refused : (receiveOf r frame .unit ≡ None → ⊥) → refusal ≡ 0
   not-refused h = go (eqb refusal 0) refl

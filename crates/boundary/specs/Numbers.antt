@@ -7,12 +7,12 @@ use Rattle.base.specs.Flags.{bitOf}
 use Rattle.cltu.specs.Cltu.{Found}
 use Rattle.frame.specs.declared.Kind.{Kind}
 use Rattle.frame.specs.declared.Kind.the-variants.{Ad, Bd, Unlock, SetVr}
-use Rattle.frame.specs.declared.Reading.{Reading}
-use Rattle.frame.specs.declared.Reading.the-variants.{Frame, Refused}
+use Rattle.frame.specs.declared.FrameReading.{FrameReading}
+use Rattle.frame.specs.declared.FrameReading.the-variants.{Frame, Refused}
 use Rattle.clcw.specs.declared.Clcw.{Clcw}
-use Rattle.clcw.specs.declared.Received.{Received}
-use Rattle.clcw.specs.declared.Reading.{Reading as WordReading}
-use Rattle.clcw.specs.declared.Reading.the-variants.{Word, Invalid, Address, Length as NotFour}
+use Rattle.clcw.specs.declared.ReceivedWord.{ReceivedWord}
+use Rattle.clcw.specs.declared.WordReading.{WordReading}
+use Rattle.clcw.specs.declared.WordReading.the-variants.{Word, Invalid, Address, Length as NotFour}
 
 -- the place that a CLTU reading tells
 abbrev pub placeOf : Answer Found → ℕ
@@ -39,22 +39,22 @@ kindValue Unlock = 0
 kindValue (SetVr value) = value
 
 -- the kind of the frame that was read
-abbrev pub frameKind : Reading → ℕ
+abbrev pub frameKind : FrameReading → ℕ
 frameKind (Frame fields) = kindNumber (fields .kind)
 frameKind (Refused number) = 0
 
 -- its N(S), or the value of Set V(R)
-abbrev pub frameValue : Reading → ℕ
+abbrev pub frameValue : FrameReading → ℕ
 frameValue (Frame fields) = kindValue (fields .kind)
 frameValue (Refused number) = 0
 
 -- the octets of the whole frame (clause 6.2.2.8)
-abbrev pub frameTotal : Reading → ℕ
+abbrev pub frameTotal : FrameReading → ℕ
 frameTotal (Frame fields) = fields .total
 frameTotal (Refused number) = 0
 
 -- the octets of its data field (clause 6.2.3)
-abbrev pub frameField : Reading → ℕ
+abbrev pub frameField : FrameReading → ℕ
 frameField (Frame fields) = fields .field
 frameField (Refused number) = 0
 
@@ -66,30 +66,30 @@ wordValid Address = 0
 wordValid NotFour = 0
 
 -- a field of the word that was read, 0 where there is none
-abbrev pub wordField : (Received → ℕ) → WordReading → ℕ
+abbrev pub wordField : (ReceivedWord → ℕ) → WordReading → ℕ
 wordField f (Word received) = f received
 wordField f Invalid = 0
 wordField f Address = 0
 wordField f NotFour = 0
 
 -- Status Field: read and not judged
-abbrev pub statusTold : Received → ℕ
+abbrev pub statusTold : ReceivedWord → ℕ
 statusTold received = received .status
 
 -- the two flags of the physical channel as one number: 2 No RF Available, 1 No Bit Lock
-abbrev pub rfTold : Received → ℕ
+abbrev pub rfTold : ReceivedWord → ℕ
 rfTold received = bitOf (received .«no_rf») * 2 + bitOf (received .«no_bit_lock»)
 
 -- the three flags as one number: 4 lockout, 2 wait, 1 retransmit
-abbrev pub flagsTold : Received → ℕ
+abbrev pub flagsTold : ReceivedWord → ℕ
 flagsTold received = bitOf (received .word .lockout) * 4 + bitOf (received .word .wait) * 2 + bitOf (received .word .retransmit)
 
 -- FARM-B Counter
-abbrev pub counterTold : Received → ℕ
+abbrev pub counterTold : ReceivedWord → ℕ
 counterTold received = received .word .counter
 
 -- Report Value, N(R)
-abbrev pub reportTold : Received → ℕ
+abbrev pub reportTold : ReceivedWord → ℕ
 reportTold received = received .word .report
 
 -- the word that numbers give: a flag is set where its number is not 0

@@ -10,8 +10,8 @@ use Rattle.farm.specs.Table.{eventNumber}
 use Rattle.farm.specs.Kept.{stateOctets, octetsOf, receiverIn, isState}
 use Rattle.farm.specs.Receiver.{startOf, startNumber, receiveOf, unitPart, releaseOf, releasedNumber, wordOf}
 use Rattle.farm.specs.declared.Received.{Received}
-use Rattle.farm.specs.declared.Unit.{Unit as AcceptedUnit}
-use Rattle.farm.specs.declared.Unit.the-variants as unit
+use Rattle.farm.specs.declared.AcceptedUnit.{AcceptedUnit}
+use Rattle.farm.specs.declared.AcceptedUnit.the-variants as unit
 use Rattle.farm.specs.declared.Start.{Start}
 use Rattle.farm.specs.declared.Start.the-variants as start
 use Rattle.farm.specs.declared.Released.{Released}

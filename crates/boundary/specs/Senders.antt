@@ -6,7 +6,7 @@ use lib.Dec.{leb, eqb}
 use lib.ListN.{length}
 use Rattle.base.specs.Choice.{pick, must}
 use Rattle.memory.specs.Placed.{placed}
-use Rattle.fop_actions.specs.declared.Sender.{Sender as State}
+use Rattle.fop_actions.specs.declared.SenderState.{SenderState}
 use Rattle.fop_actions.specs.declared.Settings.{Settings}
 use Rattle.fop_events.specs.declared.Lower.{Lower}
 use Rattle.fop_events.specs.declared.Lower.the-variants as lower
@@ -40,7 +40,7 @@ doneCall step state answer = record {
 }
 
 -- octets that are no state are 12; an answer's buffer that is too short is 11; then the event
-abbrev pub calledBy : (State → Step) → List ℕ → List ℕ → List ℕ → List ℕ → Called
+abbrev pub calledBy : (SenderState → Step) → List ℕ → List ℕ → List ℕ → List ℕ → Called
 calledBy event state store output answer =
     must (eqb (senderIn state .refusal) 0) (refusedCall 12 state store output answer)
     (must (leb answerOctets (length answer)) (refusedCall 11 state store output answer)

@@ -1,7 +1,7 @@
 // FECF and transfer frames (clauses 6.2 and 6.4 to 6.8).
+use frame::FrameReading;
 use frame::Kind;
-use frame::Reading;
-use frame::writer::Written;
+use frame::writer::FrameWritten;
 ghost use mathlib.Core.Path.{_≡_};
 ghost use mathlib.Core.List.{[]};
 ghost use lib.ListN.{length};
@@ -20,19 +20,19 @@ pub extern "C" fn fecf(message: &[u8]) -> u16
 }
 
 // What a writer answered, by its number and the count of octets written.
-fn told(written: Written, count: &mut u64) -> u8
+fn told(written: FrameWritten, count: &mut u64) -> u8
     ensures number { λ r. ⌜ r ≡ numberOf (writtenAnswer written) ⌝ }
     ensures counted { λ r. ⌜ now (count .exit) ≡ countOf (writtenAnswer written) ⌝ }
 {
     *count = 0;
     match written {
-        Written::Done(n) => {
+        FrameWritten::Done(n) => {
             *count = n as u64;
             0
         }
-        Written::Length => 10,
-        Written::Setting => 12,
-        Written::Room => 11,
+        FrameWritten::Length => 10,
+        FrameWritten::Setting => 12,
+        FrameWritten::Room => 11,
     }
 }
 
@@ -146,7 +146,7 @@ pub extern "C" fn frame_read(
     *field = 0;
     let reading = frame::read(octets, spacecraft, channel);
     match reading {
-        Reading::Frame(fields) => {
+        FrameReading::Frame(fields) => {
             let found = fields.kind;
             *kind = kind_number(found);
             *value = kind_value(found);
@@ -154,6 +154,6 @@ pub extern "C" fn frame_read(
             *field = fields.field;
             0
         }
-        Reading::Refused(number) => number,
+        FrameReading::Refused(number) => number,
     }
 }

@@ -1,11 +1,11 @@
 // FARM-1, the receiver (clause 7). Its state lies in a lent buffer of 12 octets (crate farm, specs/Kept), which a caller may keep over a
 // reset. Octets that are no state are refused by 12 and stay as they are.
 use crate::words::told;
+use farm::AcceptedUnit;
 use farm::Event;
 use farm::Receiver;
 use farm::Released;
 use farm::Start;
-use farm::Unit;
 use farm::octets::STATE_OCTETS;
 ghost use mathlib.Core.Path.{_≡_};
 ghost use Prim.Native.Nat.{_≤_};
@@ -15,7 +15,7 @@ ghost use Rattle.memory.specs.Placed.{placed};
 ghost use Rattle.frame.specs.Frame.{totalOf, dataField};
 ghost use Rattle.farm.specs.Kept.{octetsOf};
 ghost use Rattle.farm.specs.Receiver.{partFor};
-ghost use Rattle.farm.specs.declared.Unit.the-variants.{None};
+ghost use Rattle.farm.specs.declared.AcceptedUnit.the-variants.{None};
 ghost use Rattle.farm.specs.Table.{eventNumber};
 ghost use Rattle.boundary.specs.Receivers.{unitNumber, unitPlace, newCall, frameCall, releaseCall, wordCall};
 
@@ -39,23 +39,23 @@ fn event_number(event: Event) -> u8
 }
 
 // The unit accepted as a number, and where it begins in the frame.
-fn unit_number(unit: Unit) -> u8
+fn unit_number(unit: AcceptedUnit) -> u8
     ensures { λ r. ⌜ r ≡ unitNumber unit ⌝ }
 {
     match unit {
-        Unit::None => 0,
-        Unit::AdUnit => 1,
-        Unit::BdUnit => 2,
+        AcceptedUnit::None => 0,
+        AcceptedUnit::AdUnit => 1,
+        AcceptedUnit::BdUnit => 2,
     }
 }
 
-fn unit_place(unit: Unit) -> u64
+fn unit_place(unit: AcceptedUnit) -> u64
     ensures { λ r. ⌜ r ≡ unitPlace unit ⌝ }
 {
     match unit {
-        Unit::None => 0,
-        Unit::AdUnit => 5,
-        Unit::BdUnit => 5,
+        AcceptedUnit::None => 0,
+        AcceptedUnit::AdUnit => 5,
+        AcceptedUnit::BdUnit => 5,
     }
 }
 
@@ -70,14 +70,14 @@ fn data_count(frame: &[u8]) -> u64
 }
 
 // The octets of the unit accepted, which is the frame's data field.
-fn unit_count(unit: Unit, frame: &[u8]) -> u64
+fn unit_count(unit: AcceptedUnit, frame: &[u8]) -> u64
     requires { ⌜ ((unit ≡ None → ⊥) → (8 ≤ totalOf (now frame)) × (totalOf (now frame) ≤ length (now frame))) ⌝ }
     ensures { λ r. ⌜ r ≡ length (partFor unit (dataField (now (frame .entry)) (totalOf (now (frame .entry))))) ⌝ }
 {
     match unit {
-        Unit::None => 0,
-        Unit::AdUnit => data_count(frame),
-        Unit::BdUnit => data_count(frame),
+        AcceptedUnit::None => 0,
+        AcceptedUnit::AdUnit => data_count(frame),
+        AcceptedUnit::BdUnit => data_count(frame),
     }
 }
 

@@ -1,8 +1,8 @@
 // Control words (clause 6.3). Flags cross as 1 or 0; any number but 0 given for a flag is taken as set.
 use clcw::Clcw;
-use clcw::Reading;
-use clcw::Received;
-use clcw::Written;
+use clcw::ReceivedWord;
+use clcw::WordReading;
+use clcw::WordWritten;
 ghost use mathlib.Core.Path.{_≡_};
 ghost use Prim.Native.Nat.{_≤_};
 ghost use lib.ListN.{length};
@@ -13,18 +13,18 @@ ghost use Rattle.clcw.specs.Answers.{writtenAnswer, readingOf, readingNumber};
 ghost use Rattle.boundary.specs.Numbers.{wordGiven, wordValid, wordField, statusTold, rfTold, flagsTold, counterTold, reportTold};
 
 // What the writer answered, by its number and the count of octets written.
-pub(crate) fn told(written: Written, count: &mut u64) -> u8
+pub(crate) fn told(written: WordWritten, count: &mut u64) -> u8
     ensures number { λ r. ⌜ r ≡ numberOf (writtenAnswer written) ⌝ }
     ensures counted { λ r. ⌜ now (count .exit) ≡ countOf (writtenAnswer written) ⌝ }
 {
     *count = 0;
     match written {
-        Written::Done(n) => {
+        WordWritten::Done(n) => {
             *count = n as u64;
             0
         }
-        Written::Setting => 12,
-        Written::Room => 11,
+        WordWritten::Setting => 12,
+        WordWritten::Room => 11,
     }
 }
 
@@ -64,7 +64,7 @@ fn flag(set: bool) -> u8
 
 // A word that was read, by its fields as numbers.
 fn put_word(
-    received: Received,
+    received: ReceivedWord,
     status: &mut u8,
     rf: &mut u8,
     flags: &mut u8,
@@ -112,13 +112,13 @@ pub extern "C" fn clcw_read(
     *report = 0;
     let reading = Clcw::read(octets, channel);
     match reading {
-        Reading::Word(received) => {
+        WordReading::Word(received) => {
             *valid = 1;
             put_word(received, status, rf, flags, counter, report);
             0
         }
-        Reading::Invalid => 0,
-        Reading::Address => 7,
-        Reading::Length => 10,
+        WordReading::Invalid => 0,
+        WordReading::Address => 7,
+        WordReading::Length => 10,
     }
 }

@@ -12,8 +12,8 @@ use Rattle.base.specs.Choice.{must}
 use Rattle.base.specs.Fields.{fieldAt, octetsOf}
 use Rattle.base.specs.Outcome.{Outcome.done, Outcome.refused}
 use Rattle.clcw.specs.declared.Clcw.{Clcw}
-use Rattle.clcw.specs.declared.Reading.{Reading}
-use Rattle.clcw.specs.declared.Reading.the-variants.{Word, Invalid, Address, Length as NotFour}
+use Rattle.clcw.specs.declared.WordReading.{WordReading}
+use Rattle.clcw.specs.declared.WordReading.the-variants.{Word, Invalid, Address, Length as NotFour}
 use Rattle.clcw.specs.Clcw.{virtualChannel, clcwOf, writing, isValid}
 use Rattle.clcw.specs.Answers.{receivedOf, readingOf, refusalOf, readingNumber}
 
@@ -53,7 +53,7 @@ module _ (octets : List ℕ) (channel : ℕ) where
     reading-word v h = simp (eq-eqb (length octets) 4 four, v, eq-eqb (fieldAt virtualChannel octets) channel h)
 
 -- the number of what reading answers
-pub reading-number : (octets : List ℕ) (channel : ℕ) (reading : Reading) → reading ≡ readingOf octets channel → readingNumber reading ≡ refusalOf octets channel
+pub reading-number : (octets : List ℕ) (channel : ℕ) (reading : WordReading) → reading ≡ readingOf octets channel → readingNumber reading ≡ refusalOf octets channel
 unfolding readingOf refusalOf
 reading-number octets channel reading e =
     ap readingNumber e ∙ by-checks (eqb (length octets) 4) (isValid octets) (eqb (fieldAt virtualChannel octets) channel)

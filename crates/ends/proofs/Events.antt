@@ -20,8 +20,8 @@ use Rattle.fop_actions.proofs.SentQueue.{without-none}
 use Rattle.clcw.specs.Clcw.{virtualChannel, isValid, wordOf}
 use Rattle.clcw.specs.Answers.{readingOf, receivedOf}
 use Rattle.clcw.specs.declared.Clcw.{Clcw}
-use Rattle.clcw.specs.declared.Reading.{Reading}
-use Rattle.clcw.specs.declared.Reading.the-variants as reading
+use Rattle.clcw.specs.declared.WordReading.{WordReading}
+use Rattle.clcw.specs.declared.WordReading.the-variants as reading
 use Rattle.clcw.proofs.Word.{word-is}
 use Rattle.fop.specs.Units.{Own, Word, Heard, invalid, heard, readWord, areOctets, legal}
 use Rattle.fop.specs.Table.{FopEvent, E15, E18, E19, E20, E21, E22, E39, E103}
@@ -31,7 +31,7 @@ use Rattle.fop.specs.Machine.{fopDo}
 use Rattle.fop.specs.Events.{when, first, SenderEvent, requestAd, requestBd, tick, lower, directive, wordArrives, isEmpty, seen, wordLines, wordEvent, expiryLines, validDirective, directiveLines, directiveEvent, work, fopAd, fopBd, fopTick, fopExpiry, fopLower, fopDirective, fopHeard, fopWord}
 use Rattle.fop.specs.Events as fop
 use Rattle.fop.specs.Answers.{judged, otherRefusal, refused}
-use Rattle.fop_actions.specs.declared.Sender.{Sender}
+use Rattle.fop_actions.specs.declared.SenderState.{SenderState}
 use Rattle.fop_actions.specs.declared.Work.{Work}
 use Rattle.fop_actions.specs.Start.{begun, noneTold, senderOf}
 use Rattle.fop_actions.specs.View.{unitAt, fopOf, without}
@@ -65,16 +65,16 @@ plain-unbypassed : (e : FopEvent) → plain e ≡ true → eqb (eventNumber e) 2
 plain-unbypassed e p = not-true _ (both-right (not (isOffering (brings e))) _ p)
 
 -- the store that is lent is long enough
-stored : (own : Own) (s : Sender) (store : List ℕ) → Good own s store → leb smallestStore (length store) ≡ true
+stored : (own : Own) (s : SenderState) (store : List ℕ) → Good own s store → leb smallestStore (length store) ≡ true
 unfolding begun
 stored own s store g = le-leb smallestStore (length store) (g .formed .room)
 
 -- octets as they are read at our channel
-yes-received : (own : Own) (octets : List ℕ) → areOctets octets ≡ true → (r : Reading) → readingOf octets (own .channel) ≡ r → readWord own octets ≡ heard r
+yes-received : (own : Own) (octets : List ℕ) → areOctets octets ≡ true → (r : WordReading) → readingOf octets (own .channel) ≡ r → readWord own octets ≡ heard r
 unfolding readWord
 yes-received own octets t r q = ap (λ (b : Bool). heard (pick b (readingOf octets (own .channel)) reading.Length)) t ∙ ap heard q
 
-module _ (own : Own) (s : Sender) (store : List ℕ) (lent : ℕ) (good : Good own s store) where
+module _ (own : Own) (s : SenderState) (store : List ℕ) (lent : ℕ) (good : Good own s store) where
   abbrev f : Fop
   f = fopOf (begun s) store
 
@@ -82,7 +82,7 @@ module _ (own : Own) (s : Sender) (store : List ℕ) (lent : ℕ) (good : Good o
   output = lentOutput lent
 
   -- an event of the table that is served, of the state g
-  by-row : (e : FopEvent) (n : ℕ) (g : Sender) → Good own g store → Meets e [] n g → g .queues ≡ s .queues → plain e ≡ true
+  by-row : (e : FopEvent) (n : ℕ) (g : SenderState) → Good own g store → Meets e [] n g → g .queues ≡ s .queues → plain e ≡ true
       → Agrees own lent f (fopDo e [] n (fopOf (begun g) store)) (served (eventNumber e) n s g store output)
   unfolding served
   by-row e n g by-good meets q p =
@@ -198,7 +198,7 @@ module _ (own : Own) (s : Sender) (store : List ℕ) (lent : ℕ) (good : Good o
         by false = passes
 
   -- Control words.
-  abbrev reportIn : Reading → ℕ
+  abbrev reportIn : WordReading → ℕ
   reportIn (reading.Word r) = r .word .report
   reportIn reading.Invalid = 0
   reportIn reading.Address = 0
@@ -224,7 +224,7 @@ module _ (own : Own) (s : Sender) (store : List ℕ) (lent : ℕ) (good : Good o
   word-plain w = is-true _ (first-all plain (wordLines (seen w (variablesOf s))) E103 tt)
 
   -- by what the octets are read as
-  received-does : (octets : List ℕ) → areOctets octets ≡ true → (r : Reading) → readingOf octets (own .channel) ≡ r → reportIn r < 256
+  received-does : (octets : List ℕ) → areOctets octets ≡ true → (r : WordReading) → readingOf octets (own .channel) ≡ r → reportIn r < 256
       → Does own lent (wordArrives octets) f (wordBy r s store output)
   unfolding wordNumber work fopHeard fopWord judged readWord begun
   received-does octets t (reading.Word r) q o =

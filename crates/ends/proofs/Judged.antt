@@ -11,7 +11,7 @@ use Rattle.fop.specs.Variables as machine
 use Rattle.fop.specs.Variables.{Fop}
 use Rattle.fop.specs.Events.{SenderEvent, work}
 use Rattle.fop.specs.Answers.{Answer, octetsDown, room, needed, judged, senderRefusal, senderAnswer, senderNext, answered, refused}
-use Rattle.fop_actions.specs.declared.Sender.{Sender}
+use Rattle.fop_actions.specs.declared.SenderState.{SenderState}
 use Rattle.fop_actions.specs.Start.{begun}
 use Rattle.fop_actions.specs.View.{fopOf}
 use Rattle.fop_view.specs.State.{Good}
@@ -70,7 +70,7 @@ module _ (own : Own) (lent : ℕ) (e : SenderEvent) (f : Fop) where
       }
 
 -- a refused step keeps sender and store
-module _ (own : Own) (s : Sender) (store output : List ℕ) (number : ℕ) where
+module _ (own : Own) (s : SenderState) (store output : List ℕ) (number : ℕ) where
   pub refused-keeps : fopOf (begun (refusedStep number s store output .answer .next .fop)) (refusedStep number s store output .store) ≡ fopOf (begun s) store
   unfolding sender.refusing
   refused-keeps = refl

@@ -15,7 +15,7 @@ use Rattle.base.proofs.Tests.{both-left as left, both-right as right}
 use Rattle.fop.specs.Limits.{largestK, largestTransmissionLimit}
 use Rattle.fop.specs.Units.{Own}
 use Rattle.fop_actions.specs.declared.Queues.{Queues}
-use Rattle.fop_actions.specs.declared.Sender.{Sender}
+use Rattle.fop_actions.specs.declared.SenderState.{SenderState}
 use Rattle.fop_actions.specs.declared.Settings.{Settings}
 use Rattle.fop_actions.specs.declared.State.{State}
 use Rattle.fop_actions.specs.declared.State.the-variants as state
@@ -97,7 +97,7 @@ module _ (v : Variables) (q : Queues) where
   timed t = eqb-true (v .timer) 0 (right (not (isFrame (q .control))) _ (right (isEmpty q) _ t))
 
 -- A well-formed state passes the test.
-pub good-passes : (own : Own) (s : Sender) (store : List ℕ) → Good own s store → wellFormed s ≡ true
+pub good-passes : (own : Own) (s : SenderState) (store : List ℕ) → Good own s store → wellFormed s ≡ true
 unfolding wellFormed begun
 good-passes own s store g =
     joined _ _
@@ -119,7 +119,7 @@ good-passes own s store g =
     (lengths-test (held (s .queues .sent) (s .queues .waiting)) (s .queues .lengths) (g .formed .units) (λ i h k. g .filled i h)))))
 
 -- what the types of the struct's fields see to
-pub record Sized (s : Sender) : Type 0 where
+pub record Sized (s : SenderState) : Type 0 where
   pub vs : s .variables .vs < 256
   pub nnr : s .variables .nnr < 256
   pub limit : s .settings .«transmission_limit» ≤ largestTransmissionLimit
@@ -127,7 +127,7 @@ pub record Sized (s : Sender) : Type 0 where
   pub lengths : length (s .queues .lengths) ≡ places
 
 -- A state that passes is well-formed, with a store that is long enough.
-pub passes-good : (s : Sender) (store : List ℕ) → Sized s → smallestStore ≤ length store → wellFormed s ≡ true
+pub passes-good : (s : SenderState) (store : List ℕ) → Sized s → smallestStore ≤ length store → wellFormed s ≡ true
     → Good (record { spacecraft = s .settings .spacecraft; channel = s .settings .channel }) s store
 unfolding wellFormed begun
 passes-good s store z long t =

@@ -15,7 +15,7 @@ use Rattle.fop.specs.Machine.{fopDo}
 use Rattle.fop_actions.specs.declared.Handed.{Handed}
 use Rattle.fop_actions.specs.declared.Handed.the-variants as handed
 use Rattle.fop_actions.specs.declared.Queues.{Queues}
-use Rattle.fop_actions.specs.declared.Sender.{Sender}
+use Rattle.fop_actions.specs.declared.SenderState.{SenderState}
 use Rattle.fop_actions.specs.declared.Work.{Work}
 use Rattle.fop_actions.specs.Limits.{places}
 use Rattle.fop_actions.specs.Start.{begun, senderOf}
@@ -34,12 +34,12 @@ use Rattle.ends.proofs.Bypass.{bypasses, no-bypass}
 use Rattle.ends.proofs.Shown.{held-fits, shown}
 
 -- what an event that offers no unit does to the store and the lengths
-others : (b : Brings) (o : List ℕ) (s : Sender) (w : Work) (store : List ℕ) → isOffering b ≡ false
+others : (b : Brings) (o : List ℕ) (s : SenderState) (w : Work) (store : List ℕ) → isOffering b ≡ false
     → (storeBy b o s w store ≡ without (w .told .confirmed .count) store) × (lengthsBy b o s w ≡ slid (w .told .confirmed .count) (s .queues .lengths))
 others b o s w store t = (no _ _ _ t, no _ _ _ t)
 
 -- g is the state whose row it is: s, or s with its timer lowered
-module _ (own : Own) (e : FopEvent) (n : ℕ) (s g : Sender) (store : List ℕ) (lent : ℕ) (good : Good own s store) (by-good : Good own g store)
+module _ (own : Own) (e : FopEvent) (n : ℕ) (s g : SenderState) (store : List ℕ) (lent : ℕ) (good : Good own s store) (by-good : Good own g store)
     (meets : Meets e [] n g) (same-queues : g .queues ≡ s .queues) (not-offering : isOffering (brings e) ≡ false)
     (unbypassed : eqb (eventNumber e) 21 ≡ false) where
   abbrev w : Work

@@ -18,7 +18,7 @@ use Rattle.fop.specs.Events as events
 use Rattle.fop.specs.Events.{SenderEvent, directive}
 use Rattle.fop.specs.Answers as answers
 use Rattle.fop.specs.Answers.{senderNext}
-use Rattle.fop_actions.specs.declared.Sender.{Sender}
+use Rattle.fop_actions.specs.declared.SenderState.{SenderState}
 use Rattle.fop_actions.specs.Start.{startOf, begun}
 use Rattle.fop_actions.specs.View.{fopOf}
 use Rattle.fop_view.specs.State.{Good}
@@ -75,7 +75,7 @@ begins-after set es x g e = let r = after-all (set .own) es x g in record { good
 
 -- A fresh sender: the settings of a session are within the limits of a start.
 module _ (set : Settings) (within : Within set) (v : ℕ) (octet : v ≤ largestNumber) (store : List ℕ) (long : smallestStore ≤ length store) where
-  abbrev first : Sender
+  abbrev first : SenderState
   first = startOf (senderSettings set) v v
 
   limits-hold : settingsHold (senderSettings set) ≡ true
@@ -98,11 +98,11 @@ module _ (set : Settings) (within : Within set) (v : ℕ) (octet : v ≤ largest
 
   pub fresh-good : GoodHeld (set .own) (freshHeld set v store)
   unfolding freshHeld
-  fresh-good = subst (λ (s : Sender). Good (set .own) s store) (sym starts) first-good
+  fresh-good = subst (λ (s : SenderState). Good (set .own) s store) (sym starts) first-good
 
   pub fresh-reads : reads (freshHeld set v store) ≡ fopOf (begun first) store
   unfolding freshHeld
-  fresh-reads = ap (λ (s : Sender). fopOf (begun s) store) starts
+  fresh-reads = ap (λ (s : SenderState). fopOf (begun s) store) starts
 
 -- told to initiate without check, with V(S) = NN(R) = V(R), a fresh sender begins a session at Transmission_Count 1
 module _ (set : Settings) (within : Within set) (one : set .count ≡ 1) (store : List ℕ) (long : smallestStore ≤ length store) where

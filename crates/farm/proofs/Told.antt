@@ -7,15 +7,15 @@ use Rattle.frame.specs.Answers.{readingOf, readingNumber, partOf}
 use Rattle.frame.specs.declared.Kind.{Kind}
 use Rattle.frame.specs.declared.Kind.the-variants.{Ad}
 use Rattle.frame.specs.declared.Fields.{Fields}
-use Rattle.frame.specs.declared.Reading.{Reading}
-use Rattle.frame.specs.declared.Reading.the-variants.{Frame, Refused}
+use Rattle.frame.specs.declared.FrameReading.{FrameReading}
+use Rattle.frame.specs.declared.FrameReading.the-variants.{Frame, Refused}
 use Rattle.farm.specs.declared.State.{State}
 use Rattle.farm.specs.declared.State.the-variants.{Open, Wait, Lockout}
 use Rattle.farm.specs.declared.Event.{Event}
 use Rattle.farm.specs.declared.Event.the-variants.{E9}
 use Rattle.farm.specs.declared.Variables.{Variables}
 use Rattle.farm.specs.declared.Receiver.{Receiver}
-use Rattle.farm.specs.declared.Unit.{Unit as AcceptedUnit}
+use Rattle.farm.specs.declared.AcceptedUnit.{AcceptedUnit}
 use Rattle.farm.specs.declared.Received.{Received}
 use Rattle.farm.specs.Table.{stepOf}
 use Rattle.farm.specs.Window.{adEvent}
@@ -50,12 +50,12 @@ unfolding arrived eventOf
 arrived-ad r kind number d e x p q s h = arrived-told r kind (Ad number) x p (h ∙ rw (s, q))
 
 -- lent octets, by their reading
-pub receive-frame : (r : Receiver) (octets : List ℕ) (reading : Reading) (fields : Fields) (x : Received)
+pub receive-frame : (r : Receiver) (octets : List ℕ) (reading : FrameReading) (fields : Fields) (x : Received)
     → reading ≡ readingOf octets (r .spacecraft) (r .channel) → reading ≡ Frame fields → x ≡ arrived r (fields .kind) → x ≡ receiveOf r octets
 unfolding receiveOf byReading
 receive-frame r octets reading fields x p q h = h ∙ ap (byReading r) (sym q ∙ p)
 
-pub receive-refused : (r : Receiver) (octets : List ℕ) (reading : Reading) (k number : ℕ) (x : Received)
+pub receive-refused : (r : Receiver) (octets : List ℕ) (reading : FrameReading) (k number : ℕ) (x : Received)
     → reading ≡ readingOf octets (r .spacecraft) (r .channel) → reading ≡ Refused k → number ≡ readingNumber reading
     → x ≡ answered number E9 0 r → x ≡ receiveOf r octets
 unfolding receiveOf byReading

@@ -10,7 +10,7 @@ use Rattle.farm.specs.declared.State.{State}
 use Rattle.farm.specs.declared.State.the-variants.{Open, Wait, Lockout}
 use Rattle.farm.specs.declared.Event.{Event}
 use Rattle.farm.specs.declared.Event.the-variants.{E1, E2, E3, E4, E5, E6, E7, E8, E9, E10, E11}
-use Rattle.farm.specs.declared.Unit.the-variants.{None, AdUnit, BdUnit}
+use Rattle.farm.specs.declared.AcceptedUnit.the-variants.{None, AdUnit, BdUnit}
 use Rattle.farm.specs.Table.{eventNumber, table, accepts}
 use Rattle.farm.specs.Receiver.{unitOf}
 use Rattle.farm.proofs.Cells.{by-state, by-event, differ}

@@ -9,8 +9,8 @@ use Rattle.base.specs.Modulo.{offset}
 use Rattle.frame.specs.Answers.{readingOf, partOf}
 use Rattle.frame.specs.declared.Kind.{Kind}
 use Rattle.frame.specs.declared.Kind.the-variants.{Ad, Bd, Unlock, SetVr}
-use Rattle.frame.specs.declared.Reading.{Reading}
-use Rattle.frame.specs.declared.Reading.the-variants.{Frame, Refused as RefusedFrame}
+use Rattle.frame.specs.declared.FrameReading.{FrameReading}
+use Rattle.frame.specs.declared.FrameReading.the-variants.{Frame, Refused as RefusedFrame}
 use Rattle.clcw.specs.declared.Clcw.{Clcw}
 use Rattle.farm.specs.Table.{stepOf, accepts}
 use Rattle.farm.specs.Window.{adEvent}
@@ -20,8 +20,8 @@ use Rattle.farm.specs.declared.Event.{Event}
 use Rattle.farm.specs.declared.Event.the-variants.{E1, E2, E3, E4, E5, E6, E7, E8, E9, E10, E11}
 use Rattle.farm.specs.declared.Variables.{Variables}
 use Rattle.farm.specs.declared.Receiver.{Receiver}
-use Rattle.farm.specs.declared.Unit.{Unit as AcceptedUnit}
-use Rattle.farm.specs.declared.Unit.the-variants.{None, AdUnit, BdUnit}
+use Rattle.farm.specs.declared.AcceptedUnit.{AcceptedUnit}
+use Rattle.farm.specs.declared.AcceptedUnit.the-variants.{None, AdUnit, BdUnit}
 use Rattle.farm.specs.declared.Received.{Received}
 use Rattle.farm.specs.declared.Start.{Start}
 use Rattle.farm.specs.declared.Start.the-variants.{Ready, Setting}
@@ -126,7 +126,7 @@ unfoldable pub arrived : Receiver → Kind → Received
 arrived r kind = answered 0 (eventOf r kind) (starOf kind) r
 
 -- document 01: "A frame that is refused is event E9 to the receiver"
-unfoldable pub byReading : Receiver → Reading → Received
+unfoldable pub byReading : Receiver → FrameReading → Received
 byReading r (Frame fields) = arrived r (fields .kind)
 byReading r (RefusedFrame number) = answered number E9 0 r
 

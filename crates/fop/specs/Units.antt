@@ -10,8 +10,8 @@ use Rattle.frame.specs.Frame.{frameOf}
 use Rattle.frame.specs.declared.Kind.the-variants as kind
 use Rattle.clcw.specs.Clcw.{clcwOf}
 use Rattle.clcw.specs.Answers.{readingOf}
-use Rattle.clcw.specs.declared.Reading.{Reading}
-use Rattle.clcw.specs.declared.Reading.the-variants as reading
+use Rattle.clcw.specs.declared.WordReading.{WordReading}
+use Rattle.clcw.specs.declared.WordReading.the-variants as reading
 
 -- a unit (FDU): "A unit is its N(S) and octets" (document 01, "The session")
 pub record Fdu : Type 0 where
@@ -69,7 +69,7 @@ wordOctets own w =
     clcwOf (record { channel = own .channel; lockout = w .lockout; wait = w .wait; retransmit = w .retransmit; counter = w .counter; report = w .nr })
 
 -- a reading of crate clcw; status, no RF and no bit lock are "read and not judged"
-abbrev pub heard : Reading → Heard
+abbrev pub heard : WordReading → Heard
 heard (reading.Word r) =
     valid (record {
       lockout = r .word .lockout;

@@ -6,7 +6,7 @@ use Prim.Native.Nat.{ℕ}
 use native.Mathlib.Omega.{arith}
 use Rattle.fop.specs.Table.{FopEvent}
 use Rattle.fop.specs.Variables as machine
-use Rattle.fop_actions.specs.declared.Sender.{Sender}
+use Rattle.fop_actions.specs.declared.SenderState.{SenderState}
 use Rattle.fop_actions.specs.declared.Settings.{Settings}
 use Rattle.fop_actions.specs.Limits.{largestResponses}
 use Rattle.fop_actions.specs.Start.{startOf, noneTold, begun}
@@ -19,11 +19,11 @@ pub started : (s : Settings) (vs nnr : ℕ) (store : List ℕ)
 unfolding startOf begun
 started s vs nnr store = refl
 
-pub begins : (e : Option FopEvent) (o : List ℕ) (n : ℕ) (s : Sender) (store : List ℕ)
+pub begins : (e : Option FopEvent) (o : List ℕ) (n : ℕ) (s : SenderState) (store : List ℕ)
     → view e o n [] [] (begun s) store ≡ machine.begin e o n (fopOf (begun s) store)
 unfolding begun noneTold
 begins e o n s store = refl
 
-pub room-begun : (s : Sender) → Room largestResponses (begun s .told .responses)
+pub room-begun : (s : SenderState) → Room largestResponses (begun s .told .responses)
 unfolding begun noneTold
 room-begun s = record { few = omega arith; all-numbers = refl }

@@ -4,7 +4,7 @@ use mathlib.Core.Bool.{Bool, true, false}
 use Prim.Native.Nat.{ℕ, _≤_, _<_}
 use borrow.Author.Tests.{le-leb, lt-leb}
 use Rattle.fop_actions.specs.declared.Settings.{Settings}
-use Rattle.fop_actions.specs.declared.Sender.{Sender as State}
+use Rattle.fop_actions.specs.declared.SenderState.{SenderState}
 use Rattle.fop_actions.specs.Start.{startOf}
 use Rattle.sender.specs.declared.Start.{Start}
 use Rattle.sender.specs.Limits.{smallestStore}
@@ -20,9 +20,9 @@ module _ (g : Settings) (vs nnr lent : ℕ) (within : Bool) (of-settings : withi
   unfolding startingOf
   start-store r f h e = e ∙ sym (holds _ _ _ (sym of-settings ∙ f) ∙ fails _ _ _ (lt-leb smallestStore lent h))
 
-  pub start-done : (s : State) → within ≡ true → smallestStore ≤ lent → s ≡ startOf g vs nnr
+  pub start-done : (s : SenderState) → within ≡ true → smallestStore ≤ lent → s ≡ startOf g vs nnr
       → record { refusal = 0; sender = record { fop = s } } ≡ startingOf g vs nnr lent
   unfolding startingOf
   start-done s f h e =
-      ap (λ (x : State). record { refusal = 0; sender = record { fop = x } }) e
+      ap (λ (x : SenderState). record { refusal = 0; sender = record { fop = x } }) e
       ∙ sym (holds _ _ _ (sym of-settings ∙ f) ∙ holds _ _ _ (le-leb smallestStore lent h))

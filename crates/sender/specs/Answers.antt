@@ -13,7 +13,7 @@ use Rattle.fop_actions.specs.declared.Handed.the-variants as handed
 use Rattle.fop_actions.specs.declared.Response.the-variants.{RejectDirective}
 use Rattle.fop_actions.specs.declared.Responses.{Responses}
 use Rattle.fop_actions.specs.declared.Run.{Run}
-use Rattle.fop_actions.specs.declared.Sender.{Sender as State}
+use Rattle.fop_actions.specs.declared.SenderState.{SenderState}
 use Rattle.fop_actions.specs.declared.Work.{Work}
 use Rattle.fop_actions.specs.Actions.{responseNumber, responsesWith}
 use Rattle.fop_actions.specs.Limits.{largestResponses}
@@ -64,7 +64,7 @@ answered event down w = record {
 }
 
 -- a refusal by its number: nothing changes
-unfoldable pub refusing : ℕ → State → Answer
+unfoldable pub refusing : ℕ → SenderState → Answer
 refusing number s = record {
   refusal = number;
   event = refusedEvent number;
@@ -87,11 +87,11 @@ pub record Step : Type 0 where
   pub output : List ℕ
 
 -- a refused event: "A refusal changes no octet of any lent buffer."
-abbrev pub refusedStep : ℕ → State → List ℕ → List ℕ → Step
+abbrev pub refusedStep : ℕ → SenderState → List ℕ → List ℕ → Step
 refusedStep number s store output = record { answer = refusing number s; store = store; output = output }
 
 -- the answer by what writing the frame handed down came to
-abbrev pub concluded : ℕ → State → Work → outcome.Answer (Unit {0}) → Answer
+abbrev pub concluded : ℕ → SenderState → Work → outcome.Answer (Unit {0}) → Answer
 concluded event s w (done count more) = answered event count w
 concluded event s w (refused number place) = refusing number s
 
@@ -101,6 +101,6 @@ stored (done count more) new old = new
 stored (refused number place) new old = old
 
 -- an event judged, by what writing the frame handed down comes to
-abbrev pub stepBy : ℕ → State → Work → Outcome (Unit {0}) → List ℕ → List ℕ → List ℕ → Step
+abbrev pub stepBy : ℕ → SenderState → Work → Outcome (Unit {0}) → List ℕ → List ℕ → List ℕ → Step
 stepBy event s w writing new old output =
     record { answer = concluded event s w (answer writing); store = stored (answer writing) new old; output = after writing output }

@@ -9,7 +9,7 @@ use fop_actions::Responses;
 use fop_actions::Run;
 use fop_actions::Work;
 use fop_actions::start::sender_of;
-use frame::writer::Written;
+use frame::writer::FrameWritten;
 ghost use mathlib.Core.Path.{_≡_};
 ghost use Rattle.frame.specs.Answers.{writtenAnswer};
 ghost use Rattle.sender.specs.Answers.{kindHanded, answered, refusing, concluded, refusedResponses, refusedEvent};
@@ -90,7 +90,7 @@ fn refused_event(number: u8) -> u8
 }
 
 // A refusal: nothing changes.
-pub fn refused(sender: fop_actions::Sender, number: u8) -> Answer
+pub fn refused(sender: fop_actions::SenderState, number: u8) -> Answer
     ensures { λ r. ⌜ r ≡ refusing number sender ⌝ }
 {
     let state = sender.state;
@@ -117,13 +117,18 @@ pub fn refused(sender: fop_actions::Sender, number: u8) -> Answer
 }
 
 // The answer by what writing the frame handed down came to.
-pub fn conclude(sender: fop_actions::Sender, event: u8, work: Work, written: Written) -> Answer
+pub fn conclude(
+    sender: fop_actions::SenderState,
+    event: u8,
+    work: Work,
+    written: FrameWritten,
+) -> Answer
     ensures { λ r. ⌜ r ≡ concluded event sender work (writtenAnswer written) ⌝ }
 {
     match written {
-        Written::Done(count) => answered(event, count, work),
-        Written::Length => refused(sender, 10),
-        Written::Setting => refused(sender, 12),
-        Written::Room => refused(sender, 11),
+        FrameWritten::Done(count) => answered(event, count, work),
+        FrameWritten::Length => refused(sender, 10),
+        FrameWritten::Setting => refused(sender, 12),
+        FrameWritten::Room => refused(sender, 11),
     }
 }

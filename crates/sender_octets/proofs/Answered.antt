@@ -20,7 +20,7 @@ use Rattle.fop_actions.specs.declared.Alert.{Alert}
 use Rattle.fop_actions.specs.declared.Alert.the-variants as alert
 use Rattle.fop_actions.specs.declared.Handed.{Handed}
 use Rattle.fop_actions.specs.declared.Handed.the-variants as handed
-use Rattle.fop_actions.specs.declared.Sender.{Sender as State}
+use Rattle.fop_actions.specs.declared.SenderState.{SenderState}
 use Rattle.fop_actions.specs.declared.Settings.{Settings}
 use Rattle.fop_actions.specs.declared.Work.{Work}
 use Rattle.sender.specs.Answers.{answered, refusing, concluded}
@@ -110,7 +110,7 @@ handed-fits g handed.Unlock u lent = written-fits 1 1 0 (g .spacecraft) (g .chan
 handed-fits g (handed.SetVr n) u lent = written-fits 1 1 0 (g .spacecraft) (g .channel) (setVrCommand n) lent
 
 -- an answer tells the count of octets written, none where it refuses
-module _ (event : ℕ) (s : State) (w : Work) where
+module _ (event : ℕ) (s : SenderState) (w : Work) where
   down-written : (x : outcome.Answer (Unit {0})) → concluded event s w x .down ≡ countOf x
   unfolding answered refusing
   down-written (outcome.Answer.done count more) = refl

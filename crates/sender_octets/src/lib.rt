@@ -28,7 +28,7 @@ const NUMBERS: usize = 22;
 pub const ANSWER_OCTETS: usize = 18;
 
 // A state as octets.
-pub fn octets_of(state: fop_actions::Sender) -> [u8; STATE_OCTETS]
+pub fn octets_of(state: fop_actions::SenderState) -> [u8; STATE_OCTETS]
     ensures { λ r. ⌜ r ≡ octetsOf state ⌝ }
 {
     let numbers = numbers_of(state);

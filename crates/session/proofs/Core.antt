@@ -19,8 +19,8 @@ use Rattle.farm.specs.Receiver.{unitOf}
 use Rattle.farm.specs.declared.Event.{Event as FarmEvent}
 use Rattle.farm.specs.declared.Event.the-variants as farm
 use Rattle.farm.specs.declared.Variables.{Variables}
-use Rattle.farm.specs.declared.Unit.{Unit as AcceptedUnit}
-use Rattle.farm.specs.declared.Unit.the-variants.{None, AdUnit, BdUnit}
+use Rattle.farm.specs.declared.AcceptedUnit.{AcceptedUnit}
+use Rattle.farm.specs.declared.AcceptedUnit.the-variants.{None, AdUnit, BdUnit}
 use Rattle.session.specs.Receiver.{wordLength}
 use Rattle.session.specs.Ends.{Settings}
 use Rattle.session.specs.Session.{Event, adRequest, bdRequest, ticks, lowerSays, terminate, wordIn, wordLost, wordMade, frameIn, frameLost, release, addSent, addBd, places, rest}

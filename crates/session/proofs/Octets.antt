@@ -20,12 +20,12 @@ use Rattle.frame.specs.Frame.{frameOf, dataOf}
 use Rattle.frame.specs.Answers.{readingOf, partOf}
 use Rattle.frame.specs.declared.Kind.{Kind}
 use Rattle.frame.specs.declared.Kind.the-variants as kind
-use Rattle.frame.specs.declared.Reading.the-variants as reading
+use Rattle.frame.specs.declared.FrameReading.the-variants as reading
 use Rattle.frame.proofs.Back as fback
 use Rattle.clcw.specs.Clcw.{clcwOf, writing}
 use Rattle.clcw.specs.Answers as wordReading
 use Rattle.clcw.specs.declared.Clcw.{Clcw}
-use Rattle.clcw.specs.declared.Reading.the-variants as clcwReading
+use Rattle.clcw.specs.declared.WordReading.the-variants as clcwReading
 use Rattle.clcw.proofs.Word as word
 use Rattle.clcw.proofs.Back as cback
 use Rattle.session.specs.Frames.{read}

@@ -8,8 +8,8 @@ use Rattle.farm.specs.Receiver.{receiveOf, unitPart, releaseOf, wordOf}
 use Rattle.farm.specs.declared.Event.{Event as FarmEvent}
 use Rattle.farm.specs.declared.Receiver.{Receiver}
 use Rattle.farm.specs.declared.Received.{Received}
-use Rattle.farm.specs.declared.Unit.{Unit as AcceptedUnit}
-use Rattle.farm.specs.declared.Unit.the-variants.{None, AdUnit, BdUnit}
+use Rattle.farm.specs.declared.AcceptedUnit.{AcceptedUnit}
+use Rattle.farm.specs.declared.AcceptedUnit.the-variants.{None, AdUnit, BdUnit}
 use Rattle.farm.specs.declared.Released.{Released}
 use Rattle.farm.specs.declared.Released.the-variants.{Done, NoneTaken}
 

@@ -7,8 +7,8 @@ use mathlib.Core.Bool.{true, false}
 use mathlib.Core.List.{List}
 use Prim.Native.Nat.{ℕ}
 use denote.Ref.{now}
-use Rattle.clcw.specs.declared.Reading.{Reading}
-use Rattle.clcw.specs.declared.Reading.the-variants.{Word}
+use Rattle.clcw.specs.declared.WordReading.{WordReading}
+use Rattle.clcw.specs.declared.WordReading.the-variants.{Word}
 use Rattle.clcw.specs.Answers.{readingOf, refusalOf, readingNumber}
 use Rattle.clcw.specs.Clcw.{isValid}
 use Rattle.clcw.proofs.Word.{channel-is}
@@ -17,7 +17,7 @@ use Rattle.clcw.proofs.Clcw.read.Statement.{statement}
 use Rattle.clcw.proofs.Clcw.read.Tie as tie
 
 -- the value and, of it, the number
-both-told : (octets : List ℕ) (channel : ℕ) {reading : Reading} → reading ≡ readingOf octets channel
+both-told : (octets : List ℕ) (channel : ℕ) {reading : WordReading} → reading ≡ readingOf octets channel
     → (reading ≡ readingOf octets channel) × (readingNumber reading ≡ refusalOf octets channel)
 both-told octets channel e = (e, reading-number octets channel _ e)
 
