@@ -23,12 +23,12 @@ use Rattle.clcw.specs.declared.Clcw.{Clcw}
 use Rattle.clcw.specs.declared.WordReading.{WordReading}
 use Rattle.clcw.specs.declared.WordReading.the-variants as reading
 use Rattle.clcw.proofs.Word.{word-is}
-use Rattle.fop.specs.Units.{Own, Word, Heard, invalid, heard, readWord, areOctets, legal}
+use Rattle.fop.specs.Units.{Own, Word, WordReceived, invalid, wordReceived, readWord, areOctets, legal}
 use Rattle.fop.specs.Table.{FopEvent, E15, E18, E19, E20, E21, E22, E39, E103}
 use Rattle.fop.specs.Variables as machine
 use Rattle.fop.specs.Variables.{Fop}
 use Rattle.fop.specs.Machine.{fopDo}
-use Rattle.fop.specs.Events.{when, first, SenderEvent, requestAd, requestBd, tick, lower, directive, wordArrives, isEmpty, seen, wordLines, wordEvent, expiryLines, validDirective, directiveLines, directiveEvent, work, fopAd, fopBd, fopTick, fopExpiry, fopLower, fopDirective, fopHeard, fopWord}
+use Rattle.fop.specs.Events.{when, first, SenderEvent, requestAd, requestBd, tick, lower, directive, wordArrives, isEmpty, seen, wordLines, wordEvent, expiryLines, validDirective, directiveLines, directiveEvent, work, fopAd, fopBd, fopTick, fopExpiry, fopLower, fopDirective, fopReceived, fopWord}
 use Rattle.fop.specs.Events as fop
 use Rattle.fop.specs.Answers.{judged, otherRefusal, refused}
 use Rattle.fop_actions.specs.declared.SenderState.{SenderState}
@@ -70,9 +70,9 @@ unfolding begun
 stored own s store g = le-leb smallestStore (length store) (g .formed .room)
 
 -- octets as they are read at our channel
-yes-received : (own : Own) (octets : List ℕ) → areOctets octets ≡ true → (r : WordReading) → readingOf octets (own .channel) ≡ r → readWord own octets ≡ heard r
+yes-received : (own : Own) (octets : List ℕ) → areOctets octets ≡ true → (r : WordReading) → readingOf octets (own .channel) ≡ r → readWord own octets ≡ wordReceived r
 unfolding readWord
-yes-received own octets t r q = ap (λ (b : Bool). heard (pick b (readingOf octets (own .channel)) reading.Length)) t ∙ ap heard q
+yes-received own octets t r q = ap (λ (b : Bool). wordReceived (pick b (readingOf octets (own .channel)) reading.Length)) t ∙ ap wordReceived q
 
 module _ (own : Own) (s : SenderState) (store : List ℕ) (lent : ℕ) (good : Good own s store) where
   abbrev f : Fop
@@ -226,16 +226,16 @@ module _ (own : Own) (s : SenderState) (store : List ℕ) (lent : ℕ) (good : G
   -- by what the octets are read as
   received-does : (octets : List ℕ) → areOctets octets ≡ true → (r : WordReading) → readingOf octets (own .channel) ≡ r → reportIn r < 256
       → Does own lent (wordArrives octets) f (wordBy r s store output)
-  unfolding wordNumber work fopHeard fopWord judged readWord begun
+  unfolding wordNumber work fopReceived fopWord judged readWord begun
   received-does octets t (reading.Word r) q o =
-      let h : readWord own octets ≡ heard (reading.Word r) = yes-received own octets t (reading.Word r) q in
+      let h : readWord own octets ≡ wordReceived (reading.Word r) = yes-received own octets t (reading.Word r) q in
       agreed own lent (wordArrives octets) f (wordBy (reading.Word r) s store output) (ap otherRefusal h)
-      (subst (λ (x : Heard). Agrees own lent f (fopHeard x f) (wordBy (reading.Word r) s store output)) (sym h)
+      (subst (λ (x : WordReceived). Agrees own lent f (fopReceived x f) (wordBy (reading.Word r) s store output)) (sym h)
       (by-row (wordEvent (seen (told (r .word)) (variablesOf s))) (r .word .report) s good (word-meets (told (r .word)) s o) refl (word-plain (told (r .word)))))
   received-does octets t reading.Invalid q o =
       let h : readWord own octets ≡ invalid = yes-received own octets t reading.Invalid q in
       agreed own lent (wordArrives octets) f (wordBy reading.Invalid s store output) (ap otherRefusal h)
-      (subst (λ (x : Heard). Agrees own lent f (fopHeard x f) (wordBy reading.Invalid s store output)) (sym h) (by-row E15 0 s good tt refl refl))
+      (subst (λ (x : WordReceived). Agrees own lent f (fopReceived x f) (wordBy reading.Invalid s store output)) (sym h) (by-row E15 0 s good tt refl refl))
   received-does octets t reading.Address q o =
       refused-by (wordArrives octets) 7 (ap otherRefusal (yes-received own octets t reading.Address q)) refl (refuses-7 s store output)
   received-does octets t reading.Length q o =
@@ -339,7 +339,7 @@ module _ (own : Own) (s : SenderState) (store : List ℕ) (lent : ℕ) (good : G
   unfolding judged readWord
   word-octets octets true t = word-does octets t
   word-octets octets false t =
-      refused-by (wordArrives octets) 10 (ap (λ (b : Bool). otherRefusal (heard (pick b (readingOf octets (own .channel)) reading.Length))) t) refl (refuses-10 s store output)
+      refused-by (wordArrives octets) 10 (ap (λ (b : Bool). otherRefusal (wordReceived (pick b (readingOf octets (own .channel)) reading.Length))) t) refl (refuses-10 s store output)
 
   pub any-word-does : (octets : List ℕ) → Does own lent (wordArrives octets) f (pick (areOctets octets) (controlWordOf octets s store output) (refusedStep 10 s store output))
   any-word-does octets = word-octets octets (areOctets octets) refl

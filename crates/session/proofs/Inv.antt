@@ -16,7 +16,7 @@ use Rattle.fop.specs.Units.{Fdu, Frame, Word, Own, legal, wordOctets}
 use Rattle.fop.specs.Table.{FopEvent}
 use Rattle.fop.specs.Variables.{Fop, Work, Preset, begin, setClock}
 use Rattle.fop.specs.Machine.{fdus, fopDo}
-use Rattle.fop.specs.Events.{fopWord, fopAd, fopBd, fopTick, fopLower, fopDirective, directiveEvent, fopHeard, isEmpty, SenderEvent, requestAd}
+use Rattle.fop.specs.Events.{fopWord, fopAd, fopBd, fopTick, fopLower, fopDirective, directiveEvent, fopReceived, isEmpty, SenderEvent, requestAd}
 use Rattle.fop.specs.Events.{requestBd, lower, directive, wordArrives, work, Lower, seen}
 use Rattle.fop.specs.Answers.{judged, senderRefusal, needed}
 use Rattle.farm.specs.declared.State.{State as FarmState}
@@ -328,7 +328,7 @@ terminate-keeps set v lent σ I = sender-keeps set (directive 5 v) lent σ I (λ
 -- a word under way is read as it was reported
 pub word-read : (set : Settings) → Within set → (w : Word) (f : Fop) → w .counter ≤ 3 → w .nr < 256
     → work (set .own) (wordArrives (wordOctets (set .own) w)) f ≡ fopWord w f
-unfolding work fopHeard
+unfolding work fopReceived
 word-read set vw w f c b = rw (word-back (set .own) (vw .spacecraft) (vw .channel) w c b)
 
 -- and is judged fit

@@ -15,7 +15,7 @@ use Rattle.base.specs.Outcome.{Outcome.done, Outcome.refused}
 use Rattle.base.specs.Octets.{Octets}
 use Rattle.base.specs.Flags.{bitOf}
 use Rattle.base.proofs.Tests.{bit-le}
-use Rattle.fop.specs.Units.{Fdu, Frame, AD, BD, Word, valid, Own, areOctets, legal, written, wordOctets, readWord, heard}
+use Rattle.fop.specs.Units.{Fdu, Frame, AD, BD, Word, valid, Own, areOctets, legal, written, wordOctets, readWord, wordReceived}
 use Rattle.frame.specs.Frame.{frameOf, dataOf}
 use Rattle.frame.specs.Answers.{readingOf, partOf}
 use Rattle.frame.specs.declared.Kind.{Kind}
@@ -123,7 +123,7 @@ module _ (own : Own) (sc : own .spacecraft ≤ 1023) (ch : own .channel ≤ 63) 
   pub word-back : (w : Word) → w .counter ≤ 3 → w .nr < 256 → readWord own (wordOctets own w) ≡ valid w
   unfolding readWord wordOctets
   word-back w c b =
-      ap (λ (t : Bool). heard (pick t (wordReading.readingOf (clcwOf (clcw w)) (own .channel)) clcwReading.Length)) (word-octets w c b) ∙ ap heard (cback.word-back (clcw w) ch c b)
+      ap (λ (t : Bool). wordReceived (pick t (wordReading.readingOf (clcwOf (clcw w)) (own .channel)) clcwReading.Length)) (word-octets w c b) ∙ ap wordReceived (cback.word-back (clcw w) ch c b)
 
 -- what is told of a word's octets where its room is lent, and where it is not
 abbrev pub toldIf : Bool → List ℕ → WordAnswer

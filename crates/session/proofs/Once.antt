@@ -10,14 +10,14 @@ use borrow.Author.Tests.{eq-eqb, le-ltb}
 use lib.Dec.{T, eqb}
 use Rattle.base.specs.Choice.{pick}
 use Rattle.base.specs.Modulo.{advanced}
-use Rattle.fop.specs.Units.{Fdu, Frame, AD, BD, Unlock, SetVR, Refused, Own, Word, Heard, valid, invalid, other, readWord, wordOctets}
+use Rattle.fop.specs.Units.{Fdu, Frame, AD, BD, Unlock, SetVR, Refused, Own, Word, WordReceived, valid, invalid, other, readWord, wordOctets}
 use Rattle.fop.specs.Table.{Action, Cell, cell, ifNotSuspended, NotApplicable, FopEvent, table78, cell78, Ignore, Accept, Reject, Confirm, RejectAd}
 use Rattle.fop.specs.Table.{AcceptBd, RejectBd, AddToWaitQueue, LookForFdu, LookForDirective, RemoveAcknowledgedFrames, InitiateAdRetransmission, InitiateBcRetransmission}
 use Rattle.fop.specs.Table.{ReleaseBcFrame, CancelTimer, StartTimer, Alert, Initialise, TransmitUnlock, TransmitSetVr, TransmitBd, SetSuspendState, Suspend, Resume}
 use Rattle.fop.specs.Table.{SetVs, SetNnr, SetK, SetT1Initial, SetTransmissionLimit, SetTimeoutType, AdOutReady, BcOutReady, BdOutReady}
 use Rattle.fop.specs.Variables.{Entry, Fop, Work, begin}
 use Rattle.fop.specs.Machine.{firstMarked, unacknowledged, isAcknowledged, countFor, markBc, perform, performCell, sendNext, sendWaiting, transmitAd, lookForDirective, removeAcknowledged, fopDo}
-use Rattle.fop.specs.Events.{when, first, Seen, wordLines, wordEvent, seen, fopWord, fopAd, fopBd, expiryLines, fopExpiry, fopTick, fopLower, directiveEvent, fopDirective, fopHeard, isEmpty, SenderEvent, requestAd, requestBd, lower, directive, wordArrives, work}
+use Rattle.fop.specs.Events.{when, first, Seen, wordLines, wordEvent, seen, fopWord, fopAd, fopBd, expiryLines, fopExpiry, fopTick, fopLower, directiveEvent, fopDirective, fopReceived, isEmpty, SenderEvent, requestAd, requestBd, lower, directive, wordArrives, work}
 use Rattle.fop.specs.Events as fop
 use Rattle.session.specs.Ends.{Settings, startSender}
 use Rattle.session.specs.Session.{Event, adRequest, bdRequest, ticks, lowerSays, terminate, wordIn, wordLost, wordMade, frameIn, frameLost, release}
@@ -204,8 +204,8 @@ word-once v s e = go (s .once) e
         FopEvent.E102 tt
     go false q = absurd (false≢true q)
 
-received-once : (x : Heard) (f : Fop) → Once f → Stays (f .vs) (fopHeard x f)
-unfolding fopHeard fopWord wordEvent table78 once
+received-once : (x : WordReceived) (f : Fop) → Once f → Stays (f .vs) (fopReceived x f)
+unfolding fopReceived fopWord wordEvent table78 once
 received-once (valid w) f h = do-once _ [] (w .nr) f (word-once (f .vs) (seen w f) (eq-eqb _ 1 (h .limit))) h
 received-once invalid f h = do-once _ [] 0 f tt h
 received-once (other r) f h = (h, refl)

@@ -13,7 +13,7 @@ use Rattle.clcw.specs.Clcw as clcw
 use Rattle.farm.specs.Receiver as receiver
 use Rattle.farm.specs.declared.Event.the-variants as farm
 use Rattle.session.specs.Session as ses
-use Rattle.fop.specs.Units.{Fdu, Heard, valid, invalid, other, readWord}
+use Rattle.fop.specs.Units.{Fdu, WordReceived, valid, invalid, other, readWord}
 use Rattle.fop.specs.Variables.{Fop, Entry}
 use Rattle.fop.specs.Events.{SenderEvent, requestAd, requestBd, tick, lower, directive, wordArrives, adAccept}
 use Rattle.fop.specs.Answers.{Answer, senderAnswer, senderNext}
@@ -146,7 +146,7 @@ abbrev with-counts : ℕ → ℕ → Clcw → Clcw
 with-counts counter report w = record { channel = w .channel; lockout = w .lockout; wait = w .wait; retransmit = w .retransmit; counter = counter; report = report }
 
 -- the FARM-B counter and the report value of what is read, and of the oldest word
-abbrev counts-of : Heard → ℕ × ℕ
+abbrev counts-of : WordReceived → ℕ × ℕ
 counts-of (valid w) = (w .counter, w .nr)
 counts-of invalid = (0, 0)
 counts-of (other r) = (0, 0)

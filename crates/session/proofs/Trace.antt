@@ -42,7 +42,7 @@ unfolding outstanding ses.run ses.begins ses.step ses.toSender ses.wordCome ses.
     units.wordOctets units.readWord table.table78 machine.transmitAd machine.sendWaiting machine.sendNext machine.lookForFdu machine.lookForDirective
     machine.transmitBc machine.denyBc machine.rejectWaiting machine.purge machine.removeAcknowledged machine.perform machine.performAll machine.performCell
     machine.fopDo events.wordEvent events.fopWord events.fopAd events.fopBd events.fopExpiry events.fopTick events.fopLower
-    events.directiveEvent events.fopDirective events.fopHeard events.work answers.needed answers.judged answers.senderRefusal
+    events.directiveEvent events.fopDirective events.fopReceived events.work answers.needed answers.judged answers.senderRefusal
     answers.senderAnswer answers.senderNext t79.table t79.perform t79.performAll t79.stepOf t79.accepts window.adEvent receiver.eventOf
     receiver.answered receiver.arrived receiver.byReading receiver.receiveOf receiver.unitPart receiver.releaseOf receiver.wordOf frame.bodyOf
     frame.rawFrame frame.totalOf frame.dataField frame.isCommand frame.commandHeld frame.headerRefusal frame.contentRefusal frame.refusalOf frame.kindOf
