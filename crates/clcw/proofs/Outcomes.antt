@@ -53,12 +53,14 @@ module _ (octets : List ℕ) (channel : ℕ) where
     reading-word v h = simp (eq-eqb (length octets) 4 four, v, eq-eqb (fieldAt virtualChannel octets) channel h)
 
 -- the number of what reading answers
-pub reading-number : (octets : List ℕ) (channel : ℕ) (reading : WordReading) → reading ≡ readingOf octets channel → readingNumber reading ≡ refusalOf octets channel
+pub reading-number : (octets : List ℕ) (channel : ℕ) (reading : Reading) → reading ≡ readingOf octets channel
+    → readingNumber reading ≡ refusalOf octets channel
 unfolding readingOf refusalOf
 reading-number octets channel reading e =
     ap readingNumber e ∙ by-checks (eqb (length octets) 4) (isValid octets) (eqb (fieldAt virtualChannel octets) channel)
   where
-    by-checks : (a b c : Bool) → readingNumber (must a NotFour (must b Invalid (must c Address (Word (receivedOf octets))))) ≡ must a 10 (must b 0 (must c 7 0))
+    by-checks : (a b c : Bool)
+        → readingNumber (must a NotFour (must b Invalid (must c Address (Word (receivedOf octets))))) ≡ must a 10 (must b 0 (must c 7 0))
     by-checks false b c = refl
     by-checks true false c = refl
     by-checks true true false = refl

@@ -27,9 +27,9 @@ pub unit-told : (e e′ : Event) (s s′ : State) (u : AcceptedUnit) → e ≡ e
 unit-told e e′ s s′ u p q h = h ∙ sym (ap₂ unitOf p q)
 
 -- the unit of an event that was told, where no state tells it apart
-pub unit-anywhere : (e e′ : Event) (s : State) (u : AcceptedUnit) → e ≡ e′ → u ≡ unitOf e′ Open → u ≡ unitOf e′ Wait → u ≡ unitOf e′ Lockout → u ≡ unitOf e s
-unit-anywhere e e′ s u p a b c =
-    by-state (λ (t : State). u ≡ unitOf e′ t) a b c s ∙ ap (λ (x : Event). unitOf x s) (sym p)
+pub unit-anywhere : (e e′ : Event) (s : State) (u : AcceptedUnit) → e ≡ e′ → u ≡ unitOf e′ Open → u ≡ unitOf e′ Wait → u ≡ unitOf e′ Lockout
+    → u ≡ unitOf e s
+unit-anywhere e e′ s u p a b c = by-state (λ (t : State). u ≡ unitOf e′ t) a b c s ∙ ap (λ (x : Event). unitOf x s) (sym p)
 
 pub ruleset units = (unit-told, unit-anywhere)
 
