@@ -18,11 +18,11 @@ use Rattle.frame.specs.Header.{spacecraftIdentifier, virtualChannelIdentifier}
 use Rattle.frame.specs.Frame.{setVrCommand, rawWriting, writing, headerRefusal, contentRefusal, refusalOf}
 use Rattle.frame.specs.Answers.{readingOf, fieldsOf}
 use Rattle.frame.specs.declared.Kind.the-variants.{Ad, SetVr}
-use Rattle.frame.specs.declared.Reading.the-variants.{Frame, Refused}
+use Rattle.frame.specs.declared.FrameReading.the-variants.{Frame, Refused}
 use Rattle.frame.proofs.Octets.{spacecraft-is, channel-is}
 use Rattle.clcw.specs.Clcw.{virtualChannel, writing as wordWriting}
 use Rattle.clcw.specs.Answers.{readingOf as wordReading}
-use Rattle.clcw.specs.declared.Reading.the-variants.{Length as NotFour}
+use Rattle.clcw.specs.declared.WordReading.the-variants.{Length as NotFour}
 use Rattle.clcw.proofs.Word.{channel-is as word-channel-is}
 use Rattle.farm.specs.Receiver.{largestBuffers, startOf}
 use Rattle.farm.specs.declared.Start.{Start}
