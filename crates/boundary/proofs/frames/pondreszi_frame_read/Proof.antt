@@ -14,7 +14,7 @@ read c =
     let s = h .before in
     let k = s .before in
     let a = k .before .args in
-    c .read .ensures
+    c .read .ensures .0
     ∙ reading-narrowed (a .octets .now) (λ i. k .shared-slice-known .given i .fits) (a .spacecraft) (a .channel) (s .narrow-u16 .ensures) (h .narrow-u8 .ensures)
 
 narrow-u16-requires : tie.Need-narrow-u16-requires

@@ -38,7 +38,7 @@ returns-2 c =
     let t = s .before in
     let a = t .before .args in
     vr-within (a .spacecraft) (a .channel) (a .window) (a .vr) (a .buffers) (omega (arith, t .if1 .left))
-    (c .new .ensures
+    (c .new .ensures .0
     ∙ receiver-narrowed (a .vr) (a .spacecraft) (a .channel) (a .window) (a .buffers) (s .narrow-u16 .ensures) (h .narrow-u8 .ensures) (w .narrow-u82 .ensures)
     (b .narrow-u83 .ensures))
 

@@ -12,7 +12,7 @@ read c =
     let h = c .before in
     let k = h .before in
     let a = k .before .args in
-    c .read .ensures
+    c .read .ensures .0
     ∙ word-reading-narrowed (a .octets .now) (λ i. k .shared-slice-known .given i .fits) (a .channel) (h .narrow-u8 .ensures)
 
 narrow-u8-requires : tie.Need-narrow-u8-requires
