@@ -53,7 +53,7 @@ module _ (octets : List ℕ) (channel : ℕ) where
     reading-word v h = simp (eq-eqb (length octets) 4 four, v, eq-eqb (fieldAt virtualChannel octets) channel h)
 
 -- the number of what reading answers
-pub reading-number : (octets : List ℕ) (channel : ℕ) (reading : Reading) → reading ≡ readingOf octets channel
+pub reading-number : (octets : List ℕ) (channel : ℕ) (reading : WordReading) → reading ≡ readingOf octets channel
     → readingNumber reading ≡ refusalOf octets channel
 unfolding readingOf refusalOf
 reading-number octets channel reading e =
