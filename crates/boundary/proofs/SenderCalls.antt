@@ -10,7 +10,7 @@ use lib.Dec.{leb, eqb}
 use lib.ListN.{length}
 use Rattle.base.specs.Choice.{must}
 use Rattle.memory.specs.Placed.{placed}
-use Rattle.fop_actions.specs.declared.Sender.{Sender as State}
+use Rattle.fop_actions.specs.declared.SenderState.{SenderState}
 use Rattle.sender.specs.declared.Answer.{Answer}
 use Rattle.sender.specs.declared.Sender.{Sender}
 use Rattle.sender.specs.declared.Start.{Start}
@@ -97,7 +97,7 @@ module _ (state answer : List ℕ) {taken : Start} (kept : taken ≡ senderIn st
       (h ∙ sym (holds _ _ _ (is-state h) ∙ holds _ _ _ (le-leb answerOctets (length answer) l)), ap (λ (s : Start). s .sender) kept)
 
 -- a call by the sender that it reached: none, or one whose event is done and told
-module _ (event : State → Step) (reached : Start) where
+module _ (event : SenderState → Step) (reached : Start) where
   module _ (state store output answer : List ℕ) where
     abbrev refusal : ℕ → Called
     refusal n = refusedCall n state store output answer
@@ -143,7 +143,7 @@ module _ {begun start : Start} (state : List ℕ) (same : begun ≡ start) where
   pub start-no-room : begun .refusal ≡ 0 → length state < stateOctets → Starts start state 11 state
   start-no-room h l = by 11 state _ (holds _ _ _ (is-done h) ∙ fails _ _ _ (lt-leb stateOctets (length state) l)) refl refl
 
-  pub start-done : begun .refusal ≡ 0 → stateOctets ≤ length state → {fop : State} {octets new : List ℕ} → fop ≡ begun .sender .fop
+  pub start-done : begun .refusal ≡ 0 → stateOctets ≤ length state → {fop : SenderState} {octets new : List ℕ} → fop ≡ begun .sender .fop
       → octets ≡ octetsOf fop → new ≡ placed state 0 octets → Starts start state 0 new
   start-done h l e o p =
       by 0 _ _ (holds _ _ _ (is-done h) ∙ holds _ _ _ (le-leb stateOctets (length state) l)) refl

@@ -1,62 +1,76 @@
 // FECF and transfer frames (clauses 6.2 and 6.4 to 6.8).
+use crate::numbers::NO_CHANNEL;
+use crate::numbers::NO_SPACECRAFT;
+use crate::numbers::narrow_u8;
+use crate::numbers::narrow_u16;
+use crate::numbers::with_number;
 use frame::Kind;
-use frame::Reading;
-use frame::writer::Written;
+use frame::writer::FrameWritten;
 ghost use mathlib.Core.Path.{_≡_};
 ghost use mathlib.Core.List.{[]};
 ghost use lib.ListN.{length};
 ghost use Rattle.base.specs.Outcome.{answer, after, numberOf, countOf};
 ghost use Rattle.fecf.specs.Fecf.{fecfOf};
-ghost use Rattle.frame.specs.declared.Kind.the-variants.{Ad, Bd, Unlock, SetVr};
+ghost use Rattle.frame.specs.declared.Kind.the-variants.{Bd, Unlock};
 ghost use Rattle.frame.specs.Frame.{writing};
 ghost use Rattle.frame.specs.Answers.{writtenAnswer, readingOf, readingNumber};
-ghost use Rattle.boundary.specs.Numbers.{kindNumber, kindValue, frameKind, frameValue, frameTotal, frameField};
+ghost use Rattle.boundary.specs.Numbers.{adWriting, setVrWriting, kindNumber, kindValue, frameKind, frameValue, frameTotal, frameField};
 
 #[no_mangle]
-pub extern "C" fn fecf(message: &[u8]) -> u16
+pub extern "C" fn pondreszi_fecf(message: &[u8]) -> u16
     ensures { λ r. ⌜ r ≡ fecfOf (now (message .entry)) ⌝ }
 {
     fecf::fecf(message)
 }
 
 // What a writer answered, by its number and the count of octets written.
-fn told(written: Written, count: &mut u64) -> u8
+fn told(written: FrameWritten, count: &mut u64) -> u8
     ensures number { λ r. ⌜ r ≡ numberOf (writtenAnswer written) ⌝ }
     ensures counted { λ r. ⌜ now (count .exit) ≡ countOf (writtenAnswer written) ⌝ }
 {
     *count = 0;
     match written {
-        Written::Done(n) => {
+        FrameWritten::Done(n) => {
             *count = n as u64;
             0
         }
-        Written::Length => 10,
-        Written::Setting => 12,
-        Written::Room => 11,
+        FrameWritten::Length => 10,
+        FrameWritten::Setting => 12,
+        FrameWritten::Room => 11,
     }
 }
 
 #[no_mangle]
-pub extern "C" fn frame_write_ad(
-    spacecraft: u16,
-    channel: u8,
-    number: u8,
+pub extern "C" fn pondreszi_frame_write_ad(
+    spacecraft: u32,
+    channel: u32,
+    number: u32,
     unit: &[u8],
     output: &mut [u8],
     count: &mut u64,
 ) -> u8
-    ensures number { λ r. ⌜ r ≡ numberOf (answer (writing spacecraft channel (Ad number) (now (unit .entry)) (length (now (output .entry))))) ⌝ }
-    ensures memory { λ r. ⌜ now (output .exit) ≡ after (writing spacecraft channel (Ad number) (now (unit .entry)) (length (now (output .entry)))) (now (output .entry)) ⌝ }
-    ensures counted { λ r. ⌜ now (count .exit) ≡ countOf (answer (writing spacecraft channel (Ad number) (now (unit .entry)) (length (now (output .entry))))) ⌝ }
+    ensures number { λ r. ⌜ r ≡ numberOf (answer (adWriting spacecraft channel number (now (unit .entry)) (length (now (output .entry))))) ⌝ }
+    ensures memory { λ r. ⌜ now (output .exit) ≡ after (adWriting spacecraft channel number (now (unit .entry)) (length (now (output .entry)))) (now (output .entry)) ⌝ }
+    ensures counted { λ r. ⌜ now (count .exit) ≡ countOf (answer (adWriting spacecraft channel number (now (unit .entry)) (length (now (output .entry))))) ⌝ }
 {
-    let written = frame::writer::write_ad(spacecraft, channel, number, unit, output);
+    let judged = with_number(number, spacecraft, NO_SPACECRAFT as u32);
+    let own_spacecraft = narrow_u16(judged, NO_SPACECRAFT);
+    let own_channel = narrow_u8(channel, NO_CHANNEL);
+    let sequence_number = narrow_u8(number, 0);
+    let written = frame::writer::write_ad(
+        own_spacecraft,
+        own_channel,
+        sequence_number,
+        unit,
+        output,
+    );
     told(written, count)
 }
 
 #[no_mangle]
-pub extern "C" fn frame_write_bd(
-    spacecraft: u16,
-    channel: u8,
+pub extern "C" fn pondreszi_frame_write_bd(
+    spacecraft: u32,
+    channel: u32,
     unit: &[u8],
     output: &mut [u8],
     count: &mut u64,
@@ -65,14 +79,16 @@ pub extern "C" fn frame_write_bd(
     ensures memory { λ r. ⌜ now (output .exit) ≡ after (writing spacecraft channel Bd (now (unit .entry)) (length (now (output .entry)))) (now (output .entry)) ⌝ }
     ensures counted { λ r. ⌜ now (count .exit) ≡ countOf (answer (writing spacecraft channel Bd (now (unit .entry)) (length (now (output .entry))))) ⌝ }
 {
-    let written = frame::writer::write_bd(spacecraft, channel, unit, output);
+    let own_spacecraft = narrow_u16(spacecraft, NO_SPACECRAFT);
+    let own_channel = narrow_u8(channel, NO_CHANNEL);
+    let written = frame::writer::write_bd(own_spacecraft, own_channel, unit, output);
     told(written, count)
 }
 
 #[no_mangle]
-pub extern "C" fn frame_write_unlock(
-    spacecraft: u16,
-    channel: u8,
+pub extern "C" fn pondreszi_frame_write_unlock(
+    spacecraft: u32,
+    channel: u32,
     output: &mut [u8],
     count: &mut u64,
 ) -> u8
@@ -80,23 +96,29 @@ pub extern "C" fn frame_write_unlock(
     ensures memory { λ r. ⌜ now (output .exit) ≡ after (writing spacecraft channel Unlock [] (length (now (output .entry)))) (now (output .entry)) ⌝ }
     ensures counted { λ r. ⌜ now (count .exit) ≡ countOf (answer (writing spacecraft channel Unlock [] (length (now (output .entry))))) ⌝ }
 {
-    let written = frame::writer::write_unlock(spacecraft, channel, output);
+    let own_spacecraft = narrow_u16(spacecraft, NO_SPACECRAFT);
+    let own_channel = narrow_u8(channel, NO_CHANNEL);
+    let written = frame::writer::write_unlock(own_spacecraft, own_channel, output);
     told(written, count)
 }
 
 #[no_mangle]
-pub extern "C" fn frame_write_set_vr(
-    spacecraft: u16,
-    channel: u8,
-    value: u8,
+pub extern "C" fn pondreszi_frame_write_set_vr(
+    spacecraft: u32,
+    channel: u32,
+    value: u32,
     output: &mut [u8],
     count: &mut u64,
 ) -> u8
-    ensures number { λ r. ⌜ r ≡ numberOf (answer (writing spacecraft channel (SetVr value) [] (length (now (output .entry))))) ⌝ }
-    ensures memory { λ r. ⌜ now (output .exit) ≡ after (writing spacecraft channel (SetVr value) [] (length (now (output .entry)))) (now (output .entry)) ⌝ }
-    ensures counted { λ r. ⌜ now (count .exit) ≡ countOf (answer (writing spacecraft channel (SetVr value) [] (length (now (output .entry))))) ⌝ }
+    ensures number { λ r. ⌜ r ≡ numberOf (answer (setVrWriting spacecraft channel value (length (now (output .entry))))) ⌝ }
+    ensures memory { λ r. ⌜ now (output .exit) ≡ after (setVrWriting spacecraft channel value (length (now (output .entry)))) (now (output .entry)) ⌝ }
+    ensures counted { λ r. ⌜ now (count .exit) ≡ countOf (answer (setVrWriting spacecraft channel value (length (now (output .entry))))) ⌝ }
 {
-    let written = frame::writer::write_set_vr(spacecraft, channel, value, output);
+    let judged = with_number(value, spacecraft, NO_SPACECRAFT as u32);
+    let own_spacecraft = narrow_u16(judged, NO_SPACECRAFT);
+    let own_channel = narrow_u8(channel, NO_CHANNEL);
+    let set_value = narrow_u8(value, 0);
+    let written = frame::writer::write_set_vr(own_spacecraft, own_channel, set_value, output);
     told(written, count)
 }
 
@@ -105,10 +127,10 @@ fn kind_number(kind: Kind) -> u8
     ensures { λ r. ⌜ r ≡ kindNumber kind ⌝ }
 {
     match kind {
-        Kind::Ad(_) => 0,
-        Kind::Bd => 1,
-        Kind::Unlock => 2,
-        Kind::SetVr(_) => 3,
+        Kind::Ad(_) => 1,
+        Kind::Bd => 2,
+        Kind::Unlock => 3,
+        Kind::SetVr(_) => 4,
     }
 }
 
@@ -125,10 +147,10 @@ fn kind_value(kind: Kind) -> u8
 
 // The data field of a frame that is not refused begins at its octet 5 and has `field` octets.
 #[no_mangle]
-pub extern "C" fn frame_read(
+pub extern "C" fn pondreszi_frame_read(
     octets: &[u8],
-    spacecraft: u16,
-    channel: u8,
+    spacecraft: u32,
+    channel: u32,
     kind: &mut u8,
     value: &mut u8,
     total: &mut u16,
@@ -144,9 +166,11 @@ pub extern "C" fn frame_read(
     *value = 0;
     *total = 0;
     *field = 0;
-    let reading = frame::read(octets, spacecraft, channel);
+    let own_spacecraft = narrow_u16(spacecraft, NO_SPACECRAFT);
+    let own_channel = narrow_u8(channel, NO_CHANNEL);
+    let reading = frame::read(octets, own_spacecraft, own_channel);
     match reading {
-        Reading::Frame(fields) => {
+        FrameReading::Frame(fields) => {
             let found = fields.kind;
             *kind = kind_number(found);
             *value = kind_value(found);
@@ -154,6 +178,6 @@ pub extern "C" fn frame_read(
             *field = fields.field;
             0
         }
-        Reading::Refused(number) => number,
+        FrameReading::Refused(number) => number,
     }
 }

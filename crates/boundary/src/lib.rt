@@ -1,12 +1,13 @@
 // What C and Rust call: numbers, and octets as a pointer and a length. Each function passes its arguments on and puts the
 // answer into numbers. This file: channel coding (clause 8); the modules: frames and control words (clause 6), receiver and sender (clause 7).
 pub mod frames;
+mod numbers;
 pub mod receivers;
 pub mod senders;
 pub mod words;
 
-use cltu::reader::Reading;
-use cltu::writer::Written;
+use cltu::reader::CltuReading;
+use cltu::writer::CltuWritten;
 ghost use mathlib.Core.Path.{_≡_};
 ghost use lib.ListN.{length};
 ghost use Rattle.base.specs.Outcome.{answer, after, numberOf, countOf};
@@ -18,14 +19,14 @@ ghost use Rattle.cltu.specs.Answers.{writtenAnswer, readAnswer};
 ghost use Rattle.boundary.specs.Numbers.{placeOf, correctedOf};
 
 #[no_mangle]
-pub extern "C" fn codeblock_error_control(information: &[u8]) -> u8
+pub extern "C" fn pondreszi_codeblock_error_control(information: &[u8]) -> u8
     ensures { λ r. ⌜ r ≡ errorControl (now (information .entry)) ⌝ }
 {
     codeblock::error_control(information)
 }
 
 #[no_mangle]
-pub extern "C" fn codeblock_is_good(block: &[u8]) -> u8
+pub extern "C" fn pondreszi_codeblock_is_good(block: &[u8]) -> u8
     ensures { λ r. ⌜ r ≡ bitOf (isGood (judged (now (block .entry)))) ⌝ }
 {
     if codeblock::is_good(block) {
@@ -35,30 +36,30 @@ pub extern "C" fn codeblock_is_good(block: &[u8]) -> u8
 }
 
 #[no_mangle]
-pub extern "C" fn randomizer_octet(place: u64) -> u8
+pub extern "C" fn pondreszi_randomizer_octet(place: u64) -> u8
     ensures { λ r. ⌜ r ≡ octet place ⌝ }
 {
     randomizer::octet_at(place)
 }
 
 // What the writer answered, by its number and the count of octets written.
-fn told_written(written: Written, count: &mut u64) -> u8
+fn told_written(written: CltuWritten, count: &mut u64) -> u8
     ensures number { λ r. ⌜ r ≡ numberOf (writtenAnswer written) ⌝ }
     ensures counted { λ r. ⌜ now (count .exit) ≡ countOf (writtenAnswer written) ⌝ }
 {
     *count = 0;
     match written {
-        Written::Done(n) => {
+        CltuWritten::Done(n) => {
             *count = n as u64;
             0
         }
-        Written::Length => 10,
-        Written::Room => 11,
+        CltuWritten::Length => 10,
+        CltuWritten::Room => 11,
     }
 }
 
 #[no_mangle]
-pub extern "C" fn cltu_write(frame: &[u8], output: &mut [u8], count: &mut u64) -> u8
+pub extern "C" fn pondreszi_cltu_write(frame: &[u8], output: &mut [u8], count: &mut u64) -> u8
     ensures number { λ r. ⌜ r ≡ numberOf (answer (writing (now (frame .entry)) (length (now (output .entry))))) ⌝ }
     ensures memory { λ r. ⌜ now (output .exit) ≡ after (writing (now (frame .entry)) (length (now (output .entry)))) (now (output .entry)) ⌝ }
     ensures told { λ r. ⌜ now (count .exit) ≡ countOf (answer (writing (now (frame .entry)) (length (now (output .entry))))) ⌝ }
@@ -68,7 +69,7 @@ pub extern "C" fn cltu_write(frame: &[u8], output: &mut [u8], count: &mut u64) -
 }
 
 // What the reader answered, by its number, the count of octets handed out, the place, and the count of corrected codeblocks.
-fn told_reading(reading: Reading, count: &mut u64, place: &mut u64, corrected: &mut u64) -> u8
+fn told_reading(reading: CltuReading, count: &mut u64, place: &mut u64, corrected: &mut u64) -> u8
     ensures number { λ r. ⌜ r ≡ numberOf (readAnswer reading) ⌝ }
     ensures counted { λ r. ⌜ now (count .exit) ≡ countOf (readAnswer reading) ⌝ }
     ensures placed { λ r. ⌜ now (place .exit) ≡ placeOf (readAnswer reading) ⌝ }
@@ -78,7 +79,7 @@ fn told_reading(reading: Reading, count: &mut u64, place: &mut u64, corrected: &
     *place = 0;
     *corrected = 0;
     match reading {
-        Reading::Done {
+        CltuReading::Done {
             count: n,
             place: p,
             corrected: c,
@@ -88,25 +89,25 @@ fn told_reading(reading: Reading, count: &mut u64, place: &mut u64, corrected: &
             *corrected = c as u64;
             0
         }
-        Reading::NoStart(p) => {
+        CltuReading::NoStart(p) => {
             *place = p as u64;
             1
         }
-        Reading::NoBlock(p) => {
+        CltuReading::NoBlock(p) => {
             *place = p as u64;
             2
         }
-        Reading::NoEnd(p) => {
+        CltuReading::NoEnd(p) => {
             *place = p as u64;
             3
         }
-        Reading::Length => 10,
-        Reading::Room => 11,
+        CltuReading::Length => 10,
+        CltuReading::Room => 11,
     }
 }
 
 #[no_mangle]
-pub extern "C" fn cltu_read(
+pub extern "C" fn pondreszi_cltu_read(
     input: &[u8],
     output: &mut [u8],
     count: &mut u64,

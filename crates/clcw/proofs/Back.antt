@@ -15,8 +15,8 @@ use Rattle.base.proofs.Lists.{octets-at}
 use Rattle.base.specs.Flags.{bitOf}
 use Rattle.base.specs.Octets.{Octets}
 use Rattle.clcw.specs.declared.Clcw.{Clcw}
-use Rattle.clcw.specs.declared.Reading.{Reading}
-use Rattle.clcw.specs.declared.Reading.the-variants.{Word, Invalid, Address, Length as NotFour}
+use Rattle.clcw.specs.declared.WordReading.{WordReading}
+use Rattle.clcw.specs.declared.WordReading.the-variants.{Word, Invalid, Address, Length as NotFour}
 use Rattle.clcw.specs.Clcw.{statusField, virtualChannel, noRfAvailable, noBitLock, lockoutFlag, waitFlag, retransmitFlag, farmBCounter, reportValue, wordFields, clcwOf, isValid, wordOf}
 use Rattle.clcw.specs.Answers.{receivedOf, readingOf}
 use Rattle.clcw.proofs.Word.{channel-is}
@@ -95,7 +95,7 @@ module _ (octets : List ℕ) (channel : ℕ) where
   pub reading-cases : Case octets channel
   reading-cases = at-length (eqb (length octets) 4) refl
 
-abbrev isWord : Reading → Bool
+abbrev isWord : WordReading → Bool
 isWord (Word received) = true
 isWord Invalid = false
 isWord Address = false

@@ -1,18 +1,21 @@
 -- What writing and reading come to, a law for each of their checks; and the four stores that write a word.
-use mathlib.Core.Path.{_≡_, _∙_}
-use mathlib.Core.Bool.{true, false}
+use mathlib.Core.Path.{_≡_, refl, ap, _∙_}
+use mathlib.Core.Bool.{Bool, true, false}
 use mathlib.Core.List.{List, [], _∷_, _++_}
 use Prim.Native.Nat.{ℕ, _<_, _≤_}
 use native.Mathlib.Omega.{arith}
 use borrow.Author.Tests.{le-leb, lt-leb, eq-eqb, ne-eqb}
+use lib.Dec.{eqb}
 use lib.ListN.{length, drop, getD, set}
 use lib.Seq.{sets-eq}
+use Rattle.base.specs.Choice.{must}
 use Rattle.base.specs.Fields.{fieldAt, octetsOf}
 use Rattle.base.specs.Outcome.{Outcome.done, Outcome.refused}
 use Rattle.clcw.specs.declared.Clcw.{Clcw}
-use Rattle.clcw.specs.declared.Reading.the-variants.{Word, Invalid, Address, Length as NotFour}
+use Rattle.clcw.specs.declared.WordReading.{WordReading}
+use Rattle.clcw.specs.declared.WordReading.the-variants.{Word, Invalid, Address, Length as NotFour}
 use Rattle.clcw.specs.Clcw.{virtualChannel, clcwOf, writing, isValid}
-use Rattle.clcw.specs.Answers.{receivedOf, readingOf}
+use Rattle.clcw.specs.Answers.{receivedOf, readingOf, refusalOf, readingNumber}
 
 module _ (word : Clcw) (room : ℕ) where
   pub writing-channel : 63 < word .channel → writing word room ≡ refused 12 0
@@ -48,6 +51,20 @@ module _ (octets : List ℕ) (channel : ℕ) where
     pub reading-word : isValid octets ≡ true → fieldAt virtualChannel octets ≡ channel → readingOf octets channel ≡ Word (receivedOf octets)
     unfolding readingOf
     reading-word v h = simp (eq-eqb (length octets) 4 four, v, eq-eqb (fieldAt virtualChannel octets) channel h)
+
+-- the number of what reading answers
+pub reading-number : (octets : List ℕ) (channel : ℕ) (reading : WordReading) → reading ≡ readingOf octets channel
+    → readingNumber reading ≡ refusalOf octets channel
+unfolding readingOf refusalOf
+reading-number octets channel reading e =
+    ap readingNumber e ∙ by-checks (eqb (length octets) 4) (isValid octets) (eqb (fieldAt virtualChannel octets) channel)
+  where
+    by-checks : (a b c : Bool)
+        → readingNumber (must a NotFour (must b Invalid (must c Address (Word (receivedOf octets))))) ≡ must a 10 (must b 0 (must c 7 0))
+    by-checks false b c = refl
+    by-checks true false c = refl
+    by-checks true true false = refl
+    by-checks true true true = refl
 
 -- octet by octet
 pub stored : (word : Clcw) (octets out : List ℕ) → octets ≡ clcwOf word → 4 ≤ length out

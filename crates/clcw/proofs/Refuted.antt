@@ -11,13 +11,20 @@ use Rattle.base.specs.Fields.{digitsOf, valueOf, packed, octetsOf, fieldAt}
 use Rattle.base.proofs.Tests.{apart, both-false}
 use Rattle.base.specs.Flags.{bitOf}
 use Rattle.clcw.specs.declared.Clcw.{Clcw}
-use Rattle.clcw.specs.declared.Received.{Received}
-use Rattle.clcw.specs.declared.Reading.{Reading}
-use Rattle.clcw.specs.declared.Reading.the-variants.{Word}
+use Rattle.clcw.specs.declared.ReceivedWord.{ReceivedWord}
+use Rattle.clcw.specs.declared.WordReading.{WordReading}
+use Rattle.clcw.specs.declared.WordReading.the-variants.{Word}
 use Rattle.clcw.specs.Clcw.{firstSpare, waitFlag, secondSpare, wordFields, clcwOf, isValid, wordOf}
 use Rattle.clcw.specs.Answers.{receivedOf, readingOf}
-use Rattle.clcw.proofs.Back.{Case, Case.not-four, Case.invalid, Case.address, Case.ours, reading-cases}
+use Rattle.clcw.proofs.Back.{Case, Case.not-four, Case.invalid, Case.address, Case.ours, reading-cases, word-back}
 use Rattle.clcw.proofs.Examples.{flags}
+
+-- a reader that refuses all: one that takes no octets for a word
+pub refuses-all : (reader : List ℕ → ℕ → WordReading) → ((octets : List ℕ) (channel : ℕ) (received : ReceivedWord) → reader octets channel ≡ Word received → ⊥)
+    → ((s : List ℕ) (k : ℕ) → reader s k ≡ readingOf s k) → ⊥
+refuses-all reader never agrees =
+    let word = flags false false false in
+    never (clcwOf word) 0 _ (agrees (clcwOf word) 0 ∙ word-back word (omega arith) (omega arith) (omega arith))
 
 -- octets with a spare bit set
 abbrev pub SpareSet : List ℕ → Type 0
@@ -29,7 +36,7 @@ spare-invalid octets =
     ⊎-elim (λ h. simp (ne-eqb (fieldAt firstSpare octets) 0 h, both-false)) (λ h. simp (ne-eqb (fieldAt secondSpare octets) 0 h, both-false))
 
 -- a reader that takes octets with a spare bit set for a word
-pub spare-taken : (reader : List ℕ → ℕ → Reading) (octets : List ℕ) (channel : ℕ) (received : Received)
+pub spare-taken : (reader : List ℕ → ℕ → WordReading) (octets : List ℕ) (channel : ℕ) (received : ReceivedWord)
     → SpareSet octets → reader octets channel ≡ Word received → ((s : List ℕ) (k : ℕ) → reader s k ≡ readingOf s k) → ⊥
 spare-taken reader octets channel received spare taken agrees = go (reading-cases octets channel)
   where
@@ -43,7 +50,7 @@ spare-taken reader octets channel received spare taken agrees = go (reading-case
     go (ours a b c r) = apart (sym (spare-invalid octets spare) ∙ b)
 
 -- a reader that does not look at the second spare bit
-pub spare-ignored : (reader : List ℕ → ℕ → Reading)
+pub spare-ignored : (reader : List ℕ → ℕ → WordReading)
     → ((a b c d channel : ℕ) → reader (a ∷ b ∷ (c * 2) ∷ d ∷ []) channel ≡ reader (a ∷ b ∷ (c * 2 + 1) ∷ d ∷ []) channel)
     → ((s : List ℕ) (k : ℕ) → reader s k ≡ readingOf s k) → ⊥
 unfolding readingOf receivedOf wordOf isValid fieldAt valueOf octetBits bitsOf

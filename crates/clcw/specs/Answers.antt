@@ -7,20 +7,20 @@ use Rattle.base.specs.Choice.{must}
 use Rattle.base.specs.Fields.{fieldAt}
 use Rattle.base.specs.Outcome.{Answer, Answer.done, Answer.refused}
 use Rattle.clcw.specs.Clcw.{statusField, noRfAvailable, noBitLock, virtualChannel, isValid, wordOf}
-use Rattle.clcw.specs.declared.Received.{Received}
-use Rattle.clcw.specs.declared.Reading.{Reading}
-use Rattle.clcw.specs.declared.Reading.the-variants.{Word, Invalid, Address, Length as NotFour}
-use Rattle.clcw.specs.declared.Written.{Written}
-use Rattle.clcw.specs.declared.Written.the-variants.{Done, Setting, Room}
+use Rattle.clcw.specs.declared.ReceivedWord.{ReceivedWord}
+use Rattle.clcw.specs.declared.WordReading.{WordReading}
+use Rattle.clcw.specs.declared.WordReading.the-variants.{Word, Invalid, Address, Length as NotFour}
+use Rattle.clcw.specs.declared.WordWritten.{WordWritten}
+use Rattle.clcw.specs.declared.WordWritten.the-variants.{Done, Setting, Room}
 
 -- what writing answers: the count of octets, 12 or 11
-abbrev pub writtenAnswer : Written → Answer (Unit {0})
+abbrev pub writtenAnswer : WordWritten → Answer (Unit {0})
 writtenAnswer (Done count) = done count tt
 writtenAnswer Setting = refused 12 0
 writtenAnswer Room = refused 11 0
 
 -- all fields, status and the two RF flags too, read and not judged
-unfoldable pub receivedOf : List ℕ → Received
+unfoldable pub receivedOf : List ℕ → ReceivedWord
 receivedOf octets = record {
   word = wordOf octets;
   status = fieldAt statusField octets;
@@ -29,15 +29,23 @@ receivedOf octets = record {
 }
 
 -- what reading answers to a channel: 10 where not four octets; an invalid CLCW, which is no refusal; 7; the word
-unfoldable pub readingOf : List ℕ → ℕ → Reading
+unfoldable pub readingOf : List ℕ → ℕ → WordReading
 readingOf octets channel =
     must (eqb (length octets) 4) NotFour
     (must (isValid octets) Invalid
     (must (eqb (fieldAt virtualChannel octets) channel) Address
     (Word (receivedOf octets))))
 
+-- document 01's refusal of octets as a word of a channel: "a CLCW not of four octets" is 10; an invalid CLCW "is no refusal"; "otherwise
+-- another channel's word is refusal 7"
+unfoldable pub refusalOf : List ℕ → ℕ → ℕ
+refusalOf octets channel =
+    must (eqb (length octets) 4) 10
+    (must (isValid octets) 0
+    (must (eqb (fieldAt virtualChannel octets) channel) 7 0))
+
 -- document 01's number of a reading, 0 where it is no refusal
-abbrev pub readingNumber : Reading → ℕ
+abbrev pub readingNumber : WordReading → ℕ
 readingNumber (Word received) = 0
 readingNumber Invalid = 0
 readingNumber Address = 7

@@ -7,7 +7,7 @@ ghost use Rattle.base.specs.Outcome.{answer, after};
 ghost use Rattle.base.specs.Limits.{largestChannel};
 ghost use Rattle.base.specs.Flags.{bitOf};
 ghost use Rattle.clcw.specs.Clcw.{clcwOf, writing, isValid, wordOf};
-ghost use Rattle.clcw.specs.Answers.{writtenAnswer, receivedOf, readingOf};
+ghost use Rattle.clcw.specs.Answers.{writtenAnswer, receivedOf, readingOf, refusalOf, readingNumber};
 
 // The fields of a control word that FOP-1 and FARM-1 give a meaning: channel, the three flags, the FARM-B counter (0 to 3) and
 // the report value.
@@ -21,7 +21,7 @@ pub struct Clcw {
 }
 
 // A control word as it was received, with the fields that are read and not judged.
-pub struct Received {
+pub struct ReceivedWord {
     pub word: Clcw,
     pub status: u8,
     pub no_rf: bool,
@@ -29,15 +29,15 @@ pub struct Received {
 }
 
 // The count of octets written, or document 01's refusal 12 or 11.
-pub enum Written {
+pub enum WordWritten {
     Done(usize),
     Setting,
     Room,
 }
 
 // A control word; an invalid one, which is no refusal; or document 01's refusal 7 or 10.
-pub enum Reading {
-    Word(Received),
+pub enum WordReading {
+    Word(ReceivedWord),
     Invalid,
     Address,
     Length,
@@ -75,25 +75,25 @@ impl Clcw {
     }
 
     // Writes the word at the front of the output. A refusal changes nothing.
-    pub fn write(self, out: &mut [u8]) -> Written
+    pub fn write(self, out: &mut [u8]) -> WordWritten
         ensures answer { λ r. ⌜ writtenAnswer r ≡ answer (writing self (length (now (out .entry)))) ⌝ }
         ensures memory { λ r. ⌜ now (out .exit) ≡ after (writing self (length (now (out .entry)))) (now (out .entry)) ⌝ }
     {
         if LARGEST_CHANNEL < self.channel {
-            return Written::Setting;
+            return WordWritten::Setting;
         }
         if 3 < self.counter {
-            return Written::Setting;
+            return WordWritten::Setting;
         }
         if out.len() < 4 {
-            return Written::Room;
+            return WordWritten::Room;
         }
         let octets = self.octets();
         out[0] = octets[0];
         out[1] = octets[1];
         out[2] = octets[2];
         out[3] = octets[3];
-        Written::Done(4)
+        WordWritten::Done(4)
     }
 
     // The word that four octets hold.
@@ -113,19 +113,20 @@ impl Clcw {
     }
 
     // What lent octets are to a channel.
-    pub fn read(octets: &[u8], channel: u8) -> Reading
-        ensures { λ r. ⌜ r ≡ readingOf (now (octets .entry)) channel ⌝ }
+    pub fn read(octets: &[u8], channel: u8) -> WordReading
+        ensures value { λ r. ⌜ r ≡ readingOf (now (octets .entry)) channel ⌝ }
+        ensures number { λ r. ⌜ readingNumber r ≡ refusalOf (now (octets .entry)) channel ⌝ }
     {
         if octets.len() != 4 {
-            return Reading::Length;
+            return WordReading::Length;
         }
         if !valid(octets) {
-            return Reading::Invalid;
+            return WordReading::Invalid;
         }
         if octets[1] / 4 != channel {
-            return Reading::Address;
+            return WordReading::Address;
         }
-        Reading::Word(all_fields(octets))
+        WordReading::Word(all_fields(octets))
     }
 }
 
@@ -147,12 +148,12 @@ fn valid(octets: &[u8]) -> bool
 }
 
 // The word with the fields that are not judged.
-fn all_fields(octets: &[u8]) -> Received
+fn all_fields(octets: &[u8]) -> ReceivedWord
     requires { ⌜ length (now octets) ≡ 4 ⌝ }
     ensures { λ r. ⌜ r ≡ receivedOf (now (octets .entry)) ⌝ }
 {
     let word = Clcw::word(octets);
-    Received {
+    ReceivedWord {
         word: word,
         status: octets[0] / 4 % 8,
         no_rf: octets[2] / 128 == 1,

@@ -1,4 +1,4 @@
--- A computed example of each outcome of reading and writing, and the exact needs 26 and 306.
+-- A computed example of each outcome of reading and of each refusal of writing, and document 01's exact needs 26 and 306.
 use mathlib.Core.Path.{_≡_, refl}
 use mathlib.Core.List.{List, [], _∷_, _++_}
 use Prim.Native.Nat.{ℕ}
@@ -13,11 +13,8 @@ use Rattle.cltu.specs.Cltu.{filled, encoded, informationFor, cltuOf, nee
 abbrev pub frame : List ℕ
 frame = 0x30 ∷ 0x01 ∷ 0x00 ∷ 0x07 ∷ 0x00 ∷ 0x00 ∷ 0x12 ∷ 0x34 ∷ []
 
-abbrev pub readNumber : List ℕ → ℕ → ℕ
+abbrev readNumber : List ℕ → ℕ → ℕ
 readNumber input room = numberOf (answer (reading input room))
-
-abbrev pub writtenNumber : List ℕ → ℕ → ℕ
-writtenNumber octets room = numberOf (answer (writing octets room))
 
 -- done; no start; no block: eight octets 00 are no codeblock; no end; length; room
 pub readings :
@@ -30,13 +27,10 @@ pub readings :
 unfolding reading readingRun correctedIn informationIn goodRun startOf starts cltuOf informationFor encoded filled randomized octet later nextBit judged codeblockOf errorControl parity register shiftBits shiftBit
 readings = (refl, refl, refl, refl, refl, refl)
 
-pub writings :
-    (writtenNumber frame 26 ≡ 0)
-    × (writtenNumber (replicate 7 0) 306 ≡ 10)
-    × (writtenNumber (replicate 257 0) 400 ≡ 10)
-    × (writtenNumber frame 25 ≡ 11)
+-- length; room
+pub writings : (numberOf (answer (writing (replicate 7 0) 306)) ≡ 10) × (numberOf (answer (writing frame 25)) ≡ 11)
 unfolding writing
-writings = (refl, refl, refl, refl)
+writings = (refl, refl)
 
 pub needs : (need 8 ≡ 26) × (need 256 ≡ 306)
 needs = (refl, refl)

@@ -13,7 +13,7 @@ ghost use Rattle.cltu.specs.Answers.{readAnswer};
 
 // The octets handed out, the bad codeblock's offset and the count of corrected codeblocks; or document 01's refusal 1, 2 or 3
 // with its place, 10 or 11.
-pub enum Reading {
+pub enum CltuReading {
     Done {
         count: usize,
         place: usize,
@@ -86,25 +86,25 @@ fn unpack(input: &[u8], n: usize, sequence: &[u8], out: &mut [u8])
 }
 
 // Reads the codeblocks after a start sequence; the rest of the input stands at an offset.
-fn read_after(input: &[u8], offset: usize, out: &mut [u8]) -> Reading
+fn read_after(input: &[u8], offset: usize, out: &mut [u8]) -> CltuReading
     requires { ⌜ offset ≤ largestInput ⌝ }
     ensures answer { λ r. ⌜ readAnswer r ≡ answer (readingAfter offset (now (input .entry)) (length (now (out .entry)))) ⌝ }
     ensures memory { λ r. ⌜ now (out .exit) ≡ after (readingAfter offset (now (input .entry)) (length (now (out .entry)))) (now (out .entry)) ⌝ }
 {
     let n = good_run(input);
     if input.len() / 8 <= n {
-        return Reading::NoEnd(offset + 8 * n);
+        return CltuReading::NoEnd(offset + 8 * n);
     }
     if n == 0 {
-        return Reading::NoBlock(offset);
+        return CltuReading::NoBlock(offset);
     }
     if out.len() < 7 * n {
-        return Reading::Room;
+        return CltuReading::Room;
     }
     let mut sequence = [0u8; PERIOD];
     randomizer::sequence(&mut sequence);
     unpack(input, n, &sequence, out);
-    Reading::Done {
+    CltuReading::Done {
         count: 7 * n,
         place: offset + 8 * n,
         corrected: 0,
@@ -112,17 +112,17 @@ fn read_after(input: &[u8], offset: usize, out: &mut [u8]) -> Reading
 }
 
 // Reads the first CLTU of the input. A refusal changes nothing.
-pub fn read(input: &[u8], out: &mut [u8]) -> Reading
+pub fn read(input: &[u8], out: &mut [u8]) -> CltuReading
     ensures answer { λ r. ⌜ readAnswer r ≡ answer (reading (now (input .entry)) (length (now (out .entry)))) ⌝ }
     ensures memory { λ r. ⌜ now (out .exit) ≡ after (reading (now (input .entry)) (length (now (out .entry)))) (now (out .entry)) ⌝ }
 {
     let len = input.len();
     if LARGEST_INPUT < len {
-        return Reading::Length;
+        return CltuReading::Length;
     }
     let first = find_start(input);
     if len <= first {
-        return Reading::NoStart(len);
+        return CltuReading::NoStart(len);
     }
     let offset = first + 2;
     read_after(&input[offset..], offset, out)

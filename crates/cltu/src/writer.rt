@@ -14,7 +14,7 @@ ghost use Rattle.cltu.specs.Cltu.{codeblocks, need, informationFor, cltu
 ghost use Rattle.cltu.specs.Answers.{writtenAnswer};
 
 // The count of octets written, or document 01's refusal 10 or 11.
-pub enum Written {
+pub enum CltuWritten {
     Done(usize),
     Length,
     Room,
@@ -85,23 +85,23 @@ fn put(frame: &[u8], sequence: &[u8], out: &mut [u8], n: usize)
 }
 
 // Writes the CLTU of a frame of 8 to 256 octets. A refusal changes nothing.
-pub fn write(frame: &[u8], out: &mut [u8]) -> Written
+pub fn write(frame: &[u8], out: &mut [u8]) -> CltuWritten
     ensures answer { λ r. ⌜ writtenAnswer r ≡ answer (writing (now (frame .entry)) (length (now (out .entry)))) ⌝ }
     ensures memory { λ r. ⌜ now (out .exit) ≡ after (writing (now (frame .entry)) (length (now (out .entry)))) (now (out .entry)) ⌝ }
 {
     let n = frame.len();
     if n < SMALLEST_FRAME {
-        return Written::Length;
+        return CltuWritten::Length;
     }
     if LARGEST_FRAME < n {
-        return Written::Length;
+        return CltuWritten::Length;
     }
     let need = 2 + 8 * ((n + 6) / 7) + 8;
     if out.len() < need {
-        return Written::Room;
+        return CltuWritten::Room;
     }
     let mut sequence = [0u8; PERIOD];
     randomizer::sequence(&mut sequence);
     put(frame, &sequence, out, need);
-    Written::Done(need)
+    CltuWritten::Done(need)
 }

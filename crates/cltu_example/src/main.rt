@@ -1,6 +1,6 @@
 // Writes the CLTU of a small frame, reads it back, damages it and reads it again, and prints what each reading found.
-use cltu::reader::Reading;
-use cltu::writer::Written;
+use cltu::reader::CltuReading;
+use cltu::writer::CltuWritten;
 
 fn main() {
     // Unlock, to spacecraft 1 on virtual channel 0, with its FECF.
@@ -35,9 +35,9 @@ fn write(label: &[u8], frame: &[u8], output: &mut [u8]) {
     io::write_all(1, label);
     let written = cltu::writer::write(frame, output);
     match written {
-        Written::Done(count) => done(count),
-        Written::Length => refusal(10, b"length"),
-        Written::Room => refusal(11, b"room"),
+        CltuWritten::Done(count) => done(count),
+        CltuWritten::Length => refusal(10, b"length"),
+        CltuWritten::Room => refusal(11, b"room"),
     }
     io::write_all(1, b"\n");
 }
@@ -47,16 +47,16 @@ fn read(label: &[u8], input: &[u8], output: &mut [u8]) {
     io::write_all(1, label);
     let found = cltu::reader::read(input, output);
     match found {
-        Reading::Done { count, place, .. } => {
+        CltuReading::Done { count, place, .. } => {
             done(count);
             io::write_all(1, b", bad codeblock (the tail) at ");
             io::print_decimal(1, place as u64);
         }
-        Reading::NoStart(place) => refusal_at(1, b"no start", place),
-        Reading::NoBlock(place) => refusal_at(2, b"no block", place),
-        Reading::NoEnd(place) => refusal_at(3, b"no end", place),
-        Reading::Length => refusal(10, b"length"),
-        Reading::Room => refusal(11, b"room"),
+        CltuReading::NoStart(place) => refusal_at(1, b"no start", place),
+        CltuReading::NoBlock(place) => refusal_at(2, b"no block", place),
+        CltuReading::NoEnd(place) => refusal_at(3, b"no end", place),
+        CltuReading::Length => refusal(10, b"length"),
+        CltuReading::Room => refusal(11, b"room"),
     }
     io::write_all(1, b"\n");
 }

@@ -12,8 +12,8 @@ use Rattle.base.proofs.Lists.{rest}
 use Rattle.memory.specs.Placed.{placed}
 use Rattle.memory.proofs.Laws.{placed-fits, placed-behind}
 use Rattle.text.specs.Answers.{written, writtenAnswer}
-use Rattle.text.specs.declared.Written.{Written}
-use Rattle.text.specs.declared.Written.the-variants.{Done, Room}
+use Rattle.text.specs.declared.NumberWritten.{NumberWritten}
+use Rattle.text.specs.declared.NumberWritten.the-variants.{Done, Room}
 use Rattle.text.proofs.Outcomes.{written-done, told-done, never-short}
 
 module _ (row : List ℕ) (at : ℕ) where
@@ -66,7 +66,7 @@ module _ (row : List ℕ) (at : ℕ) where
         ∙ sym (placed-fits row at d h)
 
     -- and its answer
-    module _ (w : Written) (e : writtenAnswer w ≡ answer (written d (length (midOf at (length row - at) row)))) where
+    module _ (w : NumberWritten) (e : writtenAnswer w ≡ answer (written d (length (midOf at (length row - at) row)))) where
       part-room : length d ≤ length (midOf at (length row - at) row)
       part-room = omega (arith, ap length (rest row at) ∙ length-drop at row)
 

@@ -7,7 +7,7 @@ use farm::Event;
 use farm::Receiver;
 use farm::Variables;
 use text::NEWLINE;
-use text::Written;
+use text::NumberWritten;
 ghost use mathlib.Core.Path.{_≡_};
 ghost use Prim.Native.Nat.{_+_, _*_, _≤_};
 ghost use lib.ListN.{length};
@@ -64,7 +64,7 @@ pub struct Console {
 
 // What feeding gives: the count of octets written, or 11, and the console next.
 pub struct Fed {
-    pub written: Written,
+    pub written: NumberWritten,
     pub console: Console,
 }
 
@@ -80,8 +80,8 @@ fn put(output: Output, out: &mut [u8], at: usize) -> usize
     ensures { λ r. ⌜ (now (out .exit) ≡ placed (now (out .entry)) at (textOf output)) × (r ≡ at + length (textOf output)) × (r ≤ at + rowRoom) ⌝ }
 {
     match output.write(&mut out[at..]) {
-        Written::Done(n) => at + n,
-        Written::Room => at,
+        NumberWritten::Done(n) => at + n,
+        NumberWritten::Room => at,
     }
 }
 
@@ -184,7 +184,7 @@ impl Console {
     {
         if out.len() / ROW_ROOM < chunk.len() {
             return Fed {
-                written: Written::Room,
+                written: NumberWritten::Room,
                 console: self,
             };
         }
@@ -192,19 +192,19 @@ impl Console {
         let console = place.console;
         let at = place.at;
         Fed {
-            written: Written::Done(at),
+            written: NumberWritten::Done(at),
             console: console,
         }
     }
 
     // The end of the input: writes the row of a last line without a newline, 20 octets at the most. A refusal changes nothing.
-    pub fn finish(self, out: &mut [u8]) -> Written
+    pub fn finish(self, out: &mut [u8]) -> NumberWritten
         ensures answer { λ r. ⌜ writtenAnswer r ≡ answer (written (lastText (progressOf self)) (length (now (out .entry)))) ⌝ }
         ensures memory { λ r. ⌜ now (out .exit) ≡ after (written (lastText (progressOf self)) (length (now (out .entry)))) (now (out .entry)) ⌝ }
         ensures most { λ r. ⌜ length (lastText (progressOf self)) ≤ rowRoom ⌝ }
     {
         if self.len == 0 {
-            return Written::Done(0);
+            return NumberWritten::Done(0);
         }
         let turn = self.end();
         let output = turn.output;

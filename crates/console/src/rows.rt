@@ -5,8 +5,8 @@ use farm::Event;
 use farm::State;
 use farm::Variables;
 use text::NEWLINE;
+use text::NumberWritten;
 use text::TAB;
-use text::Written;
 ghost use mathlib.Core.Path.{_≡_};
 ghost use mathlib.Core.List.{[], _∷_, _++_};
 ghost use Prim.Native.Nat.{_+_, _≤_};
@@ -21,19 +21,19 @@ ghost use Rattle.console.specs.Console.{eventText, stateText, flagText, 
 ghost use Rattle.console.specs.Feed.{rowRoom};
 
 // Octets at the front of the output, where they fit.
-fn send(octets: &[u8], out: &mut [u8]) -> Written
+fn send(octets: &[u8], out: &mut [u8]) -> NumberWritten
     ensures answer { λ r. ⌜ writtenAnswer r ≡ answer (written (now (octets .entry)) (length (now (out .entry)))) ⌝ }
     ensures memory { λ r. ⌜ now (out .exit) ≡ after (written (now (octets .entry)) (length (now (out .entry)))) (now (out .entry)) ⌝ }
 {
     if out.len() < octets.len() {
-        return Written::Room;
+        return NumberWritten::Room;
     }
     memory::put(out, 0, octets);
-    Written::Done(octets.len())
+    NumberWritten::Done(octets.len())
 }
 
 // Writes the header. A refusal changes nothing.
-pub fn header(out: &mut [u8]) -> Written
+pub fn header(out: &mut [u8]) -> NumberWritten
     ensures answer { λ r. ⌜ writtenAnswer r ≡ answer (written headerText (length (now (out .entry)))) ⌝ }
     ensures memory { λ r. ⌜ now (out .exit) ≡ after (written headerText (length (now (out .entry)))) (now (out .entry)) ⌝ }
 {
@@ -80,12 +80,12 @@ fn put_number(row: &mut [u8], at: usize, number: u8, end: u8) -> usize
 {
     let part = &mut row[at..];
     match text::write(number as u64, part) {
-        Written::Done(n) => {
+        NumberWritten::Done(n) => {
             let e = at + n;
             row[e] = end;
             e + 1
         }
-        Written::Room => at,
+        NumberWritten::Room => at,
     }
 }
 
@@ -136,7 +136,7 @@ fn compose(row: &mut [u8], output: Output) -> usize
 
 impl Output {
     // Writes the octets of what is written for a line, 20 at the most. A refusal changes nothing.
-    pub fn write(self, out: &mut [u8]) -> Written
+    pub fn write(self, out: &mut [u8]) -> NumberWritten
         ensures answer { λ r. ⌜ writtenAnswer r ≡ answer (written (textOf self) (length (now (out .entry)))) ⌝ }
         ensures memory { λ r. ⌜ now (out .exit) ≡ after (written (textOf self) (length (now (out .entry)))) (now (out .entry)) ⌝ }
         ensures most { λ r. ⌜ length (textOf self) ≤ rowRoom ⌝ }

@@ -18,7 +18,7 @@ use Rattle.fop_actions.specs.declared.Control.the-variants as control
 use Rattle.fop_actions.specs.declared.Handed.{Handed}
 use Rattle.fop_actions.specs.declared.Handed.the-variants as handed
 use Rattle.fop_actions.specs.declared.Response.the-variants as response
-use Rattle.fop_actions.specs.declared.Sender.{Sender}
+use Rattle.fop_actions.specs.declared.SenderState.{SenderState}
 use Rattle.fop_actions.specs.declared.Work.{Work}
 use Rattle.fop_actions.specs.Actions as act
 use Rattle.fop_actions.specs.Parts.{withSettings, withVariables, withQueues, withTold}
@@ -205,6 +205,6 @@ rows E102 t = refl
 rows E103 t = refl
 rows E104 t = refl
 
-pub no-bypass : (e : FopEvent) (n l : ℕ) (s : Sender) → eqb (eventNumber e) 21 ≡ false → Unbypassed (rowOf e n l (begun s))
+pub no-bypass : (e : FopEvent) (n l : ℕ) (s : SenderState) → eqb (eventNumber e) 21 ≡ false → Unbypassed (rowOf e n l (begun s))
 unfolding rowOf begun noneTold
 no-bypass e n l s t = in-cell (cell78 (table78 e) (stateOf (s .state))) n l (begun s) (every-in (λ x. otherCell (cell78 (table78 e) (stateOf x))) (rows e t) (s .state)) refl

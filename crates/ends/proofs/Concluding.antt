@@ -18,7 +18,7 @@ use Rattle.fop.specs.Table.{FopEvent}
 use Rattle.fop.specs.Variables as machine
 use Rattle.fop.specs.Variables.{Fop}
 use Rattle.fop.specs.Answers.{Answer, Run, runOf, octetsDown, room, answered, refused}
-use Rattle.fop_actions.specs.declared.Sender.{Sender}
+use Rattle.fop_actions.specs.declared.SenderState.{SenderState}
 use Rattle.fop_actions.specs.declared.Work.{Work}
 use Rattle.fop_actions.specs.Actions.{responsesWith}
 use Rattle.fop_actions.specs.Start.{begun, senderOf}
@@ -50,7 +50,7 @@ down-is (some y) old h =
     ∙ ap (λ (z : List ℕ). some z) (take-append-seam y (drop (length y) old))
 
 -- the refusals, by their numbers
-module _ (s : Sender) (store output : List ℕ) where
+module _ (s : SenderState) (store output : List ℕ) where
   abbrev Refuses : ℕ → Type 0
   Refuses number = answerBy (refusedStep number s store output) ≡ refused number (fopOf (begun s) store)
 
@@ -70,7 +70,7 @@ module _ (s : Sender) (store output : List ℕ) where
   unfolding sender.refusing eventOf begun responsesWith
   refuses-12 = refl
 
-module _ (own : Own) (event : Option FopEvent) (k : ℕ) (numbered : eventOf k ≡ event) (o : List ℕ) (n : ℕ) (s : Sender) (store new : List ℕ) (w : Work)
+module _ (own : Own) (event : Option FopEvent) (k : ℕ) (numbered : eventOf k ≡ event) (o : List ℕ) (n : ℕ) (s : SenderState) (store new : List ℕ) (w : Work)
     (m : machine.Work) (lent : ℕ) (is : m ≡ view event o n (m .confirmed) (m .denied) w new) (c : runOf (m .confirmed) ≡ runTold (w .told .confirmed))
     (d : runOf (m .denied) ≡ runTold (w .told .denied)) (after : Good own (senderOf w) new) (before : Good own s store)
     (some-octets : SomeOctets (octetsDown own (m .frames))) where

@@ -20,18 +20,18 @@ use Rattle.fop_actions.proofs.SentQueue.{without-none}
 use Rattle.clcw.specs.Clcw.{virtualChannel, isValid, wordOf}
 use Rattle.clcw.specs.Answers.{readingOf, receivedOf}
 use Rattle.clcw.specs.declared.Clcw.{Clcw}
-use Rattle.clcw.specs.declared.Reading.{Reading}
-use Rattle.clcw.specs.declared.Reading.the-variants as reading
+use Rattle.clcw.specs.declared.WordReading.{WordReading}
+use Rattle.clcw.specs.declared.WordReading.the-variants as reading
 use Rattle.clcw.proofs.Word.{word-is}
-use Rattle.fop.specs.Units.{Own, Word, Heard, invalid, heard, readWord, areOctets, legal}
+use Rattle.fop.specs.Units.{Own, Word, WordReceived, invalid, wordReceived, readWord, areOctets, legal}
 use Rattle.fop.specs.Table.{FopEvent, E15, E18, E19, E20, E21, E22, E39, E103}
 use Rattle.fop.specs.Variables as machine
 use Rattle.fop.specs.Variables.{Fop}
 use Rattle.fop.specs.Machine.{fopDo}
-use Rattle.fop.specs.Events.{when, first, SenderEvent, requestAd, requestBd, tick, lower, directive, wordArrives, isEmpty, seen, wordLines, wordEvent, expiryLines, validDirective, directiveLines, directiveEvent, work, fopAd, fopBd, fopTick, fopExpiry, fopLower, fopDirective, fopHeard, fopWord}
+use Rattle.fop.specs.Events.{when, first, SenderEvent, requestAd, requestBd, tick, lower, directive, wordArrives, isEmpty, seen, wordLines, wordEvent, expiryLines, validDirective, directiveLines, directiveEvent, work, fopAd, fopBd, fopTick, fopExpiry, fopLower, fopDirective, fopReceived, fopWord}
 use Rattle.fop.specs.Events as fop
 use Rattle.fop.specs.Answers.{judged, otherRefusal, refused}
-use Rattle.fop_actions.specs.declared.Sender.{Sender}
+use Rattle.fop_actions.specs.declared.SenderState.{SenderState}
 use Rattle.fop_actions.specs.declared.Work.{Work}
 use Rattle.fop_actions.specs.Start.{begun, noneTold, senderOf}
 use Rattle.fop_actions.specs.View.{unitAt, fopOf, without}
@@ -44,11 +44,12 @@ use Rattle.session.proofs.Octets.{octets-are}
 use Rattle.sender.specs.Answers.{Step, stepBy, refusedStep}
 use Rattle.sender.specs.Limits.{smallestStore}
 use Rattle.sender.specs.Events.{handedWriting, servedBy, served, offeredBy, bypassedBy, requestAdOf, requestBdOf, directiveOf, ticked, tickOf, lowerLayerOf, wordBy, controlWordOf}
-use Rattle.ends.specs.Ours.{Held, stepOf, lowerAnswer, answerBy, lentOutput}
+use Rattle.ends.specs.Ours.{Held, stepOf, lowerAnswer, answerBy, lentOutput, reads}
+use Rattle.ends.specs.Does.{Does}
 use Rattle.ends.proofs.Numbers.{row-event}
 use Rattle.ends.proofs.Writing.{Fits, fitting}
 use Rattle.ends.proofs.Concluding.{Agrees, concludes, refuses-7, refuses-10, refuses-12}
-use Rattle.ends.proofs.Judged.{Does, agreed, refuses, refused-keeps, refused-good}
+use Rattle.ends.proofs.Judged.{agreed, refuses, refused-keeps, refused-good}
 use Rattle.ends.proofs.Served.{serves}
 use Rattle.ends.proofs.Requested.{offers, rejects-ad, rejects-bd, bypasses-down, lengthless}
 use Rattle.ends.proofs.Meets.{word-meets, directive-meets, expiry-meets, valid-not-40, invalid-is-40}
@@ -57,23 +58,23 @@ use Rattle.ends.proofs.Meets.{word-meets, directive-meets, expiry-meets
 abbrev plain : FopEvent → Bool
 plain e = both (not (isOffering (brings e))) (not (eqb (eventNumber e) 21))
 
-plain-quiet : (e : FopEvent) → plain e ≡ true → isOffering (brings e) ≡ false
-plain-quiet e p = not-true _ (both-left _ _ p)
+plain-not-offering : (e : FopEvent) → plain e ≡ true → isOffering (brings e) ≡ false
+plain-not-offering e p = not-true _ (both-left _ _ p)
 
 plain-unbypassed : (e : FopEvent) → plain e ≡ true → eqb (eventNumber e) 21 ≡ false
 plain-unbypassed e p = not-true _ (both-right (not (isOffering (brings e))) _ p)
 
 -- the store that is lent is long enough
-stored : (own : Own) (s : Sender) (store : List ℕ) → Good own s store → leb smallestStore (length store) ≡ true
+stored : (own : Own) (s : SenderState) (store : List ℕ) → Good own s store → leb smallestStore (length store) ≡ true
 unfolding begun
 stored own s store g = le-leb smallestStore (length store) (g .formed .room)
 
 -- octets as they are read at our channel
-yes-heard : (own : Own) (octets : List ℕ) → areOctets octets ≡ true → (r : Reading) → readingOf octets (own .channel) ≡ r → readWord own octets ≡ heard r
+yes-received : (own : Own) (octets : List ℕ) → areOctets octets ≡ true → (r : WordReading) → readingOf octets (own .channel) ≡ r → readWord own octets ≡ wordReceived r
 unfolding readWord
-yes-heard own octets t r q = ap (λ (b : Bool). heard (pick b (readingOf octets (own .channel)) reading.Length)) t ∙ ap heard q
+yes-received own octets t r q = ap (λ (b : Bool). wordReceived (pick b (readingOf octets (own .channel)) reading.Length)) t ∙ ap wordReceived q
 
-module _ (own : Own) (s : Sender) (store : List ℕ) (lent : ℕ) (good : Good own s store) where
+module _ (own : Own) (s : SenderState) (store : List ℕ) (lent : ℕ) (good : Good own s store) where
   abbrev f : Fop
   f = fopOf (begun s) store
 
@@ -81,14 +82,14 @@ module _ (own : Own) (s : Sender) (store : List ℕ) (lent : ℕ) (good : Good o
   output = lentOutput lent
 
   -- an event of the table that is served, of the state g
-  by-row : (e : FopEvent) (n : ℕ) (g : Sender) → Good own g store → Meets e [] n g → g .queues ≡ s .queues → plain e ≡ true
+  by-row : (e : FopEvent) (n : ℕ) (g : SenderState) → Good own g store → Meets e [] n g → g .queues ≡ s .queues → plain e ≡ true
       → Agrees own lent f (fopDo e [] n (fopOf (begun g) store)) (served (eventNumber e) n s g store output)
   unfolding served
   by-row e n g by-good meets q p =
       subst (λ (x : Step). Agrees own lent f (fopDo e [] n (fopOf (begun g) store)) x)
       (sym (ap (λ (t : Bool). must t (refusedStep 11 s store output) (servedBy (eventNumber e) s (rowNumbered (eventNumber e) n 0 (begun g)) store output)) (stored own s store good)
       ∙ ap (λ (w : Work). servedBy (eventNumber e) s w store output) (row-event e n 0 (begun g))))
-      (serves own e n s g store lent good by-good meets q (plain-quiet e p) (plain-unbypassed e p))
+      (serves own e n s g store lent good by-good meets q (plain-not-offering e p) (plain-unbypassed e p))
 
   refused-by : (e : SenderEvent) (j : ℕ) → judged own e ≡ j → eqb j 0 ≡ false → answerBy (refusedStep j s store output) ≡ refused j f
       → Does own lent e f (refusedStep j s store output)
@@ -197,7 +198,7 @@ module _ (own : Own) (s : Sender) (store : List ℕ) (lent : ℕ) (good : Good o
         by false = passes
 
   -- Control words.
-  abbrev reportIn : Reading → ℕ
+  abbrev reportIn : WordReading → ℕ
   reportIn (reading.Word r) = r .word .report
   reportIn reading.Invalid = 0
   reportIn reading.Address = 0
@@ -223,28 +224,28 @@ module _ (own : Own) (s : Sender) (store : List ℕ) (lent : ℕ) (good : Good o
   word-plain w = is-true _ (first-all plain (wordLines (seen w (variablesOf s))) E103 tt)
 
   -- by what the octets are read as
-  heard-does : (octets : List ℕ) → areOctets octets ≡ true → (r : Reading) → readingOf octets (own .channel) ≡ r → reportIn r < 256
+  received-does : (octets : List ℕ) → areOctets octets ≡ true → (r : WordReading) → readingOf octets (own .channel) ≡ r → reportIn r < 256
       → Does own lent (wordArrives octets) f (wordBy r s store output)
-  unfolding wordNumber work fopHeard fopWord judged readWord begun
-  heard-does octets t (reading.Word r) q o =
-      let h : readWord own octets ≡ heard (reading.Word r) = yes-heard own octets t (reading.Word r) q in
+  unfolding wordNumber work fopReceived fopWord judged readWord begun
+  received-does octets t (reading.Word r) q o =
+      let h : readWord own octets ≡ wordReceived (reading.Word r) = yes-received own octets t (reading.Word r) q in
       agreed own lent (wordArrives octets) f (wordBy (reading.Word r) s store output) (ap otherRefusal h)
-      (subst (λ (x : Heard). Agrees own lent f (fopHeard x f) (wordBy (reading.Word r) s store output)) (sym h)
+      (subst (λ (x : WordReceived). Agrees own lent f (fopReceived x f) (wordBy (reading.Word r) s store output)) (sym h)
       (by-row (wordEvent (seen (told (r .word)) (variablesOf s))) (r .word .report) s good (word-meets (told (r .word)) s o) refl (word-plain (told (r .word)))))
-  heard-does octets t reading.Invalid q o =
-      let h : readWord own octets ≡ invalid = yes-heard own octets t reading.Invalid q in
+  received-does octets t reading.Invalid q o =
+      let h : readWord own octets ≡ invalid = yes-received own octets t reading.Invalid q in
       agreed own lent (wordArrives octets) f (wordBy reading.Invalid s store output) (ap otherRefusal h)
-      (subst (λ (x : Heard). Agrees own lent f (fopHeard x f) (wordBy reading.Invalid s store output)) (sym h) (by-row E15 0 s good tt refl refl))
-  heard-does octets t reading.Address q o =
-      refused-by (wordArrives octets) 7 (ap otherRefusal (yes-heard own octets t reading.Address q)) refl (refuses-7 s store output)
-  heard-does octets t reading.Length q o =
-      refused-by (wordArrives octets) 10 (ap otherRefusal (yes-heard own octets t reading.Length q)) refl (refuses-10 s store output)
+      (subst (λ (x : WordReceived). Agrees own lent f (fopReceived x f) (wordBy reading.Invalid s store output)) (sym h) (by-row E15 0 s good tt refl refl))
+  received-does octets t reading.Address q o =
+      refused-by (wordArrives octets) 7 (ap otherRefusal (yes-received own octets t reading.Address q)) refl (refuses-7 s store output)
+  received-does octets t reading.Length q o =
+      refused-by (wordArrives octets) 10 (ap otherRefusal (yes-received own octets t reading.Length q)) refl (refuses-10 s store output)
 
   pub word-does : (octets : List ℕ) → areOctets octets ≡ true → Does own lent (wordArrives octets) f (controlWordOf octets s store output)
   unfolding controlWordOf
   word-does octets t =
       subst (λ (c : ℕ). Does own lent (wordArrives octets) f (wordBy (readingOf octets c) s store output)) (sym (good .channel))
-      (heard-does octets t (readingOf octets (own .channel)) refl (report-octet octets (own .channel) t))
+      (received-does octets t (readingOf octets (own .channel)) refl (report-octet octets (own .channel) t))
 
   -- Requests.
   legal-fits : (o : List ℕ) → leb 1 (length o) ≡ true → leb (length o) largestUnit ≡ true → Fits o
@@ -338,14 +339,14 @@ module _ (own : Own) (s : Sender) (store : List ℕ) (lent : ℕ) (good : Good o
   unfolding judged readWord
   word-octets octets true t = word-does octets t
   word-octets octets false t =
-      refused-by (wordArrives octets) 10 (ap (λ (b : Bool). otherRefusal (heard (pick b (readingOf octets (own .channel)) reading.Length))) t) refl (refuses-10 s store output)
+      refused-by (wordArrives octets) 10 (ap (λ (b : Bool). otherRefusal (wordReceived (pick b (readingOf octets (own .channel)) reading.Length))) t) refl (refuses-10 s store output)
 
   pub any-word-does : (octets : List ℕ) → Does own lent (wordArrives octets) f (pick (areOctets octets) (controlWordOf octets s store output) (refusedStep 10 s store output))
   any-word-does octets = word-octets octets (areOctets octets) refl
 
 -- every event
 pub does : (own : Own) (e : SenderEvent) (lent : ℕ) (x : Held) → Good own (x .sender .fop) (x .store)
-    → Does own lent e (fopOf (begun (x .sender .fop)) (x .store)) (stepOf e (lentOutput lent) x)
+    → Does own lent e (reads x) (stepOf e (lentOutput lent) x)
 unfolding stepOf
 does own (requestAd o) lent x g = ad-does own (x .sender .fop) (x .store) lent g o
 does own (requestBd o) lent x g = bd-does own (x .sender .fop) (x .store) lent g o

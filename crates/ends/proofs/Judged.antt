@@ -11,20 +11,15 @@ use Rattle.fop.specs.Variables as machine
 use Rattle.fop.specs.Variables.{Fop}
 use Rattle.fop.specs.Events.{SenderEvent, work}
 use Rattle.fop.specs.Answers.{Answer, octetsDown, room, needed, judged, senderRefusal, senderAnswer, senderNext, answered, refused}
-use Rattle.fop_actions.specs.declared.Sender.{Sender}
+use Rattle.fop_actions.specs.declared.SenderState.{SenderState}
 use Rattle.fop_actions.specs.Start.{begun}
 use Rattle.fop_actions.specs.View.{fopOf}
 use Rattle.fop_view.specs.State.{Good}
 use Rattle.sender.specs.Answers as sender
 use Rattle.sender.specs.Answers.{Step, refusedStep}
 use Rattle.ends.specs.Ours.{answerBy}
+use Rattle.ends.specs.Does.{Does}
 use Rattle.ends.proofs.Concluding.{Agrees}
-
--- a step of our sender is what the table machine does at the event
-pub record Does (own : Own) (lent : ℕ) (e : SenderEvent) (f : Fop) (x : Step) : Type 0 where
-  pub answer : answerBy x ≡ senderAnswer own e lent f
-  pub next : fopOf (begun (x .answer .next .fop)) (x .store) ≡ senderNext own e lent f
-  pub good : Good own (x .answer .next .fop) (x .store)
 
 -- the refusal, by whether the frame fits and how the event was judged: j, or 11, or 0
 abbrev number : Bool → ℕ → ℕ
@@ -75,7 +70,7 @@ module _ (own : Own) (lent : ℕ) (e : SenderEvent) (f : Fop) where
       }
 
 -- a refused step keeps sender and store
-module _ (own : Own) (s : Sender) (store output : List ℕ) (number : ℕ) where
+module _ (own : Own) (s : SenderState) (store output : List ℕ) (number : ℕ) where
   pub refused-keeps : fopOf (begun (refusedStep number s store output .answer .next .fop)) (refusedStep number s store output .store) ≡ fopOf (begun s) store
   unfolding sender.refusing
   refused-keeps = refl

@@ -15,7 +15,7 @@ use Rattle.fop.specs.Limits.{largestK, largestTransmissionLimit, largestTimer, 
 use Rattle.fop.specs.Units.{Word}
 use Rattle.fop.specs.Table.{FopEvent, E18, E25, E26, E27, E28, E39, E40, E103}
 use Rattle.fop.specs.Events.{Line, when, first, seen, wordLines, wordEvent, expiryLines, validDirective, directiveLines, directiveEvent}
-use Rattle.fop_actions.specs.declared.Sender.{Sender}
+use Rattle.fop_actions.specs.declared.SenderState.{SenderState}
 use Rattle.fop_actions.specs.Start.{begun}
 use Rattle.fop_events.specs.Events.{eventNumber, variablesOf}
 use Rattle.fop_view.specs.Rows.{acknowledging, Needed, Meets}
@@ -32,7 +32,7 @@ first-each P [] e each last = last
 first-each P (when c x ∷ more) e each last = by-pick P c (each .0) (λ t. first-each P more e (each .1) last)
 
 -- Control words.
-module _ (w : Word) (s : Sender) (octet : w .nr < 256) where
+module _ (w : Word) (s : SenderState) (octet : w .nr < 256) where
   abbrev WordMeets : FopEvent → Type 0
   WordMeets e = Meets e [] (w .nr) s
 
@@ -60,7 +60,7 @@ module _ (w : Word) (s : Sender) (octet : w .nr < 256) where
   word-any true t = by-pick WordMeets (w .lockout) (λ h. tt) (λ h. by-pick WordMeets above (λ k. tt) (λ k. absurd (apart (sym k ∙ t))))
   word-any false t = word-in-order t
 
-pub word-meets : (w : Word) (s : Sender) → w .nr < 256 → Meets (wordEvent (seen w (variablesOf s))) [] (w .nr) s
+pub word-meets : (w : Word) (s : SenderState) → w .nr < 256 → Meets (wordEvent (seen w (variablesOf s))) [] (w .nr) s
 unfolding wordEvent
 word-meets w s octet = word-any w s octet _ refl
 
@@ -69,7 +69,7 @@ abbrev past : List Line → List Line
 past [] = []
 past (l ∷ more) = more
 
-module _ (d v : ℕ) (s : Sender) where
+module _ (d v : ℕ) (s : SenderState) where
   abbrev validEvent : FopEvent
   validEvent = first (past (directiveLines d v (variablesOf s))) E39
 
@@ -77,12 +77,12 @@ module _ (d v : ℕ) (s : Sender) where
   unfolding directiveEvent
   valid-event valid = no _ E40 validEvent (ap not valid)
 
-pub valid-not-40 : (d v : ℕ) (s : Sender) → validDirective d v ≡ true → eqb (eventNumber (directiveEvent d v (variablesOf s))) 40 ≡ false
+pub valid-not-40 : (d v : ℕ) (s : SenderState) → validDirective d v ≡ true → eqb (eventNumber (directiveEvent d v (variablesOf s))) 40 ≡ false
 valid-not-40 d v s valid =
     ap (λ (e : FopEvent). eqb (eventNumber e) 40) (valid-event d v s valid)
     ∙ not-true _ (is-true _ (first-all (λ e. not (eqb (eventNumber e) 40)) (past (directiveLines d v (variablesOf s))) E39 tt))
 
-pub invalid-is-40 : (d v : ℕ) (s : Sender) → validDirective d v ≡ false → directiveEvent d v (variablesOf s) ≡ E40
+pub invalid-is-40 : (d v : ℕ) (s : SenderState) → validDirective d v ≡ false → directiveEvent d v (variablesOf s) ≡ E40
 unfolding directiveEvent
 invalid-is-40 d v s invalid = yes _ _ _ (ap not invalid)
 
@@ -98,7 +98,7 @@ octet-below v h = omega (arith, leb→le v largestNumber h)
 within-limits : (v most : ℕ) → T (leb 1 v && leb v most) → (1 ≤ v) × (v ≤ most)
 within-limits v most h = (leb→le 1 v (and-l (leb 1 v) (leb v most) h), leb→le v most (and-r (leb 1 v) (leb v most) h))
 
-module _ (v : ℕ) (s : Sender) (serving : s .variables .«suspend_state» ≡ 0) where
+module _ (v : ℕ) (s : SenderState) (serving : s .variables .«suspend_state» ≡ 0) where
   abbrev DirectiveMeets : FopEvent → Type 0
   DirectiveMeets e = Meets e [] v s
 
@@ -128,14 +128,14 @@ module _ (v : ℕ) (s : Sender) (serving : s .variables .«suspend_state» ≡ 0
       also eqb→eq v 0
       also tt)
 
-pub directive-meets : (d v : ℕ) (s : Sender) → validDirective d v ≡ true → s .variables .«suspend_state» ≡ 0
+pub directive-meets : (d v : ℕ) (s : SenderState) → validDirective d v ≡ true → s .variables .«suspend_state» ≡ 0
     → Meets (directiveEvent d v (variablesOf s)) [] v s
 directive-meets d v s valid serving =
     let h : T (validDirective d v) = subst T (sym valid) tt in
     subst (λ (e : FopEvent). Meets e [] v s) (sym (valid-event d v s valid)) (valid-meets v s serving d (number-below d v h) h)
 
 -- The expiry of the timer, with Timeout_Type 0.
-pub expiry-meets : (s : Sender) → s .settings .«timeout_type» ≡ 0
+pub expiry-meets : (s : SenderState) → s .settings .«timeout_type» ≡ 0
     → Meets (first (expiryLines (ltb (s .variables .«transmission_count») (s .settings .«transmission_limit»)) (eqb (s .settings .«timeout_type») 0)) E18) [] 0 s
 expiry-meets s alerting = by _ _ (eq-eqb _ 0 alerting) (ltb-true _ _) where
   by : (a b : Bool) → b ≡ true → (a ≡ true → s .variables .«transmission_count» < s .settings .«transmission_limit») → Meets (first (expiryLines a b) E18) [] 0 s

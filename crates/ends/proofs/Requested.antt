@@ -20,7 +20,7 @@ use Rattle.fop.specs.Machine.{fopDo}
 use Rattle.fop_actions.specs.declared.Handed.{Handed}
 use Rattle.fop_actions.specs.declared.Handed.the-variants as handed
 use Rattle.fop_actions.specs.declared.State.{State}
-use Rattle.fop_actions.specs.declared.Sender.{Sender}
+use Rattle.fop_actions.specs.declared.SenderState.{SenderState}
 use Rattle.fop_actions.specs.declared.Work.{Work}
 use Rattle.fop_actions.specs.Actions as act
 use Rattle.fop_actions.specs.Parts.{withVariables, withTold}
@@ -44,7 +44,7 @@ use Rattle.ends.proofs.Bypass.{bypasses, no-bypass}
 use Rattle.ends.proofs.Shown.{held-fits, shown}
 
 -- What rows E19 (out of S1 to S3), E20, E21 and E22 hand down and confirm, by computing in each state.
-module _ (n l : ℕ) (s : Sender) where
+module _ (n l : ℕ) (s : SenderState) where
   abbrev inState : FopEvent → State → Work
   inState e x = doneCell (cell78 (table78 e) (stateOf x)) n l (begun s)
 
@@ -70,7 +70,7 @@ module _ (n l : ℕ) (s : Sender) where
   e22-none = in-states (λ x. Tells handed.None (inState E22 x)) (refl, refl) (refl, refl) (refl, refl) (refl, refl) (refl, refl) (refl, refl) (s .state)
 
 -- the rows of BD requests do not look at a length
-pub lengthless : (b : Bool) (n l k : ℕ) (s : Sender) → rowOf (first (when b E21 ∷ []) E22) n l (begun s) ≡ rowOf (first (when b E21 ∷ []) E22) n k (begun s)
+pub lengthless : (b : Bool) (n l k : ℕ) (s : SenderState) → rowOf (first (when b E21 ∷ []) E22) n l (begun s) ≡ rowOf (first (when b E21 ∷ []) E22) n k (begun s)
 unfolding rowOf table78 doneCell doneAll done begun
 lengthless true n l k s = in-states (λ x. inState n l s E21 x ≡ inState n k s E21 x) refl refl refl refl refl refl (s .state)
 lengthless false n l k s = in-states (λ x. inState n l s E22 x ≡ inState n k s E22 x) refl refl refl refl refl refl (s .state)
@@ -89,7 +89,7 @@ isNone (handed.SetVr n) = false
 same-store : (count : ℕ) (store : List ℕ) → count ≡ 0 → without count store ≡ store
 same-store count store z = ap (λ (k : ℕ). without k store) z ∙ without-none store
 
-module _ (own : Own) (o : List ℕ) (s : Sender) (store : List ℕ) (lent : ℕ) (good : Good own s store) (legal : Fits o) where
+module _ (own : Own) (o : List ℕ) (s : SenderState) (store : List ℕ) (lent : ℕ) (good : Good own s store) (legal : Fits o) where
   -- E19: the unit is added in S1 to S3
   abbrev w : Work
   w = rowOf E19 0 (length o) (begun s)
@@ -105,7 +105,7 @@ module _ (own : Own) (o : List ℕ) (s : Sender) (store : List ℕ) (lent : ℕ)
 
   few : s .queues .sent < places
   unfolding begun
-  few = omega (arith, good .formed .outstanding, good .formed .window)
+  few = omega (arith, good .formed .sent-most)
 
   fits-store : largestUnit * s .queues .sent + length o ≤ length store
   unfolding begun
@@ -162,7 +162,7 @@ module _ (own : Own) (o : List ℕ) (s : Sender) (store : List ℕ) (lent : ℕ)
   offers = shown own E19 o 0 s store new (unitOffered s w o store) lent w m good shows (carried (w .told .handed) refl)
 
 -- a row that hands nothing down and confirms nothing: E20, E22
-module _ (own : Own) (e : FopEvent) (o u : List ℕ) (l : ℕ) (s : Sender) (store : List ℕ) (lent : ℕ) (good : Good own s store)
+module _ (own : Own) (e : FopEvent) (o u : List ℕ) (l : ℕ) (s : SenderState) (store : List ℕ) (lent : ℕ) (good : Good own s store)
     (none-down : rowOf e 0 (length o) (begun s) .told .handed ≡ handed.None)
     (shows : Shows own e o 0 (rowOf e 0 (length o) (begun s)) store (fopDo e o 0 (fopOf (begun s) store))) where
   pub keeps : Agrees own lent (fopOf (begun s) store) (fopDo e o 0 (fopOf (begun s) store))
@@ -173,7 +173,7 @@ module _ (own : Own) (e : FopEvent) (o u : List ℕ) (l : ℕ) (s : Sender) (sto
       (subst (Carries own (s .settings) (good .spacecraft) (good .channel) (good .spacecraft-most) (good .channel-most) (rowOf e 0 (length o) (begun s) .queues .lengths) store o u lent)
       (sym none-down) tt)
 
-module _ (own : Own) (o : List ℕ) (s : Sender) (store : List ℕ) (lent : ℕ) (good : Good own s store) where
+module _ (own : Own) (o : List ℕ) (s : SenderState) (store : List ℕ) (lent : ℕ) (good : Good own s store) where
   -- a row that confirms nothing keeps the store
   kept : (e : FopEvent) → Meets e o 0 s → storeAfter e o s (rowOf e 0 (length o) (begun s)) store ≡ store
       → Shows own e o 0 (rowOf e 0 (length o) (begun s)) store (fopDo e o 0 (fopOf (begun s) store))

@@ -1,5 +1,5 @@
 -- The test by which a kept state is restored (crate sender, specs/State) holds of every state that a sender can reach, and a state of which it
--- holds is well-formed: the test is the conjunction of what every event keeps.
+-- holds is well-formed: the test is the conjunction of what every event keeps. A start with any two numbers is well-formed.
 use Prim.Native.Nat.{ℕ, zero, suc, _≤_, _<_}
 use mathlib.Core.Path.{_≡_, refl, sym, ap, subst}
 use mathlib.Core.Bool.{Bool, true, false, not, true≢false}
@@ -7,7 +7,7 @@ use mathlib.Core.List.{List, [], _∷_}
 use native.Mathlib.Omega.{arith}
 use borrow.Author.Tests.{leb-true, le-leb, eqb-true, eq-eqb, not-true}
 use lib.Dec.{leb, eqb}
-use lib.ListN.{length, getD}
+use lib.ListN.{length, getD, length-replicate}
 use Rattle.base.specs.Choice.{both}
 use Rattle.base.specs.Limits.{largestUnit, largestSpacecraft, largestChannel}
 use Rattle.base.specs.Modulo.{offset}
@@ -15,12 +15,13 @@ use Rattle.base.proofs.Tests.{both-left as left, both-right as right}
 use Rattle.fop.specs.Limits.{largestK, largestTransmissionLimit}
 use Rattle.fop.specs.Units.{Own}
 use Rattle.fop_actions.specs.declared.Queues.{Queues}
-use Rattle.fop_actions.specs.declared.Sender.{Sender}
+use Rattle.fop_actions.specs.declared.SenderState.{SenderState}
+use Rattle.fop_actions.specs.declared.Settings.{Settings}
 use Rattle.fop_actions.specs.declared.State.{State}
 use Rattle.fop_actions.specs.declared.State.the-variants as state
 use Rattle.fop_actions.specs.declared.Variables.{Variables}
 use Rattle.fop_actions.specs.Limits.{places}
-use Rattle.fop_actions.specs.Start.{begun}
+use Rattle.fop_actions.specs.Start.{startOf, begun}
 use Rattle.fop_rows.specs.Rows.{inMain, isFrame}
 use Rattle.fop_view.specs.State.{Good, held, withFrame}
 use Rattle.sender.specs.Limits.{smallestStore}
@@ -96,7 +97,7 @@ module _ (v : Variables) (q : Queues) where
   timed t = eqb-true (v .timer) 0 (right (not (isFrame (q .control))) _ (right (isEmpty q) _ t))
 
 -- A well-formed state passes the test.
-pub good-passes : (own : Own) (s : Sender) (store : List ℕ) → Good own s store → wellFormed s ≡ true
+pub good-passes : (own : Own) (s : SenderState) (store : List ℕ) → Good own s store → wellFormed s ≡ true
 unfolding wellFormed begun
 good-passes own s store g =
     joined _ _
@@ -108,7 +109,7 @@ good-passes own s store g =
     (joined _ _ (le-leb (s .settings .spacecraft) largestSpacecraft (omega (arith, g .spacecraft, g .spacecraft-most)))
     (le-leb (s .settings .channel) largestChannel (omega (arith, g .channel, g .channel-most)))))))))
     (joined _ _
-    (joined _ _ (le-leb (offset (s .variables .vs) (s .variables .nnr)) largestK (g .formed .window))
+    (joined _ _ (le-leb (s .queues .sent) largestK (g .formed .sent-most))
     (joined _ _ (le-leb (s .queues .sent) (offset (s .variables .vs) (s .variables .nnr)) (g .formed .outstanding))
     (joined _ _ (le-leb (s .queues .marked) (s .queues .sent) (g .formed .last))
     (joined _ _ (le-leb 1 (s .variables .«transmission_count») (g .count-least)) (eq-eqb (s .variables .«suspend_state») 0 (g .serving))))))
@@ -118,7 +119,7 @@ good-passes own s store g =
     (lengths-test (held (s .queues .sent) (s .queues .waiting)) (s .queues .lengths) (g .formed .units) (λ i h k. g .filled i h)))))
 
 -- what the types of the struct's fields see to
-pub record Sized (s : Sender) : Type 0 where
+pub record Sized (s : SenderState) : Type 0 where
   pub vs : s .variables .vs < 256
   pub nnr : s .variables .nnr < 256
   pub limit : s .settings .«transmission_limit» ≤ largestTransmissionLimit
@@ -126,7 +127,7 @@ pub record Sized (s : Sender) : Type 0 where
   pub lengths : length (s .queues .lengths) ≡ places
 
 -- A state that passes is well-formed, with a store that is long enough.
-pub passes-good : (s : Sender) (store : List ℕ) → Sized s → smallestStore ≤ length store → wellFormed s ≡ true
+pub passes-good : (s : SenderState) (store : List ℕ) → Sized s → smallestStore ≤ length store → wellFormed s ≡ true
     → Good (record { spacecraft = s .settings .spacecraft; channel = s .settings .channel }) s store
 unfolding wellFormed begun
 passes-good s store z long t =
@@ -146,7 +147,7 @@ passes-good s store z long t =
     let e = right (eqb (g .«timeout_type») 0) _ d in
     let f = right (leb (g .spacecraft) largestSpacecraft) _ e in
     let x = offset (v .vs) (v .nnr) in
-    let h = right (leb x largestK) _ numbers in
+    let h = right (leb (q .sent) largestK) _ numbers in
     let i = right (leb (q .sent) x) _ h in
     let j = right (leb (q .marked) (q .sent)) _ i in
     let k = right (leb 1 (v .«transmission_count»)) _ j in
@@ -154,7 +155,7 @@ passes-good s store z long t =
       formed = record {
         vs-octet = z .vs;
         nnr-octet = z .nnr;
-        window = leb-true x largestK (left _ _ numbers);
+        sent-most = leb-true (q .sent) largestK (left _ _ numbers);
         outstanding = leb-true (q .sent) x (left _ _ h);
         last = leb-true (q .marked) (q .sent) (left _ _ i);
         all-places = z .lengths;
@@ -176,13 +177,25 @@ passes-good s store z long t =
       control-s5 = framed v q (s .state) states;
       filled = λ n p. lengths-least (unitsHeld (q .sent) (q .waiting)) (q .lengths) units n
           (subst (λ (y : ℕ). n < y) (sym (held-is (q .sent) (q .waiting))) p)
-          (places-enough (q .sent) (q .waiting) n p (leb-true (q .sent) x (left _ _ h)) (leb-true x largestK (left _ _ numbers)) (z .lengths));
+          (places-enough (q .sent) (q .waiting) n p (leb-true (q .sent) largestK (left _ _ numbers)) (z .lengths));
       spacecraft = refl;
       channel = refl;
       spacecraft-most = leb-true (g .spacecraft) largestSpacecraft (left _ _ e);
       channel-most = leb-true (g .channel) largestChannel f;
     } where
-      places-enough : (sent : ℕ) (waiting : Bool) (n : ℕ) → n < held sent waiting → sent ≤ offset (s .variables .vs) (s .variables .nnr)
-          → offset (s .variables .vs) (s .variables .nnr) ≤ largestK → length (s .queues .lengths) ≡ places → n < length (s .queues .lengths)
-      places-enough sent true n p o m l = omega (arith, p, o, m, l)
-      places-enough sent false n p o m l = omega (arith, p, o, m, l)
+      places-enough : (sent : ℕ) (waiting : Bool) (n : ℕ) → n < held sent waiting → sent ≤ largestK → length (s .queues .lengths) ≡ places
+          → n < length (s .queues .lengths)
+      places-enough sent true n p m l = omega (arith, p, m, l)
+      places-enough sent false n p m l = omega (arith, p, m, l)
+
+-- A start with settings within their limits passes, whichever two numbers it is given, so it is well-formed.
+module _ (g : Settings) (vs nnr : ℕ) (limits : settingsHold g ≡ true) where
+  start-passes : wellFormed (startOf g vs nnr) ≡ true
+  unfolding wellFormed startOf
+  start-passes = joined _ _ limits (rw (le-leb 0 (offset vs nnr) (omega arith)) refl)
+
+  pub start-good : (store : List ℕ) → vs < 256 → nnr < 256 → g .«transmission_limit» ≤ largestTransmissionLimit → smallestStore ≤ length store
+      → Good (record { spacecraft = g .spacecraft; channel = g .channel }) (startOf g vs nnr) store
+  unfolding startOf
+  start-good store v n l long =
+      passes-good (startOf g vs nnr) store (record { vs = v; nnr = n; limit = l; count = omega arith; lengths = length-replicate {A = ℕ} places 0 }) long start-passes

@@ -15,7 +15,7 @@ use Rattle.fop.specs.Machine.{fopDo}
 use Rattle.fop_actions.specs.declared.Handed.{Handed}
 use Rattle.fop_actions.specs.declared.Handed.the-variants as handed
 use Rattle.fop_actions.specs.declared.Queues.{Queues}
-use Rattle.fop_actions.specs.declared.Sender.{Sender}
+use Rattle.fop_actions.specs.declared.SenderState.{SenderState}
 use Rattle.fop_actions.specs.declared.Work.{Work}
 use Rattle.fop_actions.specs.Limits.{places}
 use Rattle.fop_actions.specs.Start.{begun, senderOf}
@@ -34,13 +34,13 @@ use Rattle.ends.proofs.Bypass.{bypasses, no-bypass}
 use Rattle.ends.proofs.Shown.{held-fits, shown}
 
 -- what an event that offers no unit does to the store and the lengths
-others : (b : Brings) (o : List ℕ) (s : Sender) (w : Work) (store : List ℕ) → isOffering b ≡ false
+others : (b : Brings) (o : List ℕ) (s : SenderState) (w : Work) (store : List ℕ) → isOffering b ≡ false
     → (storeBy b o s w store ≡ without (w .told .confirmed .count) store) × (lengthsBy b o s w ≡ slid (w .told .confirmed .count) (s .queues .lengths))
 others b o s w store t = (no _ _ _ t, no _ _ _ t)
 
 -- g is the state whose row it is: s, or s with its timer lowered
-module _ (own : Own) (e : FopEvent) (n : ℕ) (s g : Sender) (store : List ℕ) (lent : ℕ) (good : Good own s store) (by-good : Good own g store)
-    (meets : Meets e [] n g) (same-queues : g .queues ≡ s .queues) (quiet : isOffering (brings e) ≡ false)
+module _ (own : Own) (e : FopEvent) (n : ℕ) (s g : SenderState) (store : List ℕ) (lent : ℕ) (good : Good own s store) (by-good : Good own g store)
+    (meets : Meets e [] n g) (same-queues : g .queues ≡ s .queues) (not-offering : isOffering (brings e) ≡ false)
     (unbypassed : eqb (eventNumber e) 21 ≡ false) where
   abbrev w : Work
   w = rowOf e n 0 (begun g)
@@ -55,18 +55,18 @@ module _ (own : Own) (e : FopEvent) (n : ℕ) (s g : Sender) (store : List ℕ) 
   m = fopDo e [] n (fopOf (begun g) store)
 
   shows : Shows own e [] n w new m
-  shows = subst (λ (x : List ℕ). Shows own e [] n w x m) (others (brings e) [] g w store quiet .0) (row-view own e [] n g store by-good meets)
+  shows = subst (λ (x : List ℕ). Shows own e [] n w x m) (others (brings e) [] g w store not-offering .0) (row-view own e [] n g store by-good meets)
 
   lengths-are : w .queues .lengths ≡ slid count (s .queues .lengths)
   lengths-are =
-      row-lengths own e [] n g store by-good meets ∙ others (brings e) [] g w store quiet .1 ∙ ap (λ (q : Queues). slid count (q .lengths)) same-queues
+      row-lengths own e [] n g store by-good meets ∙ others (brings e) [] g w store not-offering .1 ∙ ap (λ (q : Queues). slid count (q .lengths)) same-queues
 
   -- the unit at place i after the event stood at place i + count before it
   unit-is : (i : ℕ) → i < w .queues .sent → unitAt (s .queues .lengths) (i + count) store ≡ unitAt (w .queues .lengths) i new
   unfolding begun
   unit-is i h =
       let few : count + held (w .queues .sent) (w .queues .waiting) ≤ places =
-      omega (arith, row-few own e [] n g store by-good meets, by-good .formed .outstanding, by-good .formed .window) in
+      omega (arith, row-few own e [] n g store by-good meets, by-good .formed .sent-most) in
       let fewer : count + i < places = room-left (w .queues .sent) (w .queues .waiting) h few in
       let turned : i + count ≡ count + i = omega arith in
       ap (λ (k : ℕ). unitAt (s .queues .lengths) k store) turned

@@ -18,7 +18,7 @@ use Rattle.fop.specs.Variables as machine
 use Rattle.fop.specs.Answers.{octetsDown}
 use Rattle.fop_actions.specs.declared.Handed.{Handed}
 use Rattle.fop_actions.specs.declared.Handed.the-variants as handed
-use Rattle.fop_actions.specs.declared.Sender.{Sender}
+use Rattle.fop_actions.specs.declared.SenderState.{SenderState}
 use Rattle.fop_actions.specs.declared.Work.{Work}
 use Rattle.fop_actions.specs.Start.{begun}
 use Rattle.fop_actions.specs.View.{unitAt, fopOf, framesOf}
@@ -46,17 +46,17 @@ module _ (own : Own) where
   frames-long (handed.SetVr n) lengths store o = long (kind.SetVr n) []
 
 -- the unit at a place that holds one of the sent units
-pub held-fits : (own : Own) (s : Sender) (store : List ℕ) (i : ℕ) → Good own s store → i < s .queues .sent → Fits (unitAt (s .queues .lengths) i store)
+pub held-fits : (own : Own) (s : SenderState) (store : List ℕ) (i : ℕ) → Good own s store → i < s .queues .sent → Fits (unitAt (s .queues .lengths) i store)
 unfolding begun
 held-fits own s store i g h =
-    unit-fits (s .queues .lengths) store i (omega (arith, g .formed .outstanding, g .formed .window, h)) (g .filled i (below (s .queues .sent) (s .queues .waiting) h))
+    unit-fits (s .queues .lengths) store i (omega (arith, g .formed .sent-most, h)) (g .filled i (below (s .queues .sent) (s .queues .waiting) h))
     (g .formed .units i) (g .formed .room) where
       below : (sent : ℕ) (waiting : Bool) → i < sent → i < held sent waiting
       below sent true k = omega arith
       below sent false k = k
 
 -- an event that shows the machine's work, by the unit u that is written and the store after it
-module _ (own : Own) (e : FopEvent) (o : List ℕ) (n : ℕ) (s : Sender) (store new u : List ℕ) (lent : ℕ) (w : Work) (m : machine.Work) (good : Good own s store)
+module _ (own : Own) (e : FopEvent) (o : List ℕ) (n : ℕ) (s : SenderState) (store new u : List ℕ) (lent : ℕ) (w : Work) (m : machine.Work) (good : Good own s store)
     (shows : Shows own e o n w new m)
     (carried : Carries own (s .settings) (good .spacecraft) (good .channel) (good .spacecraft-most) (good .channel-most) (w .queues .lengths) new o u lent (w .told .handed)) where
   written-is : handedWriting (s .settings) (w .told .handed) u (length (lentOutput lent)) ≡ fitting (octetsDown own (m .frames)) lent

@@ -12,11 +12,11 @@ use Rattle.base.specs.Limits.{largestUnit}
 use Rattle.base.specs.Outcome.{Outcome, Outcome.refused}
 use Rattle.memory.specs.Placed.{placed}
 use Rattle.clcw.specs.Answers.{readingOf}
-use Rattle.clcw.specs.declared.Reading.{Reading}
-use Rattle.clcw.specs.declared.Reading.the-variants as reading
+use Rattle.clcw.specs.declared.WordReading.{WordReading}
+use Rattle.clcw.specs.declared.WordReading.the-variants as reading
 use Rattle.fop.specs.Units.{areOctets}
 use Rattle.fop.specs.Events.{SenderEvent, requestAd, requestBd, tick, lower, directive, wordArrives}
-use Rattle.fop_actions.specs.declared.Sender.{Sender}
+use Rattle.fop_actions.specs.declared.SenderState.{SenderState}
 use Rattle.fop_actions.specs.declared.Work.{Work}
 use Rattle.fop_actions.specs.Start.{begun}
 use Rattle.fop_actions.specs.View.{without}
@@ -43,7 +43,7 @@ pub record Concluded (x : Held) (lent : ℕ) (step : List ℕ → Step) : Type 0
   pub is : (output : List ℕ) → length output ≡ lent → step output ≡ stepBy event (x .sender .fop) work writing new (x .store) output
 
 module _ (x : Held) (lent : ℕ) where
-  abbrev s : Sender
+  abbrev s : SenderState
   s = x .sender .fop
 
   abbrev store : List ℕ
@@ -94,7 +94,7 @@ module _ (x : Held) (lent : ℕ) where
   stored : (y : List ℕ → Step) → C y → C (λ output. must (leb smallestStore (length store)) (refusedStep 11 s store output) (y output))
   stored y h = judged (leb smallestStore (length store)) (λ output. refusedStep 11 s store output) y (refused-with 11) h
 
-  serves : (k n : ℕ) (g : Sender) → C (λ output. served k n s g store output)
+  serves : (k n : ℕ) (g : SenderState) → C (λ output. served k n s g store output)
   unfolding served
   serves k n g = stored _ (served-by k (rowNumbered k n 0 (begun g)))
 
@@ -121,15 +121,15 @@ module _ (x : Held) (lent : ℕ) where
   unfolding directiveOf
   directs d v = either (eqb (directiveNumber d v s) 40) (λ output. refusedStep 12 s store output) _ (refused-with 12) (serves (directiveNumber d v s) v s)
 
-  reads : (r : Reading) → C (λ output. wordBy r s store output)
+  reads : (r : WordReading) → C (λ output. wordBy r s store output)
   reads (reading.Word r) = serves (wordNumber (r .word) s) (r .word .report) s
   reads reading.Invalid = serves 15 0 s
   reads reading.Address = refused-with 7
   reads reading.Length = refused-with 10
 
-  hears : (octets : List ℕ) → C (λ output. controlWordOf octets s store output)
+  word-read : (octets : List ℕ) → C (λ output. controlWordOf octets s store output)
   unfolding controlWordOf
-  hears octets = reads (readingOf octets (s .settings .channel))
+  word-read octets = reads (readingOf octets (s .settings .channel))
 
   -- what is lent as octets
   as-octets : (o : List ℕ) (y : List ℕ → Step) → C y → C (λ output. pick (areOctets o) (y output) (refusedStep 10 s store output))
@@ -142,4 +142,4 @@ module _ (x : Held) (lent : ℕ) where
   concluded tick = serves (tickNumber s) 0 (ticked s)
   concluded (lower l) = serves (lowerNumber (lowerAnswer l)) 0 s
   concluded (directive d v) = directs d v
-  concluded (wordArrives octets) = as-octets octets _ (hears octets)
+  concluded (wordArrives octets) = as-octets octets _ (word-read octets)

@@ -1,2 +1,3 @@
 pub mod Ours
+pub mod Does
 pub mod Demand

@@ -1,7 +1,8 @@
 -- Our own two ends in document 01's session: the sender by the definitions that its public functions equal (crate sender), the receiver by
 -- crate farm's.
-use Prim.Native.Nat.{ℕ, _+_, _-_}
-use mathlib.Core.List.{List}
+use Prim.Native.Nat.{ℕ}
+use mathlib.Core.Path.{_≡_}
+use mathlib.Core.List.{List, [], _∷_}
 use mathlib.Core.Option.{Option, none, some}
 use lib.Dec.{eqb}
 use lib.ListN.{length, take, replicate}
@@ -9,14 +10,17 @@ use Rattle.base.specs.Choice.{pick}
 use Rattle.fop.specs.Units.{areOctets}
 use Rattle.fop.specs.Events.{SenderEvent, requestAd, requestBd, tick, lower, directive, wordArrives}
 use Rattle.fop.specs.Events as fop
+use Rattle.fop.specs.Variables.{Fop}
 use Rattle.fop.specs.Answers.{Answer}
 use Rattle.fop_actions.specs.declared.Settings.{Settings as SenderSettings}
-use Rattle.fop_actions.specs.View.{stateOf, reasonOf, responsesOf, runTold}
+use Rattle.fop_actions.specs.Start.{begun}
+use Rattle.fop_actions.specs.View.{stateOf, reasonOf, responsesOf, runTold, fopOf}
 use Rattle.fop_rows.specs.Rows.{eventOf}
 use Rattle.fop_events.specs.declared.Lower.{Lower}
 use Rattle.fop_events.specs.declared.Lower.the-variants as answer
+use Rattle.fop_view.specs.State.{Good}
 use Rattle.farm.specs.declared.Receiver.{Receiver}
-use Rattle.session.specs.Ends.{Settings, Ends, startReceiver}
+use Rattle.session.specs.Ends.{Settings, Ends, startSender, startReceiver}
 use Rattle.session.specs.Receiver.{receiverNext, receiverAnswer, receiverWord}
 use Rattle.sender.specs.declared.Sender.{Sender}
 use Rattle.sender.specs.declared.Answer.{Answer as SenderAnswer}
@@ -94,17 +98,34 @@ senderSettings set = record {
   channel = set .own .channel;
 }
 
--- "Synchronised and active": a sender at its start, which is told to initiate without check (directive 1)
-unfoldable pub startHeld : Settings → List ℕ → Held
-startHeld set store =
-    heldAfter (directiveOf 1 0 (startingOf (senderSettings set) (set .n) (set .n) (length store) .sender .fop) store (lentOutput 0))
+-- "A sender starts Initial, .. with the numbers and settings given", here one number for V(S) and NN(R), and the store that it is lent
+unfoldable pub freshHeld : Settings → ℕ → List ℕ → Held
+freshHeld set number store = record { sender = startingOf (senderSettings set) number number (length store) .sender; store = store }
 
--- our two ends, with the store that the sender is lent
-abbrev pub ours : Settings → List ℕ → Ends
-ours set store = record {
+-- the sender with its store after events, each with the room lent for its frame
+abbrev pub heldAfterAll : List (SenderEvent × ℕ) → Held → Held
+heldAfterAll [] x = x
+heldAfterAll (e ∷ es) x = heldAfterAll es (heldAfter (stepOf (e .0) (lentOutput (e .1)) x))
+
+-- a fresh sender that is told to initiate without check (directive 1)
+abbrev pub startHeld : Settings → List ℕ → Held
+startHeld set store = heldAfterAll ((directive 1 0, 0) ∷ []) (freshHeld set (set .n) store)
+
+-- what the sender with its store reads as: the variables of table 7-8
+abbrev pub reads : Held → Fop
+reads x = fopOf (begun (x .sender .fop)) (x .store)
+
+-- "It starts synchronised and active": a well-formed sender, however it came there, whose variables are those of the session's start
+pub record Begins (set : Settings) (x : Held) : Type 0 where
+  pub good : Good (set .own) (x .sender .fop) (x .store)
+  pub start : reads x ≡ startSender set
+
+-- our two ends, with the sender and its store as they are at the start
+abbrev pub ours : Settings → Held → Ends
+ours set x = record {
   Sender = Held;
   Receiver = Receiver;
-  sender = startHeld set store;
+  sender = x;
   receiver = startReceiver set;
   next = λ e lent x. heldAfter (stepOf e (lentOutput lent) x);
   answer = λ e lent x. answerBy (stepOf e (lentOutput lent) x);

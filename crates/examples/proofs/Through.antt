@@ -12,7 +12,7 @@ use Rattle.cltu.proofs.RoundTrip.{round-trip}
 use Rattle.frame.specs.Frame.{bypassOf, controlOf, numberOf, dataOf, frameOf}
 use Rattle.frame.specs.Answers.{readingOf, partOf}
 use Rattle.frame.specs.declared.Kind.{Kind}
-use Rattle.frame.specs.declared.Reading.the-variants.{Frame}
+use Rattle.frame.specs.declared.FrameReading.the-variants.{Frame}
 use Rattle.frame.proofs.Back.{Legal, frame-back, data-back}
 use Rattle.frame.proofs.Emitted.{length-frame}
 

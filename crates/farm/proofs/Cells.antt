@@ -9,7 +9,7 @@ use Rattle.farm.specs.declared.State.the-variants.{Open, Wait, Lockout}
 use Rattle.farm.specs.declared.Event.{Event}
 use Rattle.farm.specs.declared.Event.the-variants.{E1, E2, E3, E4, E5, E6, E7, E8, E9, E10, E11}
 use Rattle.farm.specs.declared.Variables.{Variables}
-use Rattle.farm.specs.Table.{table, perform, performAll, stepOf}
+use Rattle.farm.specs.Table.{eventNumber, table, perform, performAll, stepOf}
 
 -- the variables in a state
 abbrev pub at : State → Variables → Variables
@@ -45,21 +45,8 @@ by-event P a b c d e f g h i j k E10 = j
 by-event P a b c d e f g h i j k E11 = k
 
 -- events are told apart by their numbers
-abbrev rank : Event → ℕ
-rank E1 = 1
-rank E2 = 2
-rank E3 = 3
-rank E4 = 4
-rank E5 = 5
-rank E6 = 6
-rank E7 = 7
-rank E8 = 8
-rank E9 = 9
-rank E10 = 10
-rank E11 = 11
-
-pub differ : {P : Type 0} (e e′ : Event) → eqb (rank e) (rank e′) ≡ false → e ≡ e′ → P
-differ e e′ f p = absurd (eqb-false (rank e) (rank e′) f (ap rank p))
+pub differ : {P : Type 0} (e e′ : Event) → eqb (eventNumber e) (eventNumber e′) ≡ false → e ≡ e′ → P
+differ e e′ f p = absurd (eqb-false (eventNumber e) (eventNumber e′) f (ap eventNumber p))
 
 -- rows E4, E9 and E11 change nothing
 module _ (star : ℕ) (v : Variables) where

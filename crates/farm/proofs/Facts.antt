@@ -9,15 +9,15 @@ use borrow.Author.Tests.{ne-eqb, lt-ltb}
 use Rattle.base.specs.Modulo.{advanced}
 use Rattle.frame.specs.Frame.{refusalOf}
 use Rattle.frame.specs.Answers.{readingOf}
-use Rattle.frame.specs.declared.Reading.{Reading}
-use Rattle.frame.specs.declared.Reading.the-variants.{Frame, Refused}
+use Rattle.frame.specs.declared.FrameReading.{FrameReading}
+use Rattle.frame.specs.declared.FrameReading.the-variants.{Frame, Refused}
 use Rattle.farm.specs.declared.State.{State}
 use Rattle.farm.specs.declared.State.the-variants.{Open, Wait, Lockout}
 use Rattle.farm.specs.declared.Event.{Event}
 use Rattle.farm.specs.declared.Event.the-variants.{E1, E2, E3, E4, E5, E6, E7, E8, E9, E10, E11}
 use Rattle.farm.specs.declared.Variables.{Variables}
 use Rattle.farm.specs.declared.Receiver.{Receiver}
-use Rattle.farm.specs.declared.Unit.the-variants.{None}
+use Rattle.farm.specs.declared.AcceptedUnit.the-variants.{None}
 use Rattle.farm.specs.declared.Received.{Received}
 use Rattle.farm.specs.declared.Released.the-variants.{Done, NoneTaken}
 use Rattle.farm.specs.Table.{table, perform, performAll, stepOf}
@@ -25,7 +25,7 @@ use Rattle.farm.specs.Receiver.{become, starOf, unitOf, takes, answered,
 use Rattle.farm.proofs.Cells.{at, by-state, by-event, e9-keeps}
 
 -- the value V*(R) of a reading
-abbrev pub starFor : Reading → ℕ
+abbrev pub starFor : FrameReading → ℕ
 starFor (Frame fields) = starOf (fields .kind)
 starFor (Refused number) = 0
 
@@ -39,7 +39,7 @@ pub by-table : (r : Receiver) (octets : List ℕ) → ByTable r (starFor (readin
 unfolding receiveOf byReading arrived answered
 by-table r octets = go (readingOf octets (r .spacecraft) (r .channel))
   where
-    go : (reading : Reading) → ByTable r (starFor reading) (byReading r reading)
+    go : (reading : FrameReading) → ByTable r (starFor reading) (byReading r reading)
     go (Frame fields) = record { variables = refl; unit = refl; next = refl }
     go (Refused number) = record { variables = refl; unit = refl; next = refl }
 

@@ -21,7 +21,7 @@ use Rattle.frame.specs.Frame.{unlockCommand, totalOf, dataField, refusalOf, kin
 use Rattle.frame.specs.Answers.{fieldsOf, readingOf}
 use Rattle.frame.specs.declared.Kind.{Kind}
 use Rattle.frame.specs.declared.Kind.the-variants.{Ad, Bd, Unlock, SetVr}
-use Rattle.frame.specs.declared.Reading.the-variants.{Frame, Refused}
+use Rattle.frame.specs.declared.FrameReading.the-variants.{Frame, Refused}
 use Rattle.farm.specs.declared.State.{State}
 use Rattle.farm.specs.declared.State.the-variants.{Open, Wait, Lockout}
 use Rattle.farm.specs.declared.Event.{Event}
@@ -32,12 +32,12 @@ use Rattle.farm.specs.declared.Received.{Received}
 use Rattle.farm.specs.declared.Start.{Start}
 use Rattle.farm.specs.declared.Start.the-variants.{Ready, Setting}
 use Rattle.farm.specs.declared.Released.the-variants.{Done, NoneTaken}
-use Rattle.farm.specs.Table.{table, perform, performAll, stepOf, accepts}
+use Rattle.farm.specs.Table.{table, perform, performAll, stepOf}
 use Rattle.farm.specs.Window.{notWait, adEvent}
 use Rattle.farm.specs.Receiver.{atStart, startOf, become, hasRoom, eventOf, starOf, unitOf, takes, answered, arrived, byReading, receiveOf, releaseOf, wordOf}
 use Rattle.farm.proofs.Cells.{at, by-state, by-event, differ, e4-keeps, e9-keeps, e11-keeps}
 use Rattle.farm.proofs.Windows.{e1-room, e2-full}
-use Rattle.farm.proofs.Told.{bd-unit}
+use Rattle.farm.proofs.Units.{unit-cases}
 
 abbrev pub isLockout : State → Bool
 isLockout Open = false
@@ -126,20 +126,7 @@ abbrev Taking : Event → State → Type 0
 Taking e s = (takes (unitOf e s) ≡ 0) ⊎ ((e ≡ E1) × (s ≡ Open) × (takes (unitOf e s) ≡ 1))
 
 taking : (e : Event) (s : State) → Taking e s
-unfolding accepts table
-taking =
-    by-event (λ (e : Event). (s : State) → Taking e s)
-    (by-state (Taking E1) (inr (refl, refl, refl)) (inl refl) (inl refl))
-    (λ s. inl refl)
-    (λ s. inl refl)
-    (λ s. inl refl)
-    (λ s. inl refl)
-    (λ s. inl (ap takes (sym (bd-unit E6 s refl))))
-    (λ s. inl refl)
-    (λ s. inl refl)
-    (λ s. inl refl)
-    (λ s. inl refl)
-    (λ s. inl refl)
+taking e s = ⊎-elim (λ h. inl (ap takes h)) (⊎-elim (λ h. inr (h .0, h .1, ap takes (h .2))) (λ h. inl (ap takes (h .1)))) (unit-cases e s)
 
 -- in Open nothing waits
 open-runs : (v : Variables) → Sound v → v .state ≡ Open → v .wait ≡ true → ⊥

@@ -1,5 +1,7 @@
 pub mod Cells
 pub mod Windows
+pub mod Words
+pub mod Units
 pub mod Told
 pub mod Kept
 pub mod Judged

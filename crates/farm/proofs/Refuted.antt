@@ -17,7 +17,7 @@ use Rattle.frame.specs.Frame.{totalOf, dataField, commandHeld, headerRefusal, c
 use Rattle.frame.specs.Answers.{fieldsOf, readingOf}
 use Rattle.frame.specs.declared.Kind.the-variants.{Ad}
 use Rattle.frame.specs.declared.Fields.{Fields}
-use Rattle.frame.specs.declared.Reading.the-variants.{Frame}
+use Rattle.frame.specs.declared.FrameReading.the-variants.{Frame}
 use Rattle.farm.specs.declared.State.{State}
 use Rattle.farm.specs.declared.State.the-variants.{Open, Wait, Lockout}
 use Rattle.farm.specs.declared.Event.{Event}

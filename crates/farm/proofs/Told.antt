@@ -1,55 +1,37 @@
 -- What the code's matches told of an event, a kind or a reading picks the case of the definition.
-use mathlib.Core.Path.{_≡_, refl, sym, ap, ap₂, _∙_}
+use mathlib.Core.Path.{_≡_, sym, ap, ap₂, _∙_}
 use mathlib.Core.List.{List}
 use Prim.Native.Nat.{ℕ, _+_}
-use native.Mathlib.Omega.{arith}
 use Rattle.base.specs.Modulo.{offset}
 use Rattle.frame.specs.Answers.{readingOf, readingNumber, partOf}
 use Rattle.frame.specs.declared.Kind.{Kind}
 use Rattle.frame.specs.declared.Kind.the-variants.{Ad}
 use Rattle.frame.specs.declared.Fields.{Fields}
-use Rattle.frame.specs.declared.Reading.{Reading}
-use Rattle.frame.specs.declared.Reading.the-variants.{Frame, Refused}
+use Rattle.frame.specs.declared.FrameReading.{FrameReading}
+use Rattle.frame.specs.declared.FrameReading.the-variants.{Frame, Refused}
 use Rattle.farm.specs.declared.State.{State}
 use Rattle.farm.specs.declared.State.the-variants.{Open, Wait, Lockout}
 use Rattle.farm.specs.declared.Event.{Event}
-use Rattle.farm.specs.declared.Event.the-variants.{E1, E6, E9}
+use Rattle.farm.specs.declared.Event.the-variants.{E9}
 use Rattle.farm.specs.declared.Variables.{Variables}
 use Rattle.farm.specs.declared.Receiver.{Receiver}
-use Rattle.farm.specs.declared.Unit.{Unit as AcceptedUnit}
-use Rattle.farm.specs.declared.Unit.the-variants.{None, AdUnit, BdUnit}
+use Rattle.farm.specs.declared.AcceptedUnit.{AcceptedUnit}
 use Rattle.farm.specs.declared.Received.{Received}
-use Rattle.farm.specs.Table.{table, stepOf, accepts}
+use Rattle.farm.specs.Table.{stepOf}
 use Rattle.farm.specs.Window.{adEvent}
 use Rattle.farm.specs.Receiver.{become, hasRoom, eventOf, unitOf, takes, answered, arrived, byReading, receiveOf, partFor, unitPart}
-use Rattle.farm.proofs.Cells.{by-event}
+use Rattle.farm.proofs.Cells.{by-state}
 
 -- the unit of an event that was told, in a state that was told
 pub unit-told : (e e′ : Event) (s s′ : State) (u : AcceptedUnit) → e ≡ e′ → s ≡ s′ → u ≡ unitOf e′ s′ → u ≡ unitOf e s
 unit-told e e′ s s′ u p q h = h ∙ sym (ap₂ unitOf p q)
 
--- a BD frame's unit is accepted in every state
-pub bd-unit : (e : Event) (s : State) → e ≡ E6 → BdUnit ≡ unitOf e s
-unfolding accepts table
-bd-unit e Open p = ap (λ (x : Event). unitOf x Open) (sym p)
-bd-unit e Wait p = ap (λ (x : Event). unitOf x Wait) (sym p)
-bd-unit e Lockout p = ap (λ (x : Event). unitOf x Lockout) (sym p)
+-- the unit of an event that was told, where no state tells it apart
+pub unit-anywhere : (e e′ : Event) (s : State) (u : AcceptedUnit) → e ≡ e′ → u ≡ unitOf e′ Open → u ≡ unitOf e′ Wait → u ≡ unitOf e′ Lockout
+    → u ≡ unitOf e s
+unit-anywhere e e′ s u p a b c = by-state (λ (t : State). u ≡ unitOf e′ t) a b c s ∙ ap (λ (x : Event). unitOf x s) (sym p)
 
-pub ruleset units = (unit-told, bd-unit)
-
--- an AD unit is E1's
-pub ad-unit : (e : Event) (s : State) → unitOf e s ≡ AdUnit → e ≡ E1
-ad-unit e s = by-event (λ (x : Event). unitOf x s ≡ AdUnit → x ≡ E1) (λ h. refl) none none none none (λ h. bd (bd-unit E6 s refl ∙ h)) none none none none none e
-  where
-    none : {P : Type 0} → None ≡ AdUnit → P
-    none h =
-        let z : _≡_ {A = ℕ} 0 1 = cc in
-        absurd (omega arith)
-
-    bd : {P : Type 0} → BdUnit ≡ AdUnit → P
-    bd h =
-        let z : _≡_ {A = ℕ} 0 1 = cc in
-        absurd (omega arith)
+pub ruleset units = (unit-told, unit-anywhere)
 
 -- the answer, put together of what the code computed
 pub answer-of : (refusal : ℕ) (e : Event) (star : ℕ) (r : Receiver) (u : AcceptedUnit) (taken : ℕ) (after : Variables)
@@ -68,12 +50,12 @@ unfolding arrived eventOf
 arrived-ad r kind number d e x p q s h = arrived-told r kind (Ad number) x p (h ∙ rw (s, q))
 
 -- lent octets, by their reading
-pub receive-frame : (r : Receiver) (octets : List ℕ) (reading : Reading) (fields : Fields) (x : Received)
+pub receive-frame : (r : Receiver) (octets : List ℕ) (reading : FrameReading) (fields : Fields) (x : Received)
     → reading ≡ readingOf octets (r .spacecraft) (r .channel) → reading ≡ Frame fields → x ≡ arrived r (fields .kind) → x ≡ receiveOf r octets
 unfolding receiveOf byReading
 receive-frame r octets reading fields x p q h = h ∙ ap (byReading r) (sym q ∙ p)
 
-pub receive-refused : (r : Receiver) (octets : List ℕ) (reading : Reading) (k number : ℕ) (x : Received)
+pub receive-refused : (r : Receiver) (octets : List ℕ) (reading : FrameReading) (k number : ℕ) (x : Received)
     → reading ≡ readingOf octets (r .spacecraft) (r .channel) → reading ≡ Refused k → number ≡ readingNumber reading
     → x ≡ answered number E9 0 r → x ≡ receiveOf r octets
 unfolding receiveOf byReading

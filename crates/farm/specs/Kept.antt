@@ -9,7 +9,7 @@ use mathlib.Core.Bool.{Bool, true, not}
 use mathlib.Core.List.{List, [], _∷_}
 use lib.Dec.{leb, ltb, eqb}
 use lib.ListN.{getD}
-use Rattle.base.specs.Choice.{pick, both}
+use Rattle.base.specs.Choice.{pick, must, both}
 use Rattle.base.specs.Limits.{largestSpacecraft, largestChannel}
 use Rattle.base.specs.Octets.{same}
 use Rattle.base.specs.Flags.{bitOf, isSet}
@@ -85,3 +85,7 @@ isState o = both (same o (octetsOf (receiverIn o))) (wellFormed (receiverIn o))
 -- a receiver from octets; 12 where they are no state
 unfoldable pub restoredOf : List ℕ → Start
 restoredOf o = pick (isState o) (Ready (receiverIn o)) Setting
+
+-- and document 01's number of it
+abbrev pub restoreRefusal : List ℕ → ℕ
+restoreRefusal o = must (isState o) 12 0

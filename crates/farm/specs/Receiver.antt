@@ -9,8 +9,8 @@ use Rattle.base.specs.Modulo.{offset}
 use Rattle.frame.specs.Answers.{readingOf, partOf}
 use Rattle.frame.specs.declared.Kind.{Kind}
 use Rattle.frame.specs.declared.Kind.the-variants.{Ad, Bd, Unlock, SetVr}
-use Rattle.frame.specs.declared.Reading.{Reading}
-use Rattle.frame.specs.declared.Reading.the-variants.{Frame, Refused as RefusedFrame}
+use Rattle.frame.specs.declared.FrameReading.{FrameReading}
+use Rattle.frame.specs.declared.FrameReading.the-variants.{Frame, Refused as RefusedFrame}
 use Rattle.clcw.specs.declared.Clcw.{Clcw}
 use Rattle.farm.specs.Table.{stepOf, accepts}
 use Rattle.farm.specs.Window.{adEvent}
@@ -20,8 +20,8 @@ use Rattle.farm.specs.declared.Event.{Event}
 use Rattle.farm.specs.declared.Event.the-variants.{E1, E2, E3, E4, E5, E6, E7, E8, E9, E10, E11}
 use Rattle.farm.specs.declared.Variables.{Variables}
 use Rattle.farm.specs.declared.Receiver.{Receiver}
-use Rattle.farm.specs.declared.Unit.{Unit as AcceptedUnit}
-use Rattle.farm.specs.declared.Unit.the-variants.{None, AdUnit, BdUnit}
+use Rattle.farm.specs.declared.AcceptedUnit.{AcceptedUnit}
+use Rattle.farm.specs.declared.AcceptedUnit.the-variants.{None, AdUnit, BdUnit}
 use Rattle.farm.specs.declared.Received.{Received}
 use Rattle.farm.specs.declared.Start.{Start}
 use Rattle.farm.specs.declared.Start.the-variants.{Ready, Setting}
@@ -43,17 +43,25 @@ atStart spacecraft channel window vr buffers = record {
   variables = record { state = Open; vr = vr; lockout = false; wait = false; retransmit = false; counter = 0 };
 }
 
+-- document 01, "Limits": where every setting is within its limit go on, else the refusal
+abbrev pub mustBeWithin : {A : Type 0} → ℕ → ℕ → ℕ → ℕ → A → A → A
+mustBeWithin spacecraft channel window buffers refusal on =
+    must (leb spacecraft largestSpacecraft) refusal
+    (must (leb channel largestChannel) refusal
+    (must (eqb (window % 2) 0) refusal
+    (must (leb 2 window) refusal
+    (must (leb window 254) refusal
+    (must (leb 1 buffers) refusal
+    (must (leb buffers largestBuffers) refusal on))))))
+
 -- a new receiver, or 12 where a setting is outside its limit
 unfoldable pub startOf : ℕ → ℕ → ℕ → ℕ → ℕ → Start
 startOf spacecraft channel window vr buffers =
-    must (leb spacecraft largestSpacecraft) Setting
-    (must (leb channel largestChannel) Setting
-    (must (eqb (window % 2) 0) Setting
-    (must (leb 2 window) Setting
-    (must (leb window 254) Setting
-    (must (leb 1 buffers) Setting
-    (must (leb buffers largestBuffers) Setting
-    (Ready (atStart spacecraft channel window vr buffers))))))))
+    mustBeWithin spacecraft channel window buffers Setting (Ready (atStart spacecraft channel window vr buffers))
+
+-- and document 01's number of it
+abbrev pub startRefusal : ℕ → ℕ → ℕ → ℕ → ℕ
+startRefusal spacecraft channel window buffers = mustBeWithin spacecraft channel window buffers 12 0
 
 -- the receiver with other variables and another count of buffers taken
 abbrev pub become : ℕ → Variables → Receiver → Receiver
@@ -84,14 +92,14 @@ starOf Bd = 0
 starOf Unlock = 0
 starOf (SetVr value) = value
 
--- the unit that an event accepts: a type-D frame's, by its type
+-- the unit that an event accepts: a type-D frame's, by its type (AD in E1 to E5, BD in E6), where the cell says Accept
 abbrev pub unitOf : Event → State → AcceptedUnit
-unitOf E6 s = pick (accepts E6 s) BdUnit None
 unitOf E1 s = pick (accepts E1 s) AdUnit None
-unitOf E2 s = None
-unitOf E3 s = None
-unitOf E4 s = None
-unitOf E5 s = None
+unitOf E2 s = pick (accepts E2 s) AdUnit None
+unitOf E3 s = pick (accepts E3 s) AdUnit None
+unitOf E4 s = pick (accepts E4 s) AdUnit None
+unitOf E5 s = pick (accepts E5 s) AdUnit None
+unitOf E6 s = pick (accepts E6 s) BdUnit None
 unitOf E7 s = None
 unitOf E8 s = None
 unitOf E9 s = None
@@ -118,7 +126,7 @@ unfoldable pub arrived : Receiver → Kind → Received
 arrived r kind = answered 0 (eventOf r kind) (starOf kind) r
 
 -- document 01: "A frame that is refused is event E9 to the receiver"
-unfoldable pub byReading : Receiver → Reading → Received
+unfoldable pub byReading : Receiver → FrameReading → Received
 byReading r (Frame fields) = arrived r (fields .kind)
 byReading r (RefusedFrame number) = answered number E9 0 r
 
@@ -139,6 +147,10 @@ unitPart r octets = partFor (receiveOf r octets .unit) (partOf octets (r .spacec
 -- document 01: "a release gives one back and is E10"; 13 where none is taken
 unfoldable pub releaseOf : Receiver → Released
 releaseOf r = must (ltb 0 (r .taken)) NoneTaken (Done (answered 0 E10 0 (become (r .taken - 1) (r .variables) r)))
+
+-- and document 01's number of it
+abbrev pub releaseRefusal : Receiver → ℕ
+releaseRefusal r = must (ltb 0 (r .taken)) 13 0
 
 -- E11: the control word, with V(R), flags and counter as they are
 unfoldable pub wordOf : Receiver → Clcw

@@ -4,9 +4,9 @@ pub mod octets;
 use base::LARGEST_CHANNEL;
 use base::LARGEST_SPACECRAFT;
 use clcw::Clcw;
-use clcw::Written;
+use clcw::WordWritten;
+use frame::FrameReading;
 use frame::Kind;
-use frame::Reading;
 use std::num::wrapping_add_u8;
 use std::num::wrapping_sub_u8;
 ghost use mathlib.Core.Path.{_≡_};
@@ -22,7 +22,7 @@ ghost use Rattle.frame.specs.Answers.{readingNumber};
 ghost use Rattle.farm.specs.declared.Event.the-variants.{E1, E2, E3, E5, E6, E7, E8, E9, E10};
 ghost use Rattle.farm.specs.Table.{stepOf};
 ghost use Rattle.farm.specs.Window.{notWait, adEvent};
-ghost use Rattle.farm.specs.Receiver.{startOf, unitOf, answered, arrived, receiveOf, unitPart, releaseOf, wordOf};
+ghost use Rattle.farm.specs.Receiver.{startOf, startRefusal, startNumber, unitOf, answered, arrived, receiveOf, unitPart, releaseOf, releaseRefusal, releasedNumber, wordOf};
 
 // Document 01, "Limits": AD buffers 1 to 8.
 pub const LARGEST_BUFFERS: u8 = 8;
@@ -68,7 +68,7 @@ pub struct Receiver {
 }
 
 // The unit that an event accepts.
-pub enum Unit {
+pub enum AcceptedUnit {
     None,
     AdUnit,
     BdUnit,
@@ -78,7 +78,7 @@ pub enum Unit {
 pub struct Received {
     pub refusal: u8,
     pub event: Event,
-    pub unit: Unit,
+    pub unit: AcceptedUnit,
     pub next: Receiver,
 }
 
@@ -95,25 +95,25 @@ pub enum Released {
 }
 
 // The unit that an event accepts in a state.
-fn unit_of(event: Event, state: State) -> Unit
+fn unit_of(event: Event, state: State) -> AcceptedUnit
     ensures { λ r. ⌜ r ≡ unitOf event state ⌝ }
 {
     match event {
         Event::E1 => match state {
-            State::Open => Unit::AdUnit,
-            State::Wait => Unit::None,
-            State::Lockout => Unit::None,
+            State::Open => AcceptedUnit::AdUnit,
+            State::Wait => AcceptedUnit::None,
+            State::Lockout => AcceptedUnit::None,
         },
-        Event::E2 => Unit::None,
-        Event::E3 => Unit::None,
-        Event::E4 => Unit::None,
-        Event::E5 => Unit::None,
-        Event::E6 => Unit::BdUnit,
-        Event::E7 => Unit::None,
-        Event::E8 => Unit::None,
-        Event::E9 => Unit::None,
-        Event::E10 => Unit::None,
-        Event::E11 => Unit::None,
+        Event::E2 => AcceptedUnit::None,
+        Event::E3 => AcceptedUnit::None,
+        Event::E4 => AcceptedUnit::None,
+        Event::E5 => AcceptedUnit::None,
+        Event::E6 => AcceptedUnit::BdUnit,
+        Event::E7 => AcceptedUnit::None,
+        Event::E8 => AcceptedUnit::None,
+        Event::E9 => AcceptedUnit::None,
+        Event::E10 => AcceptedUnit::None,
+        Event::E11 => AcceptedUnit::None,
     }
 }
 
@@ -399,7 +399,8 @@ impl Variables {
 impl Receiver {
     // A receiver at its start, or 12 where a setting is outside its limit.
     pub fn new(spacecraft: u16, channel: u8, window: u8, vr: u8, buffers: u8) -> Start
-        ensures { λ r. ⌜ r ≡ startOf spacecraft channel window vr buffers ⌝ }
+        ensures value { λ r. ⌜ r ≡ startOf spacecraft channel window vr buffers ⌝ }
+        ensures number { λ r. ⌜ startNumber r ≡ startRefusal spacecraft channel window buffers ⌝ }
     {
         if LARGEST_SPACECRAFT < spacecraft {
             return Start::Setting;
@@ -453,9 +454,9 @@ impl Receiver {
         let state = variables.state;
         let unit = unit_of(event, state);
         let taken = match unit {
-            Unit::None => self.taken,
-            Unit::AdUnit => self.taken + 1,
-            Unit::BdUnit => self.taken,
+            AcceptedUnit::None => self.taken,
+            AcceptedUnit::AdUnit => self.taken + 1,
+            AcceptedUnit::BdUnit => self.taken,
         };
         let after = variables.step(event, star);
         let next = Receiver {
@@ -504,7 +505,7 @@ impl Receiver {
         ensures { λ r. ⌜ r ≡ receiveOf self (now (octets .entry)) ⌝ }
     {
         let reading = frame::read(octets, self.spacecraft, self.channel);
-        let Reading::Frame(fields) = reading else {
+        let FrameReading::Frame(fields) = reading else {
             return self.answer(number_of(reading), Event::E9, 0);
         };
         let kind = fields.kind;
@@ -518,15 +519,16 @@ impl Receiver {
         let received = self.receive(octets);
         let unit = received.unit;
         match unit {
-            Unit::None => &octets[..0],
-            Unit::AdUnit => frame::data_field(octets, self.spacecraft, self.channel),
-            Unit::BdUnit => frame::data_field(octets, self.spacecraft, self.channel),
+            AcceptedUnit::None => &octets[..0],
+            AcceptedUnit::AdUnit => frame::data_field(octets, self.spacecraft, self.channel),
+            AcceptedUnit::BdUnit => frame::data_field(octets, self.spacecraft, self.channel),
         }
     }
 
     // A buffer release, or 13 where none is taken.
     pub fn release(self) -> Released
-        ensures { λ r. ⌜ r ≡ releaseOf self ⌝ }
+        ensures value { λ r. ⌜ r ≡ releaseOf self ⌝ }
+        ensures number { λ r. ⌜ releasedNumber r ≡ releaseRefusal self ⌝ }
     {
         let taken = self.taken;
         if taken == 0 {
@@ -538,7 +540,7 @@ impl Receiver {
     }
 
     // The control word, at the front of the output (E11). A refusal changes nothing.
-    pub fn word(self, out: &mut [u8]) -> Written
+    pub fn word(self, out: &mut [u8]) -> WordWritten
         ensures answer { λ r. ⌜ writtenAnswer r ≡ answer (writing (wordOf self) (length (now (out .entry)))) ⌝ }
         ensures memory { λ r. ⌜ now (out .exit) ≡ after (writing (wordOf self) (length (now (out .entry)))) (now (out .entry)) ⌝ }
     {
@@ -556,11 +558,11 @@ impl Receiver {
 }
 
 // The number of a frame's refusal, 0 for a frame.
-fn number_of(reading: Reading) -> u8
+fn number_of(reading: FrameReading) -> u8
     ensures { λ r. ⌜ r ≡ readingNumber reading ⌝ }
 {
     match reading {
-        Reading::Frame(_) => 0,
-        Reading::Refused(number) => number,
+        FrameReading::Frame(_) => 0,
+        FrameReading::Refused(number) => number,
     }
 }

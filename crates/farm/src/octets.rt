@@ -8,7 +8,8 @@ ghost use Prim.Native.Nat.{_<_, _≤_};
 ghost use lib.ListN.{length};
 ghost use Rattle.base.specs.Octets.{same};
 ghost use Rattle.base.specs.Flags.{bitOf, isSet};
-ghost use Rattle.farm.specs.Kept.{stateOctets, stateNumber, stateNumbered, octetsOf, receiverIn, flagsHold, wellFormed, restoredOf};
+ghost use Rattle.farm.specs.Kept.{stateOctets, stateNumber, stateNumbered, octetsOf, receiverIn, flagsHold, wellFormed, restoredOf, restoreRefusal};
+ghost use Rattle.farm.specs.Receiver.{startNumber};
 
 pub const STATE_OCTETS: usize = 12;
 
@@ -205,7 +206,8 @@ impl Receiver {
 
     // The receiver whose state octets are, or 12 where they are no state.
     pub fn restore(octets: &[u8]) -> Start
-        ensures { λ r. ⌜ r ≡ restoredOf (now (octets .entry)) ⌝ }
+        ensures value { λ r. ⌜ r ≡ restoredOf (now (octets .entry)) ⌝ }
+        ensures number { λ r. ⌜ startNumber r ≡ restoreRefusal (now (octets .entry)) ⌝ }
     {
         if octets.len() != STATE_OCTETS {
             return Start::Setting;

@@ -4,7 +4,7 @@ use console::Console;
 use console::ROW_ROOM;
 use libc::STDIN_FILENO;
 use libc::STDOUT_FILENO;
-use text::Written;
+use text::NumberWritten;
 ghost use mathlib.Core.Path.{_≡_};
 ghost use Prim.Native.Nat.{_*_, _≤_};
 ghost use lib.ListN.{length};
@@ -32,10 +32,10 @@ struct Step {
 }
 
 // Writes what stands at the front of the output; false where that fails. Nothing is ever refused here for want of room.
-fn emit(written: Written, out: &[u8]) -> bool
+fn emit(written: NumberWritten, out: &[u8]) -> bool
     requires { ⌜ (numberOf (writtenAnswer written) ≡ 0) × (countOf (writtenAnswer written) ≤ length (now out)) ⌝ }
 {
-    let Written::Done(n) = written else {
+    let NumberWritten::Done(n) = written else {
         return false;
     };
     io::write_all(STDOUT_FILENO, &out[..n])

@@ -6,7 +6,7 @@ use Prim.Native.Nat.{ℕ}
 use lib.Dec.{leb, eqb}
 use lib.ListN.{length}
 use Rattle.base.specs.Choice.{pick}
-use Rattle.fop.specs.Units.{Fdu, Frame, Own, Heard, valid, invalid, other, legal, written, readWord}
+use Rattle.fop.specs.Units.{Fdu, Frame, Own, WordReceived, valid, invalid, other, legal, written, readWord}
 use Rattle.fop.specs.Table.{State, Reason, FopEvent, E40}
 use Rattle.fop.specs.Variables.{Fop, Work, Response, rejectDirective}
 use Rattle.fop.specs.Events.{SenderEvent, requestAd, requestBd, tick, lower, directive, wordArrives, validDirective, work}
@@ -51,7 +51,7 @@ unfoldable pub needed : Own → SenderEvent → Fop → ℕ
 needed own e f = room (octetsDown own ((work own e f) .frames))
 
 -- 7 for another channel's word, 10 for one not of four octets; an invalid word is no refusal
-abbrev pub otherRefusal : Heard → ℕ
+abbrev pub otherRefusal : WordReceived → ℕ
 otherRefusal (valid w) = 0
 otherRefusal invalid = 0
 otherRefusal (other r) = r

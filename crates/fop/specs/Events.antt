@@ -7,7 +7,7 @@ use lib.Dec.{leb, ltb, eqb}
 use Rattle.base.specs.Choice.{pick}
 use Rattle.base.specs.Modulo.{offset}
 use Rattle.fop.specs.Limits.{largestK, largestTransmissionLimit, largestTimer, largestNumber}
-use Rattle.fop.specs.Units.{Own, Word, Heard, valid, invalid, other, readWord}
+use Rattle.fop.specs.Units.{Own, Word, WordReceived, valid, invalid, other, readWord}
 use Rattle.fop.specs.Table.{FopEvent, E1, E2, E3, E4, E5, E6, E7, E8, E9, E10, E11, E12, E13, E14, E15, E16, E17, E18, E19, E20, E21, E22, E23, E24, E25, E26, E27, E28, E29, E30, E31, E32, E33, E34}
 use Rattle.fop.specs.Table.{E35, E36, E37, E38, E39, E40, E41, E42, E43, E44, E45, E46, E101, E102, E103, E104}
 use Rattle.fop.specs.Variables.{Fop, Work, setClock, begin}
@@ -163,10 +163,10 @@ unfoldable pub fopDirective : ℕ → ℕ → Fop → Work
 fopDirective d v f = fopDo (directiveEvent d v f) [] v f
 
 -- a word of another channel is no event
-unfoldable pub fopHeard : Heard → Fop → Work
-fopHeard (valid w) f = fopWord w f
-fopHeard invalid f = fopDo E15 [] 0 f
-fopHeard (other r) f = begin none [] 0 f
+unfoldable pub fopReceived : WordReceived → Fop → Work
+fopReceived (valid w) f = fopWord w f
+fopReceived invalid f = fopDo E15 [] 0 f
+fopReceived (other r) f = begin none [] 0 f
 
 -- what the sender is asked; a directive by its number and value, a control word by its octets
 pub data SenderEvent : Type 0 where
@@ -183,4 +183,4 @@ work own (requestBd o) f = fopBd o f
 work own tick f = fopTick f
 work own (lower l) f = fopLower l f
 work own (directive d v) f = fopDirective d v f
-work own (wordArrives s) f = fopHeard (readWord own s) f
+work own (wordArrives s) f = fopReceived (readWord own s) f

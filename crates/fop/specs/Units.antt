@@ -1,4 +1,4 @@
--- What FOP-1 hands down and hears: units, frames with their octets, control words.
+-- What FOP-1 hands down and receives: units, frames with their octets, control words.
 use mathlib.Core.Bool.{Bool, true, _&&_}
 use mathlib.Core.List.{List, [], _∷_}
 use Prim.Native.Nat.{ℕ}
@@ -10,8 +10,8 @@ use Rattle.frame.specs.Frame.{frameOf}
 use Rattle.frame.specs.declared.Kind.the-variants as kind
 use Rattle.clcw.specs.Clcw.{clcwOf}
 use Rattle.clcw.specs.Answers.{readingOf}
-use Rattle.clcw.specs.declared.Reading.{Reading}
-use Rattle.clcw.specs.declared.Reading.the-variants as reading
+use Rattle.clcw.specs.declared.WordReading.{WordReading}
+use Rattle.clcw.specs.declared.WordReading.the-variants as reading
 
 -- a unit (FDU): "A unit is its N(S) and octets" (document 01, "The session")
 pub record Fdu : Type 0 where
@@ -41,10 +41,10 @@ pub record Word : Type 0 where
   pub nr : ℕ
 
 -- what octets are to the sender: a valid word; "an invalid CLCW, which is no refusal but FOP-1's event for that"; or refused, with the number
-pub data Heard : Type 0 where
-  valid : Word → Heard
-  invalid : Heard
-  other : ℕ → Heard
+pub data WordReceived : Type 0 where
+  valid : Word → WordReceived
+  invalid : WordReceived
+  other : ℕ → WordReceived
 
 -- each number is an octet
 abbrev pub areOctets : List ℕ → Bool
@@ -69,8 +69,8 @@ wordOctets own w =
     clcwOf (record { channel = own .channel; lockout = w .lockout; wait = w .wait; retransmit = w .retransmit; counter = w .counter; report = w .nr })
 
 -- a reading of crate clcw; status, no RF and no bit lock are "read and not judged"
-abbrev pub heard : Reading → Heard
-heard (reading.Word r) =
+abbrev pub wordReceived : WordReading → WordReceived
+wordReceived (reading.Word r) =
     valid (record {
       lockout = r .word .lockout;
       wait = r .word .wait;
@@ -78,10 +78,10 @@ heard (reading.Word r) =
       counter = r .word .counter;
       nr = r .word .report;
     })
-heard reading.Invalid = invalid
-heard reading.Address = other 7
-heard reading.Length = other 10
+wordReceived reading.Invalid = invalid
+wordReceived reading.Address = other 7
+wordReceived reading.Length = other 10
 
--- any octets, heard at our channel; a list with a number above 255 is no octets, and so "a CLCW not of four octets"
-unfoldable pub readWord : Own → List ℕ → Heard
-readWord own s = heard (pick (areOctets s) (readingOf s (own .channel)) reading.Length)
+-- any octets, read at our channel; a list with a number above 255 is no octets, and so "a CLCW not of four octets"
+unfoldable pub readWord : Own → List ℕ → WordReceived
+readWord own s = wordReceived (pick (areOctets s) (readingOf s (own .channel)) reading.Length)

@@ -11,7 +11,6 @@ use lib.Seq.{take-nil, drop-nil}
 use Rattle.base.specs.Choice.{pick}
 use Rattle.base.specs.Modulo.{advanced, offset}
 use Rattle.base.proofs.Tests.{yes, no}
-use Rattle.fop.specs.Limits.{largestK}
 use Rattle.fop.specs.Units.{Fdu}
 use Rattle.fop.specs.Variables.{Entry}
 use Rattle.fop.specs.Machine.{fdus, isAcknowledged, acknowledged, unacknowledged}
@@ -83,7 +82,7 @@ place-le : (q s j x v : ℕ) → s ≤ q → x ≤ q → j < s → v ≡ q - x �
 place-le q s j x v a b c d e f = omega arith
 
 -- the place of the number n in the queue
-module _ (vs nnr n sent j : ℕ) (a : vs < 256) (b : nnr < 256) (c : n < 256) (d : offset vs nnr ≤ largestK) (e : sent ≤ offset vs nnr)
+module _ (vs nnr n sent j : ℕ) (a : vs < 256) (b : nnr < 256) (c : n < 256) (e : sent ≤ offset vs nnr)
     (f : offset n nnr ≤ offset vs nnr) (h : j < sent) where
   -- V(S) - NN(R)
   abbrev q : ℕ

@@ -4,6 +4,7 @@ use mathlib.Core.Path.{_≡_, refl, _∙_}
 use mathlib.Core.Bool.{Bool, true, false}
 use mathlib.Core.List.{List, [], _∷_, _++_}
 use Prim.Native.Nat.{ℕ, zero, suc, _+_, _-_, _*_, _≤_, _<_}
+use native.Mathlib.Nat.{le-trans}
 use native.Mathlib.Omega.{arith}
 use borrow.Author.Tests.{ltb-true}
 use lib.Dec.{ltb}
@@ -29,7 +30,7 @@ use Rattle.fop_actions.specs.Actions as act
 use Rattle.fop_actions.specs.Actions.{least, staying, removed}
 use Rattle.fop_actions.specs.Limits.{places}
 use Rattle.fop_actions.specs.View.{Formed, WellFormed, without}
-use Rattle.fop_actions.proofs.Offsets.{offset-between}
+use Rattle.fop_actions.proofs.ViewRemoval.{least-first}
 
 -- The actions that leave them alone.
 module _ (w : Work) (store : List ℕ) (well : WellFormed w store) where
@@ -131,13 +132,13 @@ module _ (w : Work) (store : List ℕ) (well : WellFormed w store) where
   initiate-bc-retransmission = well
 
   -- Other counts of units, within their bounds.
-  counted : (sent marked : ℕ) → sent ≤ offset (w .variables .vs) (w .variables .nnr) → marked ≤ sent
+  counted : (sent marked : ℕ) → sent ≤ w .queues .sent → marked ≤ sent
       → Formed (w .variables .vs) (w .variables .nnr) sent marked (w .queues .lengths) store
   counted sent marked few last = record {
     vs-octet = well .vs-octet;
     nnr-octet = well .nnr-octet;
-    window = well .window;
-    outstanding = few;
+    sent-most = le-trans few (well .sent-most);
+    outstanding = le-trans few (well .outstanding);
     last = last;
     all-places = well .all-places;
     units = well .units;
@@ -147,7 +148,7 @@ module _ (w : Work) (store : List ℕ) (well : WellFormed w store) where
   -- The marks.
   pub initiate-ad-retransmission : WellFormed (act.initiateAdRetransmission w) store
   unfolding act.initiateAdRetransmission act.again act.startTimer act.abort withVariables withQueues withTold
-  initiate-ad-retransmission = counted (w .queues .sent) (w .queues .sent) (well .outstanding) (omega arith)
+  initiate-ad-retransmission = counted (w .queues .sent) (w .queues .sent) (omega arith) (omega arith)
 
   one-fewer : (m s : ℕ) → 0 < m → m ≤ s → s ≤ largestK → offset m 1 ≤ s
   one-fewer m s a b c = omega arith
@@ -155,8 +156,8 @@ module _ (w : Work) (store : List ℕ) (well : WellFormed w store) where
   send-marked : 0 < w .queues .marked → WellFormed (act.sendMarked w) store
   unfolding act.sendMarked act.handDown withVariables withQueues withTold
   send-marked h =
-      let fewer : offset (w .queues .marked) 1 ≤ w .queues .sent = one-fewer (w .queues .marked) (w .queues .sent) h (well .last) (omega (arith, well .outstanding, well .window)) in
-      counted (w .queues .sent) (offset (w .queues .marked) 1) (well .outstanding) fewer
+      let fewer : offset (w .queues .marked) 1 ≤ w .queues .sent = one-fewer (w .queues .marked) (w .queues .sent) h (well .last) (well .sent-most) in
+      counted (w .queues .sent) (offset (w .queues .marked) 1) (omega arith) fewer
 
   -- One unit more.
   next-octet : (n : ℕ) → advanced n 1 < 256
@@ -174,11 +175,11 @@ module _ (w : Work) (store : List ℕ) (well : WellFormed w store) where
       let a : offset (w .variables .vs) (w .variables .nnr) < largestK = omega (arith, ltb-true (offset (w .variables .vs) (w .variables .nnr)) (w .settings .k) i, k) in
       let b : offset (advanced (w .variables .vs) 1) (w .variables .nnr) ≡ offset (w .variables .vs) (w .variables .nnr) + 1 =
       next-offset (w .variables .vs) (w .variables .nnr) (well .vs-octet) (well .nnr-octet) a in
-      let c : advanced (w .queues .sent) 1 ≡ w .queues .sent + 1 = next-count (w .queues .sent) (omega (arith, well .outstanding, well .window)) in
+      let c : advanced (w .queues .sent) 1 ≡ w .queues .sent + 1 = next-count (w .queues .sent) (well .sent-most) in
       record {
         vs-octet = next-octet (w .variables .vs);
         nnr-octet = well .nnr-octet;
-        window = rw b (omega arith);
+        sent-most = rw c (omega (arith, a, well .outstanding));
         outstanding = rw (b, c) (omega (arith, well .outstanding));
         last = rw c (omega (arith, well .last));
         all-places = well .all-places;
@@ -231,16 +232,13 @@ unfolding act.initialise act.countOne act.setSuspendState withVariables
 initialise w store well = both-purged w store well
 
 -- V(S) and NN(R) set to one number, with nothing on the sent queue.
-no-offset : (n : ℕ) → n < 256 → offset n n ≡ 0
-no-offset n h = omega arith
-
 pub set-numbers : (w : Work) (store : List ℕ) (n : ℕ) → WellFormed w store → w .queues .sent ≡ 0 → n < 256 → WellFormed (act.setNnr n (act.setVs n w)) store
 unfolding act.setNnr act.setVs withVariables
 set-numbers w store n well z h = record {
   vs-octet = h;
   nnr-octet = h;
-  window = rw (no-offset n h) (omega arith);
-  outstanding = rw (no-offset n h) (omega arith);
+  sent-most = well .sent-most;
+  outstanding = omega (arith, z);
   last = well .last;
   all-places = well .all-places;
   units = well .units;
@@ -267,7 +265,7 @@ set-units (y ∷ ys) zero x h a (suc i) = a (suc i)
 set-units (y ∷ ys) (suc k) x h a zero = a zero
 set-units (y ∷ ys) (suc k) x h a (suc i) = set-units ys k x h (λ j. a (suc j)) i
 
--- Remove acknowledged frames, by a number from NN(R) to V(S).
+-- Remove acknowledged frames, by any number.
 least-second : (a b : ℕ) → least a b ≤ b
 least-second a b = by (ltb a b) refl where
   by : (x : Bool) → ltb a b ≡ x → pick x a b ≤ b
@@ -275,22 +273,18 @@ least-second a b = by (ltb a b) refl where
   by false e = omega arith
 
 module _ (w : Work) (store : List ℕ) (well : WellFormed w store) where
-  pub remove-acknowledged-frames : (n : ℕ) → n < 256 → offset n (w .variables .nnr) ≤ offset (w .variables .vs) (w .variables .nnr)
-      → WellFormed (act.removeAcknowledgedFrames n w) (without (w .queues .sent - staying n w) store)
+  pub remove-acknowledged-frames : (n : ℕ) → n < 256 → WellFormed (act.removeAcknowledgedFrames n w) (without (w .queues .sent - staying n w) store)
   unfolding act.removeAcknowledgedFrames withVariables withQueues withTold
-  remove-acknowledged-frames n h i =
-      let b : offset (w .variables .vs) n ≡ offset (w .variables .vs) (w .variables .nnr) - offset n (w .variables .nnr) =
-      offset-between (w .variables .vs) (w .variables .nnr) n (well .vs-octet) (well .nnr-octet) h i in
-      record {
-        vs-octet = well .vs-octet;
-        nnr-octet = h;
-        window = rw b (omega (arith, well .window));
-        outstanding = least-second (w .queues .sent) (offset (w .variables .vs) n);
-        last = least-second (w .queues .marked) (staying n w);
-        all-places = slid-length (removed n w) (w .queues .lengths) ∙ well .all-places;
-        units = slid-units (removed n w) (w .queues .lengths) (well .units);
-        room = rw (within-length (largestUnit * places) (largestUnit * (w .queues .sent - staying n w)) store) (well .room);
-      }
+  remove-acknowledged-frames n h = record {
+    vs-octet = well .vs-octet;
+    nnr-octet = h;
+    sent-most = le-trans (least-first (w .queues .sent) (offset (w .variables .vs) n)) (well .sent-most);
+    outstanding = least-second (w .queues .sent) (offset (w .variables .vs) n);
+    last = least-second (w .queues .marked) (staying n w);
+    all-places = slid-length (removed n w) (w .queues .lengths) ∙ well .all-places;
+    units = slid-units (removed n w) (w .queues .lengths) (well .units);
+    room = rw (within-length (largestUnit * places) (largestUnit * (w .queues .sent - staying n w)) store) (well .room);
+  }
 
   -- Add to Wait_Queue.
   set-lengths : (b : Bool) (x : ℕ) → x ≤ largestUnit
@@ -298,7 +292,7 @@ module _ (w : Work) (store : List ℕ) (well : WellFormed w store) where
   set-lengths true x h = record {
     vs-octet = well .vs-octet;
     nnr-octet = well .nnr-octet;
-    window = well .window;
+    sent-most = well .sent-most;
     outstanding = well .outstanding;
     last = well .last;
     all-places = length-set (w .queues .lengths) (w .queues .sent) x ∙ well .all-places;
@@ -316,7 +310,7 @@ pub other-store : (w : Work) (store after : List ℕ) → WellFormed w store →
 other-store w store after well e = record {
   vs-octet = well .vs-octet;
   nnr-octet = well .nnr-octet;
-  window = well .window;
+  sent-most = well .sent-most;
   outstanding = well .outstanding;
   last = well .last;
   all-places = well .all-places;

@@ -12,7 +12,6 @@ use lib.ListN.{take, drop}
 use Rattle.base.specs.Choice.{pick}
 use Rattle.base.specs.Modulo.{advanced, offset}
 use Rattle.store.specs.Slid.{slid}
-use Rattle.fop.specs.Limits.{largestK}
 use Rattle.fop.specs.Units.{Fdu, Frame}
 use Rattle.fop.specs.Table as table
 use Rattle.fop.specs.Table.{FopEvent}
@@ -49,7 +48,7 @@ module _ (w : Work) (store : List ℕ) (n : ℕ) (well : WellFormed w store) whe
   -- the units that go
   pub gone-is : removed n w ≡ w .queues .sent - staying n w
   gone-is =
-      let h : w .queues .sent < 256 = omega (arith, well .outstanding, well .window) in
+      let h : w .queues .sent < 256 = omega (arith, well .sent-most) in
       offset-ge (w .queues .sent) (staying n w) (least-first (w .queues .sent) (offset (w .variables .vs) n)) h
 
 module _ (e : Option FopEvent) (o : List ℕ) (n : ℕ) (d : List Fdu) (w : Work) (store : List ℕ) (first : w .told .handed ≡ handed.None) (well : WellFormed w store)
@@ -66,13 +65,10 @@ module _ (e : Option FopEvent) (o : List ℕ) (n : ℕ) (d : List Fdu) (w : Work
   rest-few : rest ≤ w .queues .sent
   rest-few = least-first (w .queues .sent) (offset (w .variables .vs) n)
 
-  sent-few : w .queues .sent ≤ largestK
-  sent-few = omega (arith, well .outstanding, well .window)
-
   which : (j : ℕ) → j < 0 + w .queues .sent
       → isAcknowledged (w .variables .nnr) n (entryAt (w .queues .lengths) store (offset (w .variables .vs) (w .queues .sent)) (w .queues .sent - w .queues .marked) j) ≡ ltb j gone
   which j h =
-      acknowledged-place (w .variables .vs) (w .variables .nnr) n (w .queues .sent) j (well .vs-octet) (well .nnr-octet) octet (well .window) (well .outstanding) in-window (omega arith)
+      acknowledged-place (w .variables .vs) (w .variables .nnr) n (w .queues .sent) j (well .vs-octet) (well .nnr-octet) octet (well .outstanding) in-window (omega arith)
 
   queue-left : unacknowledged (w .variables .nnr) n Sent
       ≡ entriesOf (slid gone (w .queues .lengths)) (without gone store) (w .variables .vs) rest (least (w .queues .marked) rest)
@@ -83,13 +79,13 @@ module _ (e : Option FopEvent) (o : List ℕ) (n : ℕ) (d : List Fdu) (w : Work
       let a : gone - 0 ≡ gone = omega arith in
       let b : q .sent ≡ gone + rest = omega (arith, rest-few) in
       let k : gone + 0 ≡ 0 + gone = omega arith in
-      let g : advanced f gone ≡ offset (w .variables .vs) rest = offset-add (w .variables .vs) (q .sent) rest rest-few (omega (arith, sent-few)) (well .vs-octet) in
+      let g : advanced f gone ≡ offset (w .variables .vs) rest = offset-add (w .variables .vs) (q .sent) rest rest-few (omega (arith, well .sent-most)) (well .vs-octet) in
       left (q .lengths) store f p (w .variables .nnr) n gone 0 (q .sent) which
       ∙ ap (λ (x : ℕ). drop x (entriesFrom (q .lengths) store f p 0 (q .sent))) a
       ∙ ap (λ (x : ℕ). drop gone (entriesFrom (q .lengths) store f p 0 x)) b
       ∙ dropped (q .lengths) store f p gone 0 rest
       ∙ ap (λ (x : ℕ). entriesFrom (q .lengths) store f p x rest) (sym k)
-      ∙ sym (entries-slid (q .lengths) store f p gone (well .units) (well .all-places) (well .room) 0 rest (omega (arith, rest-few, sent-few)))
+      ∙ sym (entries-slid (q .lengths) store f p gone (well .units) (well .all-places) (well .room) 0 rest (omega (arith, rest-few, well .sent-most)))
       ∙ ap (λ (x : ℕ). entriesFrom (slid gone (q .lengths)) (without gone store) x (p - gone) 0 rest) g
       ∙ ap (λ (x : ℕ). entriesFrom (slid gone (q .lengths)) (without gone store) (offset (w .variables .vs) rest) x 0 rest)
       (sym (rest-unmarked (q .sent) (q .marked) rest rest-few))
@@ -100,7 +96,7 @@ module _ (e : Option FopEvent) (o : List ℕ) (n : ℕ) (d : List Fdu) (w : Work
       let q = w .queues in
       let b : q .sent ≡ gone + rest = omega (arith, rest-few) in
       ap (λ (u : List ℕ). pick (q .waiting) (some u) none)
-      (ap (λ (x : ℕ). unitAt (q .lengths) x store) b ∙ sym (unit-slid (q .lengths) store 0 0 gone (well .units) (well .all-places) (well .room) rest (omega (arith, rest-few, sent-few))))
+      (ap (λ (x : ℕ). unitAt (q .lengths) x store) b ∙ sym (unit-slid (q .lengths) store 0 0 gone (well .units) (well .all-places) (well .room) rest (omega (arith, rest-few, well .sent-most))))
 
   pub remove-acknowledged-frames : perform table.RemoveAcknowledgedFrames (view e o n [] d w store)
       ≡ view e o n (fdus (take gone Sent)) d (act.removeAcknowledgedFrames n w) (without gone store)

@@ -1,21 +1,16 @@
--- A sender at its start, and the work on an event at its start, are the machine's; that work is well formed and has room for every
--- response.
+-- A sender at its start, and the work on an event at its start, are the machine's; that work has room for every response.
 use mathlib.Core.Path.{_≡_, refl}
 use mathlib.Core.List.{List, []}
 use mathlib.Core.Option.{Option}
-use Prim.Native.Nat.{ℕ, zero, suc, _*_, _≤_, _<_}
+use Prim.Native.Nat.{ℕ}
 use native.Mathlib.Omega.{arith}
-use lib.ListN.{length, getD, replicate, length-replicate}
-use Rattle.base.specs.Limits.{largestUnit}
-use Rattle.base.specs.Modulo.{offset}
-use Rattle.fop.specs.Limits.{largestK}
 use Rattle.fop.specs.Table.{FopEvent}
 use Rattle.fop.specs.Variables as machine
-use Rattle.fop_actions.specs.declared.Sender.{Sender}
+use Rattle.fop_actions.specs.declared.SenderState.{SenderState}
 use Rattle.fop_actions.specs.declared.Settings.{Settings}
-use Rattle.fop_actions.specs.Limits.{places, largestResponses}
+use Rattle.fop_actions.specs.Limits.{largestResponses}
 use Rattle.fop_actions.specs.Start.{startOf, noneTold, begun}
-use Rattle.fop_actions.specs.View.{fopOf, view, WellFormed}
+use Rattle.fop_actions.specs.View.{fopOf, view}
 use Rattle.fop_actions.proofs.ViewAnswers.{Room}
 
 pub started : (s : Settings) (vs nnr : ℕ) (store : List ℕ)
@@ -24,30 +19,11 @@ pub started : (s : Settings) (vs nnr : ℕ) (store : List ℕ)
 unfolding startOf begun
 started s vs nnr store = refl
 
-pub begins : (e : Option FopEvent) (o : List ℕ) (n : ℕ) (s : Sender) (store : List ℕ)
+pub begins : (e : Option FopEvent) (o : List ℕ) (n : ℕ) (s : SenderState) (store : List ℕ)
     → view e o n [] [] (begun s) store ≡ machine.begin e o n (fopOf (begun s) store)
 unfolding begun noneTold
 begins e o n s store = refl
 
-pub room-begun : (s : Sender) → Room largestResponses (begun s .told .responses)
+pub room-begun : (s : SenderState) → Room largestResponses (begun s .told .responses)
 unfolding begun noneTold
 room-begun s = record { few = omega arith; all-numbers = refl }
-
-zeros : (k i : ℕ) → getD (replicate k 0) i 0 ≤ largestUnit
-zeros zero i = omega arith
-zeros (suc k) zero = omega arith
-zeros (suc k) (suc i) = zeros k i
-
-pub well-started : (s : Settings) (vs nnr : ℕ) (store : List ℕ) → vs < 256 → nnr < 256 → offset vs nnr ≤ largestK → largestUnit * places ≤ length store
-    → WellFormed (begun (startOf s vs nnr)) store
-unfolding startOf begun
-well-started s vs nnr store a b w r = record {
-  vs-octet = a;
-  nnr-octet = b;
-  window = w;
-  outstanding = omega arith;
-  last = omega arith;
-  all-places = length-replicate {A = ℕ} places 0;
-  units = zeros places;
-  room = r;
-}

@@ -149,9 +149,6 @@ module _ (e : Option FopEvent) (o : List ℕ) (n : ℕ) (c d : List Fdu) (w : Wo
 
   -- Look for FDU
   module _ (well : WellFormed w store) (room : Room 1 (w .told .responses)) where
-    sent-few : w .queues .sent ≤ largestK
-    sent-few = omega (arith, well .outstanding, well .window)
-
     marked-again : 0 < w .queues .marked
         → sendNext (firstMarked (entriesOf (w .queues .lengths) store (w .variables .vs) (w .queues .sent) (w .queues .marked))) (view e o n c d w store)
         ≡ view e o n c d (act.sendMarked w) store
@@ -162,9 +159,9 @@ module _ (e : Option FopEvent) (o : List ℕ) (n : ℕ) (c d : List Fdu) (w : Wo
         let p = q .sent - q .marked in
         let f = offset (v .vs) (q .sent) in
         let Q = entriesOf (q .lengths) store (v .vs) (q .sent) (q .marked) in
-        let x : advanced f p ≡ offset (v .vs) (q .marked) = offset-add (v .vs) (q .sent) (q .marked) (well .last) (omega (arith, sent-few)) (well .vs-octet) in
-        let y : p ≡ offset (q .sent) (q .marked) = sym (offset-ge (q .sent) (q .marked) (well .last) (omega (arith, sent-few))) in
-        let z : q .sent - offset (q .marked) 1 ≡ suc p = one-fewer (q .sent) (q .marked) h (well .last) sent-few in
+        let x : advanced f p ≡ offset (v .vs) (q .marked) = offset-add (v .vs) (q .sent) (q .marked) (well .last) (omega (arith, well .sent-most)) (well .vs-octet) in
+        let y : p ≡ offset (q .sent) (q .marked) = sym (offset-ge (q .sent) (q .marked) (well .last) (omega (arith, well .sent-most))) in
+        let z : q .sent - offset (q .marked) 1 ≡ suc p = one-fewer (q .sent) (q .marked) h (well .last) (well .sent-most) in
         let F : List Frame → ℕ → ℕ → List Entry → machine.Work = λ fr i j xs.
         seen e o n c d w (machine.setOut false (v .«bc_out») (v .«bd_out») (machine.setSequence (v .vs) (v .nnr) xs (fopOf w store)))
         (fr ++ (AD (record { ns = i; octets = unitAt (q .lengths) j store }) ∷ [])) (responsesOf (w .told .responses)) in
@@ -194,7 +191,7 @@ module _ (e : Option FopEvent) (o : List ℕ) (n : ℕ) (c d : List Fdu) (w : Wo
         let more = entriesOf (q .lengths) store (advanced (v .vs) 1) (advanced (q .sent) 1) (q .marked) in
         ap (λ (fr : List Frame). F fr rs (countFor Q (v .«transmission_count»)) (Q ++ (new ∷ []))) no-frames
         ∙ ap (λ (x : ℕ). F [] rs x (Q ++ (new ∷ []))) (count-same (q .lengths) store (offset (v .vs) (q .sent)) (q .sent - q .marked) (q .sent) (v .«transmission_count»))
-        ∙ ap (F [] rs k) (sym (sent-more (q .lengths) store (v .vs) (q .sent) (q .marked) z sent-few (well .vs-octet)))
+        ∙ ap (F [] rs k) (sym (sent-more (q .lengths) store (v .vs) (q .sent) (q .marked) z (well .sent-most) (well .vs-octet)))
         ∙ ap (λ (r : List machine.Response). F [] r k more) (sym (more-responses 1 (w .told .responses) room))
 
     none-marked-next : w .queues .marked ≡ 0

@@ -88,7 +88,7 @@ module _ (e : Option FopEvent) (o : List ℕ) (n : ℕ) (c d : List Fdu) (w : Wo
   add-to-wait-queue =
       let q = w .queues in
       let v = w .variables in
-      let few : q .sent < places = omega (arith, well .outstanding, well .window) in
+      let few : q .sent < places = omega (arith, well .sent-most) in
       let room : largestUnit * q .sent + length o ≤ length store = omega (arith, well .room, legal, few) in
       let lengths = set (q .lengths) (q .sent) (length o) in
       let after = placed store (largestUnit * q .sent) o in

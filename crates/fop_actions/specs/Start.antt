@@ -7,13 +7,13 @@ use Rattle.fop_actions.specs.declared.Settings.{Settings}
 use Rattle.fop_actions.specs.declared.Control.the-variants as control
 use Rattle.fop_actions.specs.declared.Handed.the-variants as handed
 use Rattle.fop_actions.specs.declared.Alert.the-variants as alert
-use Rattle.fop_actions.specs.declared.Sender.{Sender}
+use Rattle.fop_actions.specs.declared.SenderState.{SenderState}
 use Rattle.fop_actions.specs.declared.Told.{Told}
 use Rattle.fop_actions.specs.declared.Work.{Work}
 use Rattle.fop_actions.specs.Limits.{places, largestResponses}
 
 -- document 01: "A sender starts Initial, flags ready, queues empty, timer stopped, Transmission_Count 1, with the numbers and settings given"
-unfoldable pub startOf : Settings → ℕ → ℕ → Sender
+unfoldable pub startOf : Settings → ℕ → ℕ → SenderState
 startOf settings vs nnr = record {
   state = S6;
   settings = settings;
@@ -43,9 +43,9 @@ noneTold = record {
 }
 
 -- the work on an event at its start
-unfoldable pub begun : Sender → Work
+unfoldable pub begun : SenderState → Work
 begun s = record { state = s .state; settings = s .settings; variables = s .variables; queues = s .queues; told = noneTold }
 
 -- the sender that the work leaves
-unfoldable pub senderOf : Work → Sender
+unfoldable pub senderOf : Work → SenderState
 senderOf w = record { state = w .state; settings = w .settings; variables = w .variables; queues = w .queues }

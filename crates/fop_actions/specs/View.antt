@@ -142,13 +142,13 @@ view e o n c d w store = record {
   suspended = w .told .suspended;
 }
 
--- What the laws need of V(S), NN(R), the counts, the lengths and the store: the numbers are octets; V(S) - NN(R) is at most the largest K;
--- the AD units are the last `sent` numbers below V(S), and no more than V(S) - NN(R); the marked ones are the last of them; each place has
--- the length of a unit, and the store has room for all.
+-- What the laws need of V(S), NN(R), the counts, the lengths and the store: the numbers are octets; the AD units are the last `sent` numbers
+-- below V(S), no more than the largest K and no more than V(S) - NN(R); the marked ones are the last of them; each place has the length of a
+-- unit, and the store has room for all.
 pub record Formed (vs nnr sent marked : ℕ) (lengths store : List ℕ) : Type 0 where
   pub vs-octet : vs < 256
   pub nnr-octet : nnr < 256
-  pub window : offset vs nnr ≤ largestK
+  pub sent-most : sent ≤ largestK
   pub outstanding : sent ≤ offset vs nnr
   pub last : marked ≤ sent
   pub all-places : length lengths ≡ places

@@ -115,7 +115,7 @@ pub struct Run {
 }
 
 // The state of the sender, beside its store.
-pub struct Sender {
+pub struct SenderState {
     pub state: State,
     pub settings: Settings,
     pub variables: Variables,

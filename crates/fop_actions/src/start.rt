@@ -7,7 +7,7 @@ use crate::PLACES;
 use crate::Queues;
 use crate::Responses;
 use crate::Run;
-use crate::Sender;
+use crate::SenderState;
 use crate::Settings;
 use crate::State;
 use crate::Told;
@@ -17,7 +17,7 @@ ghost use mathlib.Core.Path.{_≡_};
 ghost use Rattle.fop_actions.specs.Start.{startOf, noneTold, begun, senderOf};
 
 // A sender starts Initial, with its flags Ready, its queues empty, the timer stopped and Transmission_Count 1.
-pub fn start(settings: Settings, vs: u8, nnr: u8) -> Sender
+pub fn start(settings: Settings, vs: u8, nnr: u8) -> SenderState
     ensures { λ r. ⌜ r ≡ startOf settings vs nnr ⌝ }
 {
     let variables = Variables {
@@ -39,7 +39,7 @@ pub fn start(settings: Settings, vs: u8, nnr: u8) -> Sender
         control_marked: false,
         lengths: lengths,
     };
-    Sender {
+    SenderState {
         state: State::S6,
         settings: settings,
         variables: variables,
@@ -72,7 +72,7 @@ fn none_told() -> Told
 }
 
 // The work on an event at its start.
-pub fn begin(sender: Sender) -> Work
+pub fn begin(sender: SenderState) -> Work
     ensures { λ r. ⌜ r ≡ begun sender ⌝ }
 {
     let told = none_told();
@@ -90,14 +90,14 @@ pub fn begin(sender: Sender) -> Work
 }
 
 // The sender after the work on an event.
-pub fn sender_of(work: Work) -> Sender
+pub fn sender_of(work: Work) -> SenderState
     ensures { λ r. ⌜ r ≡ senderOf work ⌝ }
 {
     let state = work.state;
     let settings = work.settings;
     let variables = work.variables;
     let queues = work.queues;
-    Sender {
+    SenderState {
         state: state,
         settings: settings,
         variables: variables,

@@ -9,7 +9,7 @@ use borrow.Author.Tests.{lt-leb, le-leb, eqb-true, eqb-false}
 use Rattle.base.specs.Choice.{pick, must}
 use Rattle.fop.specs.Table.{FopEvent, E25, E26, E27, E28, E30, E31, E32, E33, E34, E35, E36, E37, E38, E39, E40}
 use Rattle.fop.specs.Events.{directiveEvent}
-use Rattle.fop_actions.specs.declared.Sender.{Sender}
+use Rattle.fop_actions.specs.declared.SenderState.{SenderState}
 use Rattle.fop_actions.specs.Start.{begun}
 use Rattle.fop_events.specs.Events.{eventNumber, directiveNumber}
 use Rattle.fop_events.specs.Rows.{initiate, resume, setNumber, setLimit}
@@ -50,7 +50,7 @@ by-state false true c e = refl
 by-state false false true e = refl
 by-state false false false e = by-flag e E33 E34
 
-module _ (d v : ℕ) (s : Sender) where
+module _ (d v : ℕ) (s : SenderState) where
   -- Initiate AD service without CLCW check (1), with CLCW check (2)
   pub initiated : 1 ≤ d → d < 3 → d + 22 ≡ directiveNumber d v s
   unfolding directiveNumber directiveEvent

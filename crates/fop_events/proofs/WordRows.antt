@@ -10,7 +10,7 @@ use Rattle.base.specs.Modulo.{offset}
 use Rattle.base.proofs.Tests.{yes, no}
 use Rattle.clcw.specs.declared.Clcw.{Clcw}
 use Rattle.fop.specs.Events.{wordEvent}
-use Rattle.fop_actions.specs.declared.Sender.{Sender}
+use Rattle.fop_actions.specs.declared.SenderState.{SenderState}
 use Rattle.fop_actions.specs.Start.{begun}
 use Rattle.fop_events.specs.Events.{eventNumber, wordNumber}
 use Rattle.fop_events.specs.Rows.{allAcknowledged, someAcknowledged, noneAcknowledged, retransmissionAsked}
@@ -48,7 +48,7 @@ choices false true true false false true false false = refl
 choices false true false false false true false false = refl
 
 -- q is V(S) - NN(R), x is N(R) - NN(R)
-module _ (w : Clcw) (s : Sender) {q x : ℕ} (outstanding : q ≡ offset (s .variables .vs) (s .variables .nnr)) (acknowledged : x ≡ offset (w .report) (s .variables .nnr)) where
+module _ (w : Clcw) (s : SenderState) {q x : ℕ} (outstanding : q ≡ offset (s .variables .vs) (s .variables .nnr)) (acknowledged : x ≡ offset (w .report) (s .variables .nnr)) where
   -- the choices in the order of the function
   asked : wordNumber w s
       ≡ pick (w .lockout) 14 (pick (ltb q x) 13 (pick (eqb x q) (allAcknowledged w x) (pick (w .retransmit) (retransmissionAsked s w x) (someAcknowledged w x))))
@@ -75,5 +75,5 @@ module _ (w : Clcw) (s : Sender) {q x : ℕ} (outstanding : q ≡ offset (s .var
   some-there e p i a t = e ∙ sym (asked ∙ no _ _ _ p ∙ no _ _ _ (le-ltb _ _ i) ∙ no _ _ _ (ne-eqb _ _ a) ∙ no _ _ _ t)
 
 -- E14, whatever the numbers
-pub lockout-set : (w : Clcw) (s : Sender) → w .lockout ≡ true → 14 ≡ wordNumber w s
+pub lockout-set : (w : Clcw) (s : SenderState) → w .lockout ≡ true → 14 ≡ wordNumber w s
 lockout-set w s p = sym (asked w s refl refl ∙ yes _ _ _ p)

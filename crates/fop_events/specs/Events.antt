@@ -8,7 +8,7 @@ use Rattle.fop.specs.Units.{Word}
 use Rattle.fop.specs.Variables.{Fop}
 use Rattle.fop.specs.Events.{Lower, adAccept, adReject, bcAccept, bcReject, bdAccept, bdReject, lowerEvent, first, when, isEmpty, seen, wordEvent, expiryLines, directiveEvent}
 use Rattle.clcw.specs.declared.Clcw.{Clcw}
-use Rattle.fop_actions.specs.declared.Sender.{Sender}
+use Rattle.fop_actions.specs.declared.SenderState.{SenderState}
 use Rattle.fop_actions.specs.Start.{begun}
 use Rattle.fop_actions.specs.View.{fopOf}
 use Rattle.fop_events.specs.declared.Lower.{Lower as LowerAnswer}
@@ -68,7 +68,7 @@ eventNumber E103 = 103
 eventNumber E104 = 104
 
 -- the sender's variables; no condition of the table looks at a unit's octets, so no store is needed
-abbrev pub variablesOf : Sender → Fop
+abbrev pub variablesOf : SenderState → Fop
 variablesOf s = fopOf (begun s) []
 
 -- what a control word tells FOP-1
@@ -76,24 +76,24 @@ abbrev pub told : Clcw → Word
 told w = record { lockout = w .lockout; wait = w .wait; retransmit = w .retransmit; counter = w .counter; nr = w .report }
 
 -- E1 to E14 and E101 to E103
-unfoldable pub wordNumber : Clcw → Sender → ℕ
+unfoldable pub wordNumber : Clcw → SenderState → ℕ
 wordNumber w s = eventNumber (wordEvent (seen (told w) (variablesOf s)))
 
 -- E23 to E40
-unfoldable pub directiveNumber : ℕ → ℕ → Sender → ℕ
+unfoldable pub directiveNumber : ℕ → ℕ → SenderState → ℕ
 directiveNumber d v s = eventNumber (directiveEvent d v (variablesOf s))
 
 -- E16, E17, E18, E104
-unfoldable pub expiryNumber : Sender → ℕ
+unfoldable pub expiryNumber : SenderState → ℕ
 expiryNumber s =
     eventNumber (first (expiryLines (ltb (s .variables .«transmission_count») (s .settings .«transmission_limit»)) (eqb (s .settings .«timeout_type») 0)) E18)
 
 -- E19, E20
-unfoldable pub adNumber : Sender → ℕ
+unfoldable pub adNumber : SenderState → ℕ
 adNumber s = eventNumber (first (when (isEmpty (variablesOf s .waitQueue)) E19 ∷ []) E20)
 
 -- E21, E22
-unfoldable pub bdNumber : Sender → ℕ
+unfoldable pub bdNumber : SenderState → ℕ
 bdNumber s = eventNumber (first (when (s .variables .«bd_out») E21 ∷ []) E22)
 
 -- an answer of the lower layer, as crate fop names it

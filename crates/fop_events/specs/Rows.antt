@@ -6,7 +6,7 @@ use lib.Dec.{leb, ltb, eqb}
 use Rattle.base.specs.Choice.{pick, must}
 use Rattle.clcw.specs.declared.Clcw.{Clcw}
 use Rattle.fop.specs.Limits.{largestK, largestTransmissionLimit, largestNumber}
-use Rattle.fop_actions.specs.declared.Sender.{Sender}
+use Rattle.fop_actions.specs.declared.SenderState.{SenderState}
 
 -- N(R) = V(S): E1 to E4
 unfoldable pub allAcknowledged : Clcw → ℕ → ℕ
@@ -21,7 +21,7 @@ unfoldable pub noneAcknowledged : Clcw → Bool → ℕ
 noneAcknowledged w short = pick short (pick (w .wait) 11 10) (pick (w .wait) 103 12)
 
 -- N(R) before V(S), retransmission asked: E8 to E12 and E101 to E103
-unfoldable pub retransmissionAsked : Sender → Clcw → ℕ → ℕ
+unfoldable pub retransmissionAsked : SenderState → Clcw → ℕ → ℕ
 retransmissionAsked s w x =
     pick (eqb (s .settings .«transmission_limit») 1) (pick (eqb x 0) 102 101)
     (pick (eqb x 0) (noneAcknowledged w (ltb (s .variables .«transmission_count») (s .settings .«transmission_limit»)))

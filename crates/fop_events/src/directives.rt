@@ -1,5 +1,5 @@
 // A directive by its number, 1 to 11: E23 to E40. Any other number, or a value outside its limit, is the invalid directive, E40.
-use fop_actions::Sender;
+use fop_actions::SenderState;
 ghost use mathlib.Core.Path.{_≡_};
 ghost use Rattle.fop_events.specs.Events.{directiveNumber};
 ghost use Rattle.fop_events.specs.Rows.{initiate, resume, setNumber, setLimit};
@@ -91,7 +91,7 @@ fn set_limit_event(number: u8, value: u16) -> u8
 }
 
 // The event of a directive.
-pub fn directive_event(sender: Sender, number: u8, value: u16) -> u8
+pub fn directive_event(sender: SenderState, number: u8, value: u16) -> u8
     ensures { λ r. ⌜ r ≡ directiveNumber number value sender ⌝ }
 {
     match number {

@@ -2,7 +2,7 @@
 pub mod directives;
 pub mod words;
 
-use fop_actions::Sender;
+use fop_actions::SenderState;
 ghost use mathlib.Core.Path.{_≡_};
 ghost use Rattle.fop_events.specs.Events.{expiryNumber, adNumber, bdNumber, lowerNumber};
 
@@ -17,7 +17,7 @@ pub enum Lower {
 }
 
 // Request to transfer an AD unit: by the wait queue.
-pub fn ad_event(sender: Sender) -> u8
+pub fn ad_event(sender: SenderState) -> u8
     ensures { λ r. ⌜ r ≡ adNumber sender ⌝ }
 {
     let waiting = sender.queues.waiting;
@@ -28,7 +28,7 @@ pub fn ad_event(sender: Sender) -> u8
 }
 
 // Request to transfer a BD unit: by BD_Out_Flag.
-pub fn bd_event(sender: Sender) -> u8
+pub fn bd_event(sender: SenderState) -> u8
     ensures { λ r. ⌜ r ≡ bdNumber sender ⌝ }
 {
     let ready = sender.variables.bd_out;
@@ -39,7 +39,7 @@ pub fn bd_event(sender: Sender) -> u8
 }
 
 // The timer expires: by Transmission_Count and Timeout_Type.
-pub fn expiry_event(sender: Sender) -> u8
+pub fn expiry_event(sender: SenderState) -> u8
     ensures { λ r. ⌜ r ≡ expiryNumber sender ⌝ }
 {
     if sender.variables.transmission_count < sender.settings.transmission_limit {

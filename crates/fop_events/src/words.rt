@@ -1,7 +1,7 @@
 // A valid control word of our channel: E1 to E14 and E101 to E103. Numbers are compared modulo 256, from NN(R) on: `acknowledged` is
 // N(R) - NN(R), `outstanding` is V(S) - NN(R).
 use clcw::Clcw;
-use fop_actions::Sender;
+use fop_actions::SenderState;
 use fop_actions::values::difference;
 ghost use mathlib.Core.Path.{_≡_};
 ghost use Rattle.fop_events.specs.Events.{wordNumber};
@@ -53,7 +53,7 @@ fn none_acknowledged(word: Clcw, short: bool) -> u8
 }
 
 // N(R) before V(S), retransmission asked: E8 to E12 and E101 to E103.
-fn retransmission(sender: Sender, word: Clcw, acknowledged: u8) -> u8
+fn retransmission(sender: SenderState, word: Clcw, acknowledged: u8) -> u8
     ensures { λ r. ⌜ r ≡ retransmissionAsked sender word acknowledged ⌝ }
 {
     if sender.settings.transmission_limit == 1 {
@@ -73,7 +73,7 @@ fn retransmission(sender: Sender, word: Clcw, acknowledged: u8) -> u8
 }
 
 // The event of a valid control word.
-pub fn word_event(sender: Sender, word: Clcw) -> u8
+pub fn word_event(sender: SenderState, word: Clcw) -> u8
     ensures { λ r. ⌜ r ≡ wordNumber word sender ⌝ }
 {
     let outstanding = difference(sender.variables.vs, sender.variables.nnr);

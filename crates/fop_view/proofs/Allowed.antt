@@ -9,7 +9,7 @@ use Rattle.fop.specs.Table.{table78, cell78, FopEvent, E1, E2, E3, E4, E5, E6, 
 use Rattle.fop.specs.Table.{E35, E36, E37, E38, E39, E40, E41, E42, E43, E44, E45, E46, E101, E102, E103, E104}
 use Rattle.fop_actions.specs.declared.State.{State}
 use Rattle.fop_actions.specs.declared.State.the-variants as state
-use Rattle.fop_actions.specs.declared.Sender.{Sender}
+use Rattle.fop_actions.specs.declared.SenderState.{SenderState}
 use Rattle.fop_actions.specs.View.{stateOf}
 use Rattle.fop_view.specs.Rows.{brings, Meets}
 use Rattle.fop_view.proofs.Mode.{same, after, afterAll, allows}
@@ -40,7 +40,7 @@ abbrev cellAllowed : FopEvent → State → Bool
 cellAllowed e x = allows (brings e) x (cell78 (table78 e) (stateOf x))
 
 -- the rows
-rows : (e : FopEvent) (o : List ℕ) (n : ℕ) (s : Sender) → Meets e o n s → every (cellAllowed e) ≡ true
+rows : (e : FopEvent) (o : List ℕ) (n : ℕ) (s : SenderState) → Meets e o n s → every (cellAllowed e) ≡ true
 unfolding table78 allows after afterAll same
 rows E1 o n s h = refl
 rows E2 o n s h = refl
@@ -93,5 +93,5 @@ rows E102 o n s h = refl
 rows E103 o n s h = refl
 rows E104 o n s h = absurd h
 
-pub allowed : (e : FopEvent) (o : List ℕ) (n : ℕ) (s : Sender) → Meets e o n s → (x : State) → allows (brings e) x (cell78 (table78 e) (stateOf x)) ≡ true
+pub allowed : (e : FopEvent) (o : List ℕ) (n : ℕ) (s : SenderState) → Meets e o n s → (x : State) → allows (brings e) x (cell78 (table78 e) (stateOf x)) ≡ true
 allowed e o n s h x = every-in (cellAllowed e) (rows e o n s h) x

@@ -18,7 +18,7 @@ use Rattle.fop.specs.Answers.{runOf}
 use Rattle.fop.specs.Machine.{performAll, performCell}
 use Rattle.fop_actions.specs.declared.Control.{Control}
 use Rattle.fop_actions.specs.declared.Handed.the-variants as handed
-use Rattle.fop_actions.specs.declared.Sender.{Sender}
+use Rattle.fop_actions.specs.declared.SenderState.{SenderState}
 use Rattle.fop_actions.specs.declared.State.{State}
 use Rattle.fop_actions.specs.declared.State.the-variants as state
 use Rattle.fop_actions.specs.declared.Work.{Work}
@@ -110,7 +110,7 @@ initial-is state.S5 t = absurd (apart t)
 initial-is state.S6 t = refl
 
 -- Suspend_State is 0
-serves : (s : Sender) → s .variables .«suspend_state» ≡ 0 → eqb (begun s .variables .«suspend_state») 0 ≡ true
+serves : (s : SenderState) → s .variables .«suspend_state» ≡ 0 → eqb (begun s .variables .«suspend_state») 0 ≡ true
 unfolding begun
 serves s h = eq-eqb (s .variables .«suspend_state») 0 h
 

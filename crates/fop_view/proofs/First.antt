@@ -47,7 +47,7 @@ held-past sent rest gone i false e h k = omega arith
 module _ (x : Case) (good : Good (x .own) (x .sender) (x .store)) where
   sent-few : x .sender .queues .sent ≤ largestK
   unfolding begun
-  sent-few = omega (arith, good .formed .outstanding, good .formed .window)
+  sent-few = good .formed .sent-most
 
   filled-moved : (n i : ℕ) → i < held (staying n (begun (x .sender))) (x .sender .queues .waiting)
       → 1 ≤ getD (slid (removed n (begun (x .sender))) (x .sender .queues .lengths)) i 0
@@ -80,7 +80,7 @@ module _ (x : Case) (good : Good (x .own) (x .sender) (x .store)) where
         c = fdus (take gone (entriesOf (q .lengths) (x .store) (x .sender .variables .vs) (q .sent) (q .marked)));
         d = [];
         is = ap (perform table.RemoveAcknowledgedFrames) (h .is) ∙ removal.remove-acknowledged-frames _ _ _ _ w (x .store) refl (good .formed) o i;
-        formed = well.remove-acknowledged-frames w (x .store) (good .formed) (x .value) o i;
+        formed = well.remove-acknowledged-frames w (x .store) (good .formed) (x .value) o;
         ended = record {
           settled = good-settled good;
           counted = counts-one (good .serving);

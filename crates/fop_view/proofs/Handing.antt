@@ -108,9 +108,6 @@ counted-for sent count {u} k = by (eqb sent 0) where
   by false = k
 
 module _ (x : Case) (w : Work) (store : List ℕ) {p : Stored} {z : Quiet} {c d : List Fdu} (e : EndedOf x p z store c d w) (formed : WellFormed w store) where
-  sent-few : w .queues .sent ≤ largestK
-  sent-few = omega (arith, formed .outstanding, formed .window)
-
   any-sent : {timer sent : ℕ} {waiting : Bool} → QuietIs (sending z) timer sent waiting (w .queues .control)
   any-sent = record { unsent = tt; unasked = tt; stopped = tt; frame = e .quiet .frame }
 
@@ -118,7 +115,7 @@ module _ (x : Case) (w : Work) (store : List ℕ) {p : Stored} {z : Quiet} {c d 
   unfolding act.sendMarked act.handDown withVariables withQueues withTold
   marked-again t =
       let q = w .queues in
-      let here : offset (q .sent) (q .marked) < q .sent = oldest-marked (q .sent) (q .marked) t (formed .last) sent-few in
+      let here : offset (q .sent) (q .marked) < q .sent = oldest-marked (q .sent) (q .marked) t (formed .last) (formed .sent-most) in
       record {
         settled = e .settled;
         counted = e .counted;
@@ -133,7 +130,7 @@ module _ (x : Case) (w : Work) (store : List ℕ) {p : Stored} {z : Quiet} {c d 
   unfolding act.transmitAdFrame act.respond act.startTimer act.handDown withVariables withQueues withTold
   new-sent t =
       let q = w .queues in
-      let more : advanced (q .sent) 1 ≡ suc (q .sent) = one-more (q .sent) sent-few in
+      let more : advanced (q .sent) 1 ≡ suc (q .sent) = one-more (q .sent) (formed .sent-most) in
       record {
         settled = e .settled;
         counted = counted-for (q .sent) (w .variables .«transmission_count») (e .counted);

@@ -22,7 +22,7 @@ use Rattle.fop_actions.specs.declared.Handed.{Handed}
 use Rattle.fop_actions.specs.declared.Handed.the-variants as handed
 use Rattle.fop_actions.specs.declared.Responses.{Responses}
 use Rattle.fop_actions.specs.declared.Run.{Run}
-use Rattle.fop_actions.specs.declared.Sender.{Sender}
+use Rattle.fop_actions.specs.declared.SenderState.{SenderState}
 use Rattle.fop_actions.specs.declared.Settings.{Settings}
 use Rattle.fop_actions.specs.declared.Work.{Work}
 use Rattle.fop_actions.specs.Limits.{largestResponses}
@@ -40,7 +40,7 @@ pub record Case : Type 0 where
   pub event : FopEvent
   pub octets : List ℕ
   pub value : ℕ
-  pub sender : Sender
+  pub sender : SenderState
   pub store : List ℕ
 
 abbrev pub seen : Case → List Fdu → List Fdu → Work → List ℕ → machine.Work
@@ -225,7 +225,7 @@ module _ {x : Case} {p : Stored} {z : Quiet} {store : List ℕ} {c d : List Fdu}
   requieted n q = record { settled = e .settled; counted = n; filled = e .filled; no-more = e .no-more; runs = e .runs; quiet = q; below = e .below }
 
 -- the settings and the count of a well-formed sender
-pub good-settled : {own : Own} {s : Sender} {store : List ℕ} → Good own s store → Settled own (s .settings)
+pub good-settled : {own : Own} {s : SenderState} {store : List ℕ} → Good own s store → Settled own (s .settings)
 good-settled g = record {
   window-least = g .window-least;
   in-window = g .window;
@@ -237,7 +237,7 @@ good-settled g = record {
   own-channel = g .channel;
 }
 
-pub good-counted : {own : Own} {s : Sender} {store : List ℕ} → Good own s store → Counted (s .variables .«transmission_count») (s .variables .«suspend_state»)
+pub good-counted : {own : Own} {s : SenderState} {store : List ℕ} → Good own s store → Counted (s .variables .«transmission_count») (s .variables .«suspend_state»)
 good-counted g = record { least = g .count-least; most = g .count-most; serving = g .serving }
 
 -- Transmission_Count 1, or one more than it was

@@ -8,7 +8,7 @@ use lib.ListN.{length}
 use Rattle.fop.specs.Units.{Own}
 use Rattle.fop.specs.Table.{FopEvent, table78, cell78}
 use Rattle.fop.specs.Machine.{fopDo}
-use Rattle.fop_actions.specs.declared.Sender.{Sender}
+use Rattle.fop_actions.specs.declared.SenderState.{SenderState}
 use Rattle.fop_actions.specs.Start.{begun, noneTold}
 use Rattle.fop_actions.specs.View.{stateOf, fopOf}
 use Rattle.fop_rows.specs.Rows.{rowOf}
@@ -17,23 +17,23 @@ use Rattle.fop_view.specs.Rows.{Meets, storeAfter, lengthsAfter, Shows}
 use Rattle.fop_view.proofs.Allowed.{allowed}
 use Rattle.fop_view.proofs.Cells.{Shown, cell-view}
 
-module _ (own : Own) (e : FopEvent) (o : List ℕ) (n : ℕ) (s : Sender) (store : List ℕ) (good : Good own s store) (meets : Meets e o n s) where
+module _ (own : Own) (e : FopEvent) (o : List ℕ) (n : ℕ) (s : SenderState) (store : List ℕ) (good : Good own s store) (meets : Meets e o n s) where
   row-shown : Shown (record { own = own; event = e; octets = o; value = n; sender = s; store = store }) (rowOf e n (length o) (begun s)) (fopDo e o n (fopOf (begun s) store))
   unfolding rowOf fopDo begun noneTold
   row-shown =
       cell-view (record { own = own; event = e; octets = o; value = n; sender = s; store = store }) good meets (cell78 (table78 e) (stateOf (s .state)))
       (allowed e o n s meets (s .state))
 
-pub row-view : (own : Own) (e : FopEvent) (o : List ℕ) (n : ℕ) (s : Sender) (store : List ℕ) → Good own s store → Meets e o n s
+pub row-view : (own : Own) (e : FopEvent) (o : List ℕ) (n : ℕ) (s : SenderState) (store : List ℕ) → Good own s store → Meets e o n s
     → Shows own e o n (rowOf e n (length o) (begun s)) (storeAfter e o s (rowOf e n (length o) (begun s)) store) (fopDo e o n (fopOf (begun s) store))
 row-view own e o n s store good meets = row-shown own e o n s store good meets .shows
 
 -- the lengths of the units after it
-pub row-lengths : (own : Own) (e : FopEvent) (o : List ℕ) (n : ℕ) (s : Sender) (store : List ℕ) → Good own s store → Meets e o n s
+pub row-lengths : (own : Own) (e : FopEvent) (o : List ℕ) (n : ℕ) (s : SenderState) (store : List ℕ) → Good own s store → Meets e o n s
     → rowOf e n (length o) (begun s) .queues .lengths ≡ lengthsAfter e o s (rowOf e n (length o) (begun s))
 row-lengths own e o n s store good meets = row-shown own e o n s store good meets .measured
 
 -- the units confirmed and those still held are at most one more than the units sent before it
-pub row-few : (own : Own) (e : FopEvent) (o : List ℕ) (n : ℕ) (s : Sender) (store : List ℕ) → Good own s store → Meets e o n s
+pub row-few : (own : Own) (e : FopEvent) (o : List ℕ) (n : ℕ) (s : SenderState) (store : List ℕ) → Good own s store → Meets e o n s
     → rowOf e n (length o) (begun s) .told .confirmed .count + held (rowOf e n (length o) (begun s) .queues .sent) (rowOf e n (length o) (begun s) .queues .waiting) ≤ suc (s .queues .sent)
 row-few own e o n s store good meets = row-shown own e o n s store good meets .no-more

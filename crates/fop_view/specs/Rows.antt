@@ -17,7 +17,7 @@ use Rattle.fop.specs.Table.{E35, E36, E37, E38, E39, E40, E41, E42, E43, E44, E
 use Rattle.fop.specs.Variables as machine
 use Rattle.fop.specs.Answers.{runOf}
 use Rattle.fop_actions.specs.declared.Handed.the-variants as handed
-use Rattle.fop_actions.specs.declared.Sender.{Sender}
+use Rattle.fop_actions.specs.declared.SenderState.{SenderState}
 use Rattle.fop_actions.specs.declared.Work.{Work}
 use Rattle.fop_actions.specs.Start.{senderOf}
 use Rattle.fop_actions.specs.View.{view, runTold, without}
@@ -93,7 +93,7 @@ brings E103 = nothing
 brings E104 = suspending
 
 -- what holds of the unit, the value and the sender where an event brings that
-abbrev pub Needed : Brings → List ℕ → ℕ → Sender → Type 0
+abbrev pub Needed : Brings → List ℕ → ℕ → SenderState → Type 0
 Needed nothing o n s = Unit {0}
 Needed acknowledging o n s = (n < 256) × (offset n (s .variables .nnr) ≤ offset (s .variables .vs) (s .variables .nnr))
 Needed again o n s = s .variables .«transmission_count» < s .settings .«transmission_limit»
@@ -106,7 +106,7 @@ Needed timing o n s = n ≡ 0
 Needed suspending o n s = ⊥
 
 -- the unit and the value are such as the event brings to the sender
-abbrev pub Meets : FopEvent → List ℕ → ℕ → Sender → Type 0
+abbrev pub Meets : FopEvent → List ℕ → ℕ → SenderState → Type 0
 Meets e o n s = Needed (brings e) o n s
 
 -- whether it is a unit for the empty Wait_Queue
@@ -124,22 +124,22 @@ isOffering suspending = false
 
 -- the store after an event: the unit offered is put behind the sent ones where it is added to the Wait_Queue; the units confirmed are
 -- removed from the front
-abbrev pub storeBy : Brings → List ℕ → Sender → Work → List ℕ → List ℕ
+abbrev pub storeBy : Brings → List ℕ → SenderState → Work → List ℕ → List ℕ
 storeBy b o s w store =
     pick (isOffering b) (pick (inMain (s .state)) (placed store (largestUnit * s .queues .sent) o) store) (without (w .told .confirmed .count) store)
 
 -- the store after the event
-abbrev pub storeAfter : FopEvent → List ℕ → Sender → Work → List ℕ → List ℕ
+abbrev pub storeAfter : FopEvent → List ℕ → SenderState → Work → List ℕ → List ℕ
 storeAfter e o s w store = storeBy (brings e) o s w store
 
 -- and so the lengths of the units
-abbrev pub lengthsBy : Brings → List ℕ → Sender → Work → List ℕ
+abbrev pub lengthsBy : Brings → List ℕ → SenderState → Work → List ℕ
 lengthsBy b o s w =
     pick (isOffering b) (pick (inMain (s .state)) (set (s .queues .lengths) (s .queues .sent) (length o)) (s .queues .lengths))
     (slid (w .told .confirmed .count) (s .queues .lengths))
 
 -- the lengths after the event
-abbrev pub lengthsAfter : FopEvent → List ℕ → Sender → Work → List ℕ
+abbrev pub lengthsAfter : FopEvent → List ℕ → SenderState → Work → List ℕ
 lengthsAfter e o s w = lengthsBy (brings e) o s w
 
 -- the work m of the table machine on the event e is what the work w on the struct and the store after it read as; the runs told are the

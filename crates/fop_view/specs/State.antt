@@ -9,7 +9,7 @@ use Rattle.fop.specs.Limits.{largestK, largestTransmissionLimit}
 use Rattle.fop.specs.Units.{Own}
 use Rattle.fop_actions.specs.declared.State.{State}
 use Rattle.fop_actions.specs.declared.State.the-variants.{S1, S2, S3, S4, S5, S6}
-use Rattle.fop_actions.specs.declared.Sender.{Sender}
+use Rattle.fop_actions.specs.declared.SenderState.{SenderState}
 use Rattle.fop_actions.specs.Start.{begun}
 use Rattle.fop_actions.specs.View.{WellFormed}
 use Rattle.fop_rows.specs.Rows.{inMain, isFrame}
@@ -32,7 +32,7 @@ withFrame S6 = false
 -- ends; Transmission_Count from 1 to the largest Transmission_Limit; "Suspend_State stays 0", and so does Timeout_Type; no unit is held but
 -- in the main protocol's states; the timer is stopped in Initial; a type-BC frame is on the Sent_Queue in Initialising with BC frame, and
 -- only there; each unit held has an octet
-pub record Good (own : Own) (s : Sender) (store : List ℕ) : Type 0 where
+pub record Good (own : Own) (s : SenderState) (store : List ℕ) : Type 0 where
   pub formed : WellFormed (begun s) store
   pub window-least : 1 ≤ s .settings .k
   pub window : s .settings .k ≤ largestK

@@ -17,7 +17,7 @@ use Rattle.fecf.specs.Fecf.{syndromeOf}
 use Rattle.frame.specs.Header.{version, bypassFlag, controlCommandFlag, reservedSpare, spacecraftIdentifier, virtualChannelIdentifier}
 use Rattle.frame.specs.Frame.{unlockCommand, totalOf, dataField, isCommand, commandHeld, headerRefusal, contentRefusal, refusalOf, kindOf}
 use Rattle.frame.specs.declared.Kind.the-variants.{Ad, Bd, Unlock, SetVr}
-use Rattle.frame.specs.declared.Reading.the-variants.{Frame, Refused}
+use Rattle.frame.specs.declared.FrameReading.the-variants.{Frame, Refused}
 use Rattle.frame.specs.Answers.{fieldsOf, readingOf, partOf}
 use Rattle.frame.proofs.Octets.{o, bypass-is, control-is, number-is, length-data, command-one, command-other}
 

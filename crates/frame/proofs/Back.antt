@@ -18,7 +18,7 @@ use Rattle.frame.specs.Frame.{bypassOf, controlOf, numberOf, unlockComma
 use Rattle.frame.specs.Answers.{readingOf, partOf}
 use Rattle.frame.specs.declared.Kind.{Kind}
 use Rattle.frame.specs.declared.Kind.the-variants.{Ad, Bd, Unlock, SetVr}
-use Rattle.frame.specs.declared.Reading.the-variants.{Frame}
+use Rattle.frame.specs.declared.FrameReading.the-variants.{Frame}
 use Rattle.frame.proofs.Octets.{spacecraft-is, channel-is}
 use Rattle.frame.proofs.Accepted.{accepted, reading-frame, part-frame}
 use Rattle.frame.proofs.Written.{Fits, fitting, total-back, field-back, refusal-left, kind-left}

@@ -24,7 +24,7 @@ Agrees reader = (s : List ℕ) (spacecraft channel : ℕ) → reader s spacecraf
 
 -- a reader that refuses all
 pub refuses-all : (reader : List ℕ → ℕ → ℕ → ℕ) → ((s : List ℕ) (spacecraft channel : ℕ) → reader s spacecraft channel ≡ 0 → ⊥) → Agrees reader → ⊥
-refuses-all reader never agrees = never unlock 1 0 (agrees unlock 1 0 ∙ accepted .0)
+refuses-all reader never agrees = never unlock 1 0 (agrees unlock 1 0 ∙ accepted)
 
 -- a reader that looks at N(S) of a type-B frame: one that refuses any BD frame for its number, whatever the number is
 pub number-of-type-b : (reader : List ℕ → ℕ → ℕ → ℕ) (number spacecraft channel : ℕ) (unit fill : List ℕ)

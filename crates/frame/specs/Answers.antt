@@ -8,13 +8,13 @@ use Rattle.base.specs.Outcome.{Answer, Answer.done, Answer.refused}
 use Rattle.frame.specs.Header.{spacecraftIdentifier, virtualChannelIdentifier}
 use Rattle.frame.specs.Frame.{overhead, refusalOf, totalOf, dataField, kindOf}
 use Rattle.frame.specs.declared.Fields.{Fields}
-use Rattle.frame.specs.declared.Reading.{Reading}
-use Rattle.frame.specs.declared.Reading.the-variants.{Frame, Refused}
-use Rattle.frame.specs.declared.writer.Written.{Written}
-use Rattle.frame.specs.declared.writer.Written.the-variants.{Done, Length, Setting, Room}
+use Rattle.frame.specs.declared.FrameReading.{FrameReading}
+use Rattle.frame.specs.declared.FrameReading.the-variants.{Frame, Refused}
+use Rattle.frame.specs.declared.writer.FrameWritten.{FrameWritten}
+use Rattle.frame.specs.declared.writer.FrameWritten.the-variants.{Done, Length, Setting, Room}
 
 -- what writing answers: the count of octets, 10, 12 or 11
-abbrev pub writtenAnswer : Written → Answer (Unit {0})
+abbrev pub writtenAnswer : FrameWritten → Answer (Unit {0})
 writtenAnswer (Done count) = done count tt
 writtenAnswer Length = refused 10 0
 writtenAnswer Setting = refused 12 0
@@ -31,12 +31,12 @@ fieldsOf octets = record {
 }
 
 -- what reading answers: the fields, or the refusal by its number
-unfoldable pub readingOf : List ℕ → ℕ → ℕ → Reading
+unfoldable pub readingOf : List ℕ → ℕ → ℕ → FrameReading
 readingOf octets spacecraft channel =
     pick (eqb (refusalOf octets spacecraft channel) 0) (Frame (fieldsOf octets)) (Refused (refusalOf octets spacecraft channel))
 
 -- document 01's number of a reading, 0 for a frame
-abbrev pub readingNumber : Reading → ℕ
+abbrev pub readingNumber : FrameReading → ℕ
 readingNumber (Frame fields) = 0
 readingNumber (Refused number) = number
 

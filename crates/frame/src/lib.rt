@@ -8,7 +8,7 @@ ghost use Prim.Native.Nat.{_+_, _*_, _≤_};
 ghost use mathlib.Core.Bool.{true};
 ghost use lib.ListN.{length};
 ghost use Rattle.frame.specs.Frame.{totalOf, dataField, isCommand, commandHeld, headerRefusal, contentRefusal, refusalOf, kindOf};
-ghost use Rattle.frame.specs.Answers.{readingOf, partOf};
+ghost use Rattle.frame.specs.Answers.{readingOf, readingNumber, partOf};
 
 // The type of a frame with what it carries: N(S), or the value of Set V(R).
 pub enum Kind {
@@ -28,7 +28,7 @@ pub struct Fields {
 }
 
 // The fields, or document 01's refusal by its number.
-pub enum Reading {
+pub enum FrameReading {
     Frame(Fields),
     Refused(u8),
 }
@@ -150,16 +150,17 @@ fn kind_at(octets: &[u8], n: usize) -> Kind
 }
 
 // The fields of lent octets, or the refusal. A frame that is not refused has our address.
-pub fn read(octets: &[u8], spacecraft: u16, channel: u8) -> Reading
-    ensures { λ r. ⌜ r ≡ readingOf (now (octets .entry)) spacecraft channel ⌝ }
+pub fn read(octets: &[u8], spacecraft: u16, channel: u8) -> FrameReading
+    ensures value { λ r. ⌜ r ≡ readingOf (now (octets .entry)) spacecraft channel ⌝ }
+    ensures number { λ r. ⌜ readingNumber r ≡ refusalOf (now (octets .entry)) spacecraft channel ⌝ }
 {
     let number = refusal(octets, spacecraft, channel);
     if number != 0 {
-        return Reading::Refused(number);
+        return FrameReading::Refused(number);
     }
     let n = total(octets);
     let kind = kind_at(octets, n as usize);
-    Reading::Frame(Fields {
+    FrameReading::Frame(Fields {
         kind: kind,
         spacecraft: spacecraft,
         channel: channel,

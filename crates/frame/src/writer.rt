@@ -15,7 +15,7 @@ ghost use Rattle.frame.specs.Frame.{writing, rawFrame, rawWriting};
 ghost use Rattle.frame.specs.Answers.{writtenAnswer};
 
 // The count of octets written, or document 01's refusal 10, 12 or 11.
-pub enum Written {
+pub enum FrameWritten {
     Done(usize),
     Length,
     Setting,
@@ -76,33 +76,39 @@ fn write(
     channel: u8,
     field: &[u8],
     out: &mut [u8],
-) -> Written
+) -> FrameWritten
     requires { ⌜ (bypass ≤ 1) × (control ≤ 1) ⌝ }
     ensures answer { λ r. ⌜ writtenAnswer r ≡ answer (rawWriting bypass control number spacecraft channel (now (field .entry)) (length (now (out .entry)))) ⌝ }
     ensures memory { λ r. ⌜ now (out .exit) ≡ after (rawWriting bypass control number spacecraft channel (now (field .entry)) (length (now (out .entry)))) (now (out .entry)) ⌝ }
 {
     let n = field.len();
     if n < 1 {
-        return Written::Length;
+        return FrameWritten::Length;
     }
     if LARGEST_UNIT < n {
-        return Written::Length;
+        return FrameWritten::Length;
     }
     if LARGEST_SPACECRAFT < spacecraft {
-        return Written::Setting;
+        return FrameWritten::Setting;
     }
     if LARGEST_CHANNEL < channel {
-        return Written::Setting;
+        return FrameWritten::Setting;
     }
     if out.len() < n + 7 {
-        return Written::Room;
+        return FrameWritten::Room;
     }
     put(bypass, control, number, spacecraft, channel, field, out);
-    Written::Done(n + 7)
+    FrameWritten::Done(n + 7)
 }
 
 // An AD frame: N(S) and a unit.
-pub fn write_ad(spacecraft: u16, channel: u8, number: u8, unit: &[u8], out: &mut [u8]) -> Written
+pub fn write_ad(
+    spacecraft: u16,
+    channel: u8,
+    number: u8,
+    unit: &[u8],
+    out: &mut [u8],
+) -> FrameWritten
     ensures answer { λ r. ⌜ writtenAnswer r ≡ answer (writing spacecraft channel (Ad number) (now (unit .entry)) (length (now (out .entry)))) ⌝ }
     ensures memory { λ r. ⌜ now (out .exit) ≡ after (writing spacecraft channel (Ad number) (now (unit .entry)) (length (now (out .entry)))) (now (out .entry)) ⌝ }
 {
@@ -110,7 +116,7 @@ pub fn write_ad(spacecraft: u16, channel: u8, number: u8, unit: &[u8], out: &mut
 }
 
 // A BD frame: a unit.
-pub fn write_bd(spacecraft: u16, channel: u8, unit: &[u8], out: &mut [u8]) -> Written
+pub fn write_bd(spacecraft: u16, channel: u8, unit: &[u8], out: &mut [u8]) -> FrameWritten
     ensures answer { λ r. ⌜ writtenAnswer r ≡ answer (writing spacecraft channel Bd (now (unit .entry)) (length (now (out .entry)))) ⌝ }
     ensures memory { λ r. ⌜ now (out .exit) ≡ after (writing spacecraft channel Bd (now (unit .entry)) (length (now (out .entry)))) (now (out .entry)) ⌝ }
 {
@@ -118,7 +124,7 @@ pub fn write_bd(spacecraft: u16, channel: u8, unit: &[u8], out: &mut [u8]) -> Wr
 }
 
 // A BC frame with the command Unlock.
-pub fn write_unlock(spacecraft: u16, channel: u8, out: &mut [u8]) -> Written
+pub fn write_unlock(spacecraft: u16, channel: u8, out: &mut [u8]) -> FrameWritten
     ensures answer { λ r. ⌜ writtenAnswer r ≡ answer (writing spacecraft channel Unlock [] (length (now (out .entry)))) ⌝ }
     ensures memory { λ r. ⌜ now (out .exit) ≡ after (writing spacecraft channel Unlock [] (length (now (out .entry)))) (now (out .entry)) ⌝ }
 {
@@ -127,7 +133,7 @@ pub fn write_unlock(spacecraft: u16, channel: u8, out: &mut [u8]) -> Written
 }
 
 // A BC frame with the command Set V(R).
-pub fn write_set_vr(spacecraft: u16, channel: u8, value: u8, out: &mut [u8]) -> Written
+pub fn write_set_vr(spacecraft: u16, channel: u8, value: u8, out: &mut [u8]) -> FrameWritten
     ensures answer { λ r. ⌜ writtenAnswer r ≡ answer (writing spacecraft channel (SetVr value) [] (length (now (out .entry)))) ⌝ }
     ensures memory { λ r. ⌜ now (out .exit) ≡ after (writing spacecraft channel (SetVr value) [] (length (now (out .entry)))) (now (out .entry)) ⌝ }
 {

@@ -13,13 +13,13 @@ use Rattle.base.specs.Limits.{largestUnit}
 use Rattle.base.proofs.Tests.{yes, no}
 use Rattle.memory.specs.Placed.{placed}
 use Rattle.frame.specs.Answers.{writtenAnswer}
-use Rattle.frame.specs.declared.writer.Written.{Written}
+use Rattle.frame.specs.declared.writer.FrameWritten.{FrameWritten}
 use Rattle.clcw.specs.Answers.{readingOf}
-use Rattle.clcw.specs.declared.Received.{Received}
-use Rattle.clcw.specs.declared.Reading.{Reading}
-use Rattle.clcw.specs.declared.Reading.the-variants.{Word}
-use Rattle.fop_actions.specs.declared.State.{State as FopState}
-use Rattle.fop_actions.specs.declared.Sender.{Sender as State}
+use Rattle.clcw.specs.declared.ReceivedWord.{ReceivedWord}
+use Rattle.clcw.specs.declared.WordReading.{WordReading}
+use Rattle.clcw.specs.declared.WordReading.the-variants.{Word}
+use Rattle.fop_actions.specs.declared.State.{State}
+use Rattle.fop_actions.specs.declared.SenderState.{SenderState}
 use Rattle.fop_actions.specs.declared.Work.{Work}
 use Rattle.fop_actions.specs.Start.{begun}
 use Rattle.fop_actions.specs.View.{unitAt, without}
@@ -33,7 +33,7 @@ use Rattle.sender.specs.Events.{placeHanded, unitBefore, servedBy, serve
 use Rattle.sender.proofs.Steps.{Told, check, no-check, Meets, Writes, handing, holds, fails, same-step, refuses, stored-same, step-done, step-refused}
 
 -- an event that offers no unit: the frame of the unit that stood behind the units confirmed
-module _ (event : ℕ) (s : State) (w : Work) (store output : List ℕ) (x : Written) {place : ℕ} {unit out : List ℕ} {a : Answer}
+module _ (event : ℕ) (s : SenderState) (w : Work) (store output : List ℕ) (x : FrameWritten) {place : ℕ} {unit out : List ℕ} {a : Answer}
     (at-place : place ≡ placeHanded (w .told .handed) + w .told .confirmed .count) (of-unit : unit ≡ unitAt (s .queues .lengths) place store)
     (written : Writes x out (handing s w unit output) output) (told : a ≡ concluded event s w (writtenAnswer x)) where
   behind : unit ≡ unitBefore s w store
@@ -48,7 +48,7 @@ module _ (event : ℕ) (s : State) (w : Work) (store output : List ℕ) (x : Wri
   served-refused = step-refused event s w x a (unitBefore s w store) unit out (without (w .told .confirmed .count) store) store output behind written told
 
 -- by the event's row
-module _ (event n : ℕ) (s g : State) (store output : List ℕ) {a : Answer} where
+module _ (event n : ℕ) (s g : SenderState) (store output : List ℕ) {a : Answer} where
   pub served-short : length store < smallestStore → a ≡ refusing 11 s → Meets a store output (served event n s g store output)
   unfolding served
   served-short h e = refuses 11 s (fails _ _ _ (lt-leb smallestStore (length store) h)) e
@@ -62,7 +62,7 @@ module _ (event n : ℕ) (s g : State) (store output : List ℕ) {a : Answer} wh
       m
 
 -- a directive
-module _ (number value : ℕ) (s : State) (store output : List ℕ) {a : Answer} {event : ℕ} (of-event : event ≡ directiveNumber number value s) where
+module _ (number value : ℕ) (s : SenderState) (store output : List ℕ) {a : Answer} {event : ℕ} (of-event : event ≡ directiveNumber number value s) where
   pub directive-invalid : event ≡ 40 → a ≡ refusing 12 s → Meets a store output (directiveOf number value s store output)
   unfolding directiveOf
   directive-invalid h e = refuses 12 s (yes _ _ _ (eq-eqb _ 40 (sym of-event ∙ h))) e
@@ -74,30 +74,30 @@ module _ (number value : ℕ) (s : State) (store output : List ℕ) {a : Answer}
       same-step (no _ _ _ (ne-eqb _ 40 (λ e. h (of-event ∙ e))) ∙ ap (λ (k : ℕ). served k value s s store output) (sym of-event)) m
 
 -- a tick, and an answer of the lower layer
-pub tick-served : (s : State) (store output : List ℕ) {g : State} {a : Answer} {event : ℕ} {new out : List ℕ} → event ≡ tickNumber s → g ≡ ticked s
+pub tick-served : (s : SenderState) (store output : List ℕ) {g : SenderState} {a : Answer} {event : ℕ} {new out : List ℕ} → event ≡ tickNumber s → g ≡ ticked s
     → Meets a new out (served event 0 s g store output) → Meets a new out (tickOf s store output)
 unfolding tickOf
-tick-served s store output p q m = same-step (sym (ap₂ (λ (k : ℕ) (x : State). served k 0 s x store output) p q)) m
+tick-served s store output p q m = same-step (sym (ap₂ (λ (k : ℕ) (x : SenderState). served k 0 s x store output) p q)) m
 
-pub lower-served : (l : Lower) (s : State) (store output : List ℕ) {a : Answer} {event : ℕ} {new out : List ℕ} → event ≡ lowerNumber l
+pub lower-served : (l : Lower) (s : SenderState) (store output : List ℕ) {a : Answer} {event : ℕ} {new out : List ℕ} → event ≡ lowerNumber l
     → Meets a new out (served event 0 s s store output) → Meets a new out (lowerLayerOf l s store output)
 unfolding lowerLayerOf
 lower-served l s store output p m = same-step (sym (ap (λ (k : ℕ). served k 0 s s store output) p)) m
 
 -- a control word, by its reading
-module _ (octets : List ℕ) (s : State) (store output : List ℕ) {a : Answer} {reading : Reading}
+module _ (octets : List ℕ) (s : SenderState) (store output : List ℕ) {a : Answer} {reading : WordReading}
     (of-reading : reading ≡ readingOf octets (s .settings .channel)) {new out : List ℕ} where
-  pub reading-told : {r : Reading} → reading ≡ r → Meets a new out (wordBy r s store output) → Meets a new out (controlWordOf octets s store output)
+  pub reading-told : {r : WordReading} → reading ≡ r → Meets a new out (wordBy r s store output) → Meets a new out (controlWordOf octets s store output)
   unfolding controlWordOf
-  reading-told p m = same-step (ap (λ (x : Reading). wordBy x s store output) (sym of-reading ∙ p)) m
+  reading-told p m = same-step (ap (λ (x : WordReading). wordBy x s store output) (sym of-reading ∙ p)) m
 
-  pub word-served : {r : Received} {event : ℕ} → reading ≡ Word r → event ≡ wordNumber (r .word) s
+  pub word-served : {r : ReceivedWord} {event : ℕ} → reading ≡ Word r → event ≡ wordNumber (r .word) s
       → Meets a new out (served event (r .word .report) s s store output) → Meets a new out (controlWordOf octets s store output)
   word-served {r} p q m = reading-told p (same-step (ap (λ (k : ℕ). served k (r .word .report) s s store output) (sym q)) m)
 
 -- a unit requested: its length, then the store, then what the row gives
 abbrev pub Request : Type 0
-Request = State → List ℕ → List ℕ → List ℕ → Step
+Request = SenderState → List ℕ → List ℕ → List ℕ → Step
 
 abbrev requestOf : Request → Request
 requestOf t s o store output =
@@ -107,7 +107,7 @@ requestOf t s o store output =
 abbrev requestRefusal : List ℕ → List ℕ → ℕ
 requestRefusal o store = mustBeUnit o 10 (must (leb smallestStore (length store)) 11 0)
 
-module _ (t : Request) (s : State) (o store output : List ℕ) {n : ℕ} (judged : n ≡ requestRefusal o store) where
+module _ (t : Request) (s : SenderState) (o store output : List ℕ) {n : ℕ} (judged : n ≡ requestRefusal o store) where
   abbrev refusal : ℕ → Step
   refusal k = refusedStep k s store output
 
@@ -131,12 +131,12 @@ adStep s o store output = offeredBy (adNumber s) s (rowNumbered (adNumber s) 0 (
 abbrev pub bdStep : Request
 bdStep s o store output = bypassedBy (bdNumber s) s (rowNumbered (bdNumber s) 0 0 (begun s)) o store output
 
-pub ad-row : (s : State) (o store output : List ℕ) {a : Answer} {new out : List ℕ} {event : ℕ} {b w : Work} → event ≡ adNumber s → b ≡ begun s
+pub ad-row : (s : SenderState) (o store output : List ℕ) {a : Answer} {new out : List ℕ} {event : ℕ} {b w : Work} → event ≡ adNumber s → b ≡ begun s
     → w ≡ rowNumbered event 0 (length o) b → Meets a new out (offeredBy event s w o store output) → Meets a new out (adStep s o store output)
 ad-row s o store output p q r m =
     same-step (sym (ap₂ (λ (k : ℕ) (v : Work). offeredBy k s v o store output) p (r ∙ ap₂ (λ (k : ℕ) (v : Work). rowNumbered k 0 (length o) v) p q))) m
 
-pub bd-row : (s : State) (o store output : List ℕ) {a : Answer} {out : List ℕ} {event : ℕ} {b w : Work} → event ≡ bdNumber s → b ≡ begun s
+pub bd-row : (s : SenderState) (o store output : List ℕ) {a : Answer} {out : List ℕ} {event : ℕ} {b w : Work} → event ≡ bdNumber s → b ≡ begun s
     → w ≡ rowNumbered event 0 0 b → (a ≡ concluded event s w (answer (handing s w o output))) × (out ≡ after (handing s w o output) output)
     → Meets a store out (bdStep s o store output)
 unfolding bypassedBy
@@ -145,7 +145,7 @@ bd-row s o store output {w = w} p q r m =
     (m .0, (stored-same (answer (handing s w o output)) store, m .1))
 
 -- the unit that an AD request hands down
-module _ (s : State) (w : Work) (o store : List ℕ) {place : ℕ} (at-place : place ≡ placeHanded (w .told .handed)) where
+module _ (s : SenderState) (w : Work) (o store : List ℕ) {place : ℕ} (at-place : place ≡ placeHanded (w .told .handed)) where
   pub offered-newest : place ≡ s .queues .sent → o ≡ unitOffered s w o store
   offered-newest h = sym (yes _ _ _ (eq-eqb _ _ (sym at-place ∙ h)))
 
@@ -154,11 +154,11 @@ module _ (s : State) (w : Work) (o store : List ℕ) {place : ℕ} (at-place : p
       e ∙ ap (λ (p : ℕ). unitAt (s .queues .lengths) p store) at-place ∙ sym (no _ _ _ (ne-eqb _ _ (λ p. h (at-place ∙ p))))
 
 -- the event and the state pick whether the unit is added
-pub adds-told : (event : ℕ) (s : State) {k : FopState} → event ≡ 19 → s .state ≡ k → inMain k ≡ added event s
+pub adds-told : (event : ℕ) (s : SenderState) {k : State} → event ≡ 19 → s .state ≡ k → inMain k ≡ added event s
 adds-told event s p q = sym (ap (λ (b : Bool). both b (inMain (s .state))) (eq-eqb event 19 p) ∙ ap inMain q)
 
 -- an AD request: the unit offered goes into the store where the frame is written and the unit is added
-module _ (event : ℕ) (s : State) (w : Work) (o store output : List ℕ) (x : Written) {out : List ℕ} {a : Answer}
+module _ (event : ℕ) (s : SenderState) (w : Work) (o store output : List ℕ) (x : FrameWritten) {out : List ℕ} {a : Answer}
     (written : Writes x out (handing s w (unitOffered s w o store) output) output) (told : a ≡ concluded event s w (writtenAnswer x)) where
   abbrev changed : List ℕ
   changed = pick (added event s) (placed store (largestUnit * s .queues .sent) o) store

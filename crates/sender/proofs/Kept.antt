@@ -1,4 +1,4 @@
--- The tests of a state that was kept: V(S) - NN(R) with the counts, and the lengths as a loop meets them.
+-- The tests of a state that was kept: the counts with V(S) - NN(R), and the lengths as a loop meets them.
 use mathlib.Core.Path.{_≡_, sym, ap, ap₂, _∙_}
 use mathlib.Core.Bool.{Bool, true, false, not}
 use mathlib.Core.List.{List}
@@ -13,11 +13,11 @@ use Rattle.base.specs.Modulo.{offset}
 use Rattle.base.proofs.Lists.{next}
 use Rattle.base.proofs.Tests.{yes, no}
 use Rattle.fop.specs.Limits.{largestK}
-use Rattle.fop_actions.specs.declared.State.{State as FopState}
+use Rattle.fop_actions.specs.declared.State.{State}
 use Rattle.fop_actions.specs.declared.State.the-variants as state
 use Rattle.fop_actions.specs.declared.Variables.{Variables}
 use Rattle.fop_actions.specs.declared.Queues.{Queues}
-use Rattle.fop_actions.specs.declared.Sender.{Sender as State}
+use Rattle.fop_actions.specs.declared.SenderState.{SenderState}
 use Rattle.fop_rows.specs.Rows.{isFrame}
 use Rattle.sender.specs.declared.Start.{Start}
 use Rattle.sender.specs.Start.{refusedStart}
@@ -27,7 +27,7 @@ use Rattle.sender.specs.State.{numbersHold, isEmpty, stateHolds, unitsHe
 -- numbersHold with the difference given
 abbrev pub numbersWith : ℕ → Variables → Queues → Bool
 numbersWith d v q =
-    both (leb d largestK) (both (leb (q .sent) d) (both (leb (q .marked) (q .sent)) (both (leb 1 (v .«transmission_count»)) (eqb (v .«suspend_state») 0))))
+    both (leb (q .sent) largestK) (both (leb (q .sent) d) (both (leb (q .marked) (q .sent)) (both (leb 1 (v .«transmission_count»)) (eqb (v .«suspend_state») 0))))
 
 pub numbers-by : (v : Variables) (q : Queues) (d : ℕ) (b : Bool) → d ≡ offset (v .vs) (v .nnr) → b ≡ numbersWith d v q → b ≡ numbersHold v q
 numbers-by v q d b e h = h ∙ ap (λ (x : ℕ). numbersWith x v q) e
@@ -65,7 +65,7 @@ module _ (held : ℕ) (s : List ℕ) (i : ℕ) where
     free-on k m = not-held k ∙ simp (le-leb (getD s i 0) largestUnit m)
 
 -- the tests of a state in their order: a, b and c by the parts that they are of
-module _ (s : State) (a b c : Bool) (ea : a ≡ settingsHold (s .settings)) (eb : b ≡ numbersHold (s .variables) (s .queues))
+module _ (s : SenderState) (a b c : Bool) (ea : a ≡ settingsHold (s .settings)) (eb : b ≡ numbersHold (s .variables) (s .queues))
     (ec : c ≡ stateHolds (s .state) (s .variables) (s .queues)) where
   pub numbers-fail : a ≡ true → b ≡ false → false ≡ wellFormed s
   unfolding wellFormed
@@ -80,12 +80,12 @@ module _ (s : State) (a b c : Bool) (ea : a ≡ settingsHold (s .settings)) (eb 
   unfolding wellFormed
   by-lengths d n p q r e h = h ∙ ap (λ (m : ℕ). lengthsHold m (s .queues .lengths)) e ∙ sym (rw (sym ea ∙ p, sym eb ∙ q, sym ec ∙ r))
 
-pub settings-fail : (s : State) (a : Bool) → a ≡ settingsHold (s .settings) → a ≡ false → false ≡ wellFormed s
+pub settings-fail : (s : SenderState) (a : Bool) → a ≡ settingsHold (s .settings) → a ≡ false → false ≡ wellFormed s
 unfolding wellFormed
 settings-fail s a e p = sym (rw (sym e ∙ p))
 
 -- a state by whether it is well-formed
-module _ (s : State) (a : Bool) (ea : a ≡ wellFormed s) where
+module _ (s : SenderState) (a : Bool) (ea : a ≡ wellFormed s) where
   pub restored-not : (r : Start) → a ≡ false → r ≡ refusedStart 12 → r ≡ restoredOf s
   unfolding restoredOf
   restored-not r p e = e ∙ sym (no _ _ _ (sym ea ∙ p))
@@ -103,9 +103,9 @@ module _ (q : Queues) where
   sent-none h = sym (ap (λ (b : Bool). both b (not (q .waiting))) (eq-eqb (q .sent) 0 h))
 
 -- each state's test, by the tests that the code has made: f a type-BC frame, e no unit, t the timer stopped
-module _ (s : FopState) (v : Variables) (q : Queues) where
-  told : (r : Bool) (x : FopState) → s ≡ x → r ≡ stateHolds x v q → r ≡ stateHolds s v q
-  told r x p h = h ∙ ap (λ (y : FopState). stateHolds y v q) (sym p)
+module _ (s : State) (v : Variables) (q : Queues) where
+  told : (r : Bool) (x : State) → s ≡ x → r ≡ stateHolds x v q → r ≡ stateHolds s v q
+  told r x p h = h ∙ ap (λ (y : State). stateHolds y v q) (sym p)
 
   pub in-s1 : {f : Bool} → f ≡ isFrame (q .control) → s ≡ state.S1 → not f ≡ stateHolds s v q
   in-s1 ef p = told _ state.S1 p (ap not ef)

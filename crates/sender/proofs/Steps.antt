@@ -9,11 +9,11 @@ use Rattle.base.specs.Choice.{must}
 use Rattle.base.specs.Outcome.{Outcome, answer, after}
 use Rattle.base.specs.Outcome as outcome
 use Rattle.frame.specs.Answers.{writtenAnswer}
-use Rattle.frame.specs.declared.writer.Written.{Written}
-use Rattle.frame.specs.declared.writer.Written.the-variants.{Done, Length, Setting, Room}
+use Rattle.frame.specs.declared.writer.FrameWritten.{FrameWritten}
+use Rattle.frame.specs.declared.writer.FrameWritten.the-variants.{Done, Length, Setting, Room}
 use Rattle.fop_actions.specs.declared.Settings.{Settings}
 use Rattle.fop_actions.specs.declared.Handed.{Handed}
-use Rattle.fop_actions.specs.declared.Sender.{Sender as State}
+use Rattle.fop_actions.specs.declared.SenderState.{SenderState}
 use Rattle.fop_actions.specs.declared.Work.{Work}
 use Rattle.sender.specs.declared.Answer.{Answer}
 use Rattle.sender.specs.Answers.{Step, answered, refusing, refusedStep, concluded, stored, stepBy}
@@ -44,7 +44,7 @@ abbrev pub Meets : Answer → List ℕ → List ℕ → Step → Type 0
 Meets a store output t = (a ≡ t .answer) × ((store ≡ t .store) × (output ≡ t .output))
 
 -- what writing a frame promises
-abbrev pub Writes : Written → List ℕ → Outcome (Unit {0}) → List ℕ → Type 0
+abbrev pub Writes : FrameWritten → List ℕ → Outcome (Unit {0}) → List ℕ → Type 0
 Writes x new o old = (writtenAnswer x ≡ answer o) × (new ≡ after o old)
 
 -- a step by another that it is
@@ -53,24 +53,24 @@ same-step p h =
     (h .0 ∙ ap (λ (x : Step). x .answer) (sym p), (h .1 .0 ∙ ap (λ (x : Step). x .store) (sym p), h .1 .1 ∙ ap (λ (x : Step). x .output) (sym p)))
 
 -- a step that refuses
-pub refuses : (n : ℕ) (s : State) {a : Answer} {store output : List ℕ} {t : Step} → t ≡ refusedStep n s store output → a ≡ refusing n s
+pub refuses : (n : ℕ) (s : SenderState) {a : Answer} {store output : List ℕ} {t : Step} → t ≡ refusedStep n s store output → a ≡ refusing n s
     → Meets a store output t
 refuses n s p e = same-step p (e, (refl, refl))
 
 -- what was written picks the answer
-pub concludes : (event : ℕ) (s : State) (w : Work) (x y : Written) (a : Answer) → x ≡ y → a ≡ concluded event s w (writtenAnswer y)
+pub concludes : (event : ℕ) (s : SenderState) (w : Work) (x y : FrameWritten) (a : Answer) → x ≡ y → a ≡ concluded event s w (writtenAnswer y)
     → a ≡ concluded event s w (writtenAnswer x)
-concludes event s w x y a p e = e ∙ ap (λ (z : Written). concluded event s w (writtenAnswer z)) (sym p)
+concludes event s w x y a p e = e ∙ ap (λ (z : FrameWritten). concluded event s w (writtenAnswer z)) (sym p)
 
 -- what is handed down, and its unit, pick the frame
-pub handed-told : (g : Settings) (u : List ℕ) (x : Written) (new old : List ℕ) (h k : Handed) → h ≡ k → Writes x new (handedWriting g k u (length old)) old
+pub handed-told : (g : Settings) (u : List ℕ) (x : FrameWritten) (new old : List ℕ) (h k : Handed) → h ≡ k → Writes x new (handedWriting g k u (length old)) old
     → Writes x new (handedWriting g h u (length old)) old
 handed-told g u x new old h k p f = (
   f .0 ∙ ap (λ (y : Handed). answer (handedWriting g y u (length old))) (sym p),
   f .1 ∙ ap (λ (y : Handed). after (handedWriting g y u (length old)) old) (sym p),
 )
 
-pub unit-told : (g : Settings) (h : Handed) (x : Written) (new old u v : List ℕ) → u ≡ v → Writes x new (handedWriting g h u (length old)) old
+pub unit-told : (g : Settings) (h : Handed) (x : FrameWritten) (new old u v : List ℕ) → u ≡ v → Writes x new (handedWriting g h u (length old)) old
     → Writes x new (handedWriting g h v (length old)) old
 unit-told g h x new old u v p f = (
   f .0 ∙ ap (λ (y : List ℕ). answer (handedWriting g h y (length old))) p,
@@ -83,15 +83,15 @@ stored-same (outcome.Answer.done count more) store = refl
 stored-same (outcome.Answer.refused number place) store = refl
 
 -- the refusal in the answer is 0 exactly where the frame is written, so the store changes exactly there
-module _ (event : ℕ) (s : State) (w : Work) (new old : List ℕ) where
-  stored-new : (x : Written) → concluded event s w (writtenAnswer x) .refusal ≡ 0 → stored (writtenAnswer x) new old ≡ new
+module _ (event : ℕ) (s : SenderState) (w : Work) (new old : List ℕ) where
+  stored-new : (x : FrameWritten) → concluded event s w (writtenAnswer x) .refusal ≡ 0 → stored (writtenAnswer x) new old ≡ new
   unfolding refusing
   stored-new (Done count) z = refl
   stored-new Length z = absurd (omega arith)
   stored-new Setting z = absurd (omega arith)
   stored-new Room z = absurd (omega arith)
 
-  stored-old : (x : Written) → (concluded event s w (writtenAnswer x) .refusal ≡ 0 → ⊥) → stored (writtenAnswer x) new old ≡ old
+  stored-old : (x : FrameWritten) → (concluded event s w (writtenAnswer x) .refusal ≡ 0 → ⊥) → stored (writtenAnswer x) new old ≡ old
   unfolding answered
   stored-old (Done count) z = absurd (z refl)
   stored-old Length z = refl
@@ -99,17 +99,17 @@ module _ (event : ℕ) (s : State) (w : Work) (new old : List ℕ) where
   stored-old Room z = refl
 
 -- the writing of the frame handed down, with its unit
-abbrev pub handing : State → Work → List ℕ → List ℕ → Outcome (Unit {0})
+abbrev pub handing : SenderState → Work → List ℕ → List ℕ → Outcome (Unit {0})
 handing s w unit output = handedWriting (s .settings) (w .told .handed) unit (length output)
 
 -- the answer by the frame written
-pub answered-by : (event : ℕ) (s : State) (w : Work) (x : Written) (a : Answer) (unit out output : List ℕ) → Writes x out (handing s w unit output) output
+pub answered-by : (event : ℕ) (s : SenderState) (w : Work) (x : FrameWritten) (a : Answer) (unit out output : List ℕ) → Writes x out (handing s w unit output) output
     → a ≡ concluded event s w (writtenAnswer x)
     → (a ≡ concluded event s w (answer (handing s w unit output))) × (out ≡ after (handing s w unit output) output)
 answered-by event s w x a unit out output f e = (e ∙ ap (concluded event s w) (f .0), f .1)
 
 -- an event judged, where the unit given is the unit to hand down: the answer by the frame written, and the store by the refusal in it
-module _ (event : ℕ) (s : State) (w : Work) (x : Written) (a : Answer) (unit given out new old output : List ℕ) (same : given ≡ unit)
+module _ (event : ℕ) (s : SenderState) (w : Work) (x : FrameWritten) (a : Answer) (unit given out new old output : List ℕ) (same : given ≡ unit)
     (written : Writes x out (handing s w given output) output) (told : a ≡ concluded event s w (writtenAnswer x)) where
   frame : Writes x out (handing s w unit output) output
   frame = unit-told (s .settings) (w .told .handed) x out output given unit same written

@@ -4,14 +4,14 @@ use Prim.Native.Nat.{ℕ, _-_}
 use native.Mathlib.Omega.{arith}
 use borrow.Author.Tests.{eq-eqb, ne-eqb}
 use Rattle.base.proofs.Tests.{yes, no}
-use Rattle.fop_actions.specs.declared.Sender.{Sender as State}
+use Rattle.fop_actions.specs.declared.SenderState.{SenderState}
 use Rattle.fop_actions.specs.Parts.{clocked}
 use Rattle.fop_events.specs.Events.{expiryNumber}
 use Rattle.sender.specs.Events.{ticked, tickNumber}
 
-module _ (s : State) where
+module _ (s : SenderState) where
   -- the state with the timer's ticks left given
-  abbrev timed : ℕ → State
+  abbrev timed : ℕ → SenderState
   timed n = record { state = s .state; settings = s .settings; variables = clocked n (s .variables .«transmission_count») (s .variables); queues = s .queues }
 
   pub stopped : s .variables .timer ≡ 0 → s ≡ ticked s
@@ -19,7 +19,7 @@ module _ (s : State) where
       let q : s .variables .timer ≡ s .variables .timer - 1 = omega arith in
       ap timed q
 
-  pub expires : (g : State) (event : ℕ) → s .variables .timer ≡ 1 → g ≡ ticked s → event ≡ expiryNumber g → event ≡ tickNumber s
+  pub expires : (g : SenderState) (event : ℕ) → s .variables .timer ≡ 1 → g ≡ ticked s → event ≡ expiryNumber g → event ≡ tickNumber s
   expires g event p q e = e ∙ ap expiryNumber q ∙ sym (yes _ _ _ (eq-eqb (s .variables .timer) 1 p))
 
   pub no-expiry : (s .variables .timer ≡ 1 → ⊥) → 0 ≡ tickNumber s

@@ -8,15 +8,19 @@ use Rattle.base.specs.Choice.{pick}
 use Rattle.base.specs.Outcome.{Outcome, Answer.done, Answer.refused, answer, after}
 use Rattle.base.specs.Outcome as outcome
 use Rattle.fop_actions.specs.declared.Alert.the-variants as alert
+use Rattle.fop_actions.specs.declared.Handed.{Handed}
+use Rattle.fop_actions.specs.declared.Handed.the-variants as handed
 use Rattle.fop_actions.specs.declared.Response.the-variants.{RejectDirective}
 use Rattle.fop_actions.specs.declared.Responses.{Responses}
 use Rattle.fop_actions.specs.declared.Run.{Run}
-use Rattle.fop_actions.specs.declared.Sender.{Sender as State}
+use Rattle.fop_actions.specs.declared.SenderState.{SenderState}
 use Rattle.fop_actions.specs.declared.Work.{Work}
 use Rattle.fop_actions.specs.Actions.{responseNumber, responsesWith}
 use Rattle.fop_actions.specs.Limits.{largestResponses}
 use Rattle.fop_actions.specs.Start.{senderOf}
 use Rattle.sender.specs.declared.Answer.{Answer}
+use Rattle.sender.specs.declared.FrameKind.{FrameKind}
+use Rattle.sender.specs.declared.FrameKind.the-variants as kind
 
 -- no response
 abbrev pub noResponses : Responses
@@ -34,6 +38,14 @@ refusedEvent number = pick (eqb number 12) 40 0
 abbrev pub emptyRun : Run
 emptyRun = record { number = 0; count = 0 }
 
+-- table 6-3 and clause 7.8: the kind of the frame handed down
+abbrev pub kindHanded : Handed → FrameKind
+kindHanded handed.None = kind.None
+kindHanded (handed.Ad n i) = kind.Ad
+kindHanded handed.Bd = kind.Bd
+kindHanded handed.Unlock = kind.Unlock
+kindHanded (handed.SetVr n) = kind.SetVr
+
 -- an event that is not refused: the event's number, the count of octets handed down, and what the work tells
 unfoldable pub answered : ℕ → ℕ → Work → Answer
 answered event down w = record {
@@ -47,11 +59,12 @@ answered event down w = record {
   responses = w .told .responses;
   confirmed = w .told .confirmed;
   denied = w .told .denied;
+  kind = kindHanded (w .told .handed);
   next = record { fop = senderOf w };
 }
 
 -- a refusal by its number: nothing changes
-unfoldable pub refusing : ℕ → State → Answer
+unfoldable pub refusing : ℕ → SenderState → Answer
 refusing number s = record {
   refusal = number;
   event = refusedEvent number;
@@ -63,6 +76,7 @@ refusing number s = record {
   responses = refusedResponses number;
   confirmed = emptyRun;
   denied = emptyRun;
+  kind = kind.None;
   next = record { fop = s };
 }
 
@@ -73,11 +87,11 @@ pub record Step : Type 0 where
   pub output : List ℕ
 
 -- a refused event: "A refusal changes no octet of any lent buffer."
-abbrev pub refusedStep : ℕ → State → List ℕ → List ℕ → Step
+abbrev pub refusedStep : ℕ → SenderState → List ℕ → List ℕ → Step
 refusedStep number s store output = record { answer = refusing number s; store = store; output = output }
 
 -- the answer by what writing the frame handed down came to
-abbrev pub concluded : ℕ → State → Work → outcome.Answer (Unit {0}) → Answer
+abbrev pub concluded : ℕ → SenderState → Work → outcome.Answer (Unit {0}) → Answer
 concluded event s w (done count more) = answered event count w
 concluded event s w (refused number place) = refusing number s
 
@@ -87,6 +101,6 @@ stored (done count more) new old = new
 stored (refused number place) new old = old
 
 -- an event judged, by what writing the frame handed down comes to
-abbrev pub stepBy : ℕ → State → Work → Outcome (Unit {0}) → List ℕ → List ℕ → List ℕ → Step
+abbrev pub stepBy : ℕ → SenderState → Work → Outcome (Unit {0}) → List ℕ → List ℕ → List ℕ → Step
 stepBy event s w writing new old output =
     record { answer = concluded event s w (answer writing); store = stored (answer writing) new old; output = after writing output }

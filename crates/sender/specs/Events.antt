@@ -12,12 +12,12 @@ use Rattle.memory.specs.Placed.{placed}
 use Rattle.frame.specs.Frame.{writing}
 use Rattle.frame.specs.declared.Kind.the-variants as kind
 use Rattle.clcw.specs.Answers.{readingOf}
-use Rattle.clcw.specs.declared.Reading.{Reading}
-use Rattle.clcw.specs.declared.Reading.the-variants as reading
+use Rattle.clcw.specs.declared.WordReading.{WordReading}
+use Rattle.clcw.specs.declared.WordReading.the-variants as reading
 use Rattle.fop_actions.specs.declared.Settings.{Settings}
 use Rattle.fop_actions.specs.declared.Handed.{Handed}
 use Rattle.fop_actions.specs.declared.Handed.the-variants as handed
-use Rattle.fop_actions.specs.declared.Sender.{Sender as State}
+use Rattle.fop_actions.specs.declared.SenderState.{SenderState}
 use Rattle.fop_actions.specs.declared.Work.{Work}
 use Rattle.fop_actions.specs.Parts.{clocked}
 use Rattle.fop_actions.specs.Start.{begun}
@@ -45,17 +45,17 @@ placeHanded handed.Unlock = 0
 placeHanded (handed.SetVr n) = 0
 
 -- the unit that is handed down stood, before the event, behind the units that the event confirms
-abbrev pub unitBefore : State → Work → List ℕ → List ℕ
+abbrev pub unitBefore : SenderState → Work → List ℕ → List ℕ
 unitBefore s w store = unitAt (s .queues .lengths) (placeHanded (w .told .handed) + w .told .confirmed .count) store
 
 -- an event that offers no unit, by its number and the work on it: the units confirmed leave the store's front
-unfoldable pub servedBy : ℕ → State → Work → List ℕ → List ℕ → Step
+unfoldable pub servedBy : ℕ → SenderState → Work → List ℕ → List ℕ → Step
 servedBy event s w store output =
     stepBy event s w (handedWriting (s .settings) (w .told .handed) (unitBefore s w store) (length output)) (without (w .told .confirmed .count) store)
     store output
 
 -- the same by the event's row, with the value n that it brings; 11 where the lent store is too short
-unfoldable pub served : ℕ → ℕ → State → State → List ℕ → List ℕ → Step
+unfoldable pub served : ℕ → ℕ → SenderState → SenderState → List ℕ → List ℕ → Step
 served event n s g store output =
     must (leb smallestStore (length store)) (refusedStep 11 s store output) (servedBy event s (rowNumbered event n 0 (begun g)) store output)
 
@@ -64,46 +64,46 @@ abbrev pub mustBeUnit : {A : Type 0} → List ℕ → A → A → A
 mustBeUnit o refusal on = must (leb 1 (length o)) refusal (must (leb (length o) largestUnit) refusal on)
 
 -- the unit offered is added to the Wait_Queue: E19 in S1 to S3
-abbrev pub added : ℕ → State → Bool
+abbrev pub added : ℕ → SenderState → Bool
 added event s = both (eqb event 19) (inMain (s .state))
 
 -- the unit that an AD request hands down: the one offered, which would be the last of the sent ones, or an older one that is marked
-abbrev pub unitOffered : State → Work → List ℕ → List ℕ → List ℕ
+abbrev pub unitOffered : SenderState → Work → List ℕ → List ℕ → List ℕ
 unitOffered s w o store =
     pick (eqb (placeHanded (w .told .handed)) (s .queues .sent)) o (unitAt (s .queues .lengths) (placeHanded (w .told .handed)) store)
 
 -- an AD request by its number and the work on it: the unit offered goes into the store behind the sent ones
-unfoldable pub offeredBy : ℕ → State → Work → List ℕ → List ℕ → List ℕ → Step
+unfoldable pub offeredBy : ℕ → SenderState → Work → List ℕ → List ℕ → List ℕ → Step
 offeredBy event s w o store output =
     stepBy event s w (handedWriting (s .settings) (w .told .handed) (unitOffered s w o store) (length output))
     (pick (added event s) (placed store (largestUnit * s .queues .sent) o) store)
     store output
 
 -- Request to transfer an AD unit
-unfoldable pub requestAdOf : State → List ℕ → List ℕ → List ℕ → Step
+unfoldable pub requestAdOf : SenderState → List ℕ → List ℕ → List ℕ → Step
 requestAdOf s o store output =
     mustBeUnit o (refusedStep 10 s store output)
     (must (leb smallestStore (length store)) (refusedStep 11 s store output)
     (offeredBy (adNumber s) s (rowNumbered (adNumber s) 0 (length o) (begun s)) o store output))
 
 -- a BD request by its number and the work on it
-unfoldable pub bypassedBy : ℕ → State → Work → List ℕ → List ℕ → List ℕ → Step
+unfoldable pub bypassedBy : ℕ → SenderState → Work → List ℕ → List ℕ → List ℕ → Step
 bypassedBy event s w o store output = stepBy event s w (handedWriting (s .settings) (w .told .handed) o (length output)) store store output
 
 -- Request to transfer a BD unit
-unfoldable pub requestBdOf : State → List ℕ → List ℕ → List ℕ → Step
+unfoldable pub requestBdOf : SenderState → List ℕ → List ℕ → List ℕ → Step
 requestBdOf s o store output =
     mustBeUnit o (refusedStep 10 s store output)
     (must (leb smallestStore (length store)) (refusedStep 11 s store output)
     (bypassedBy (bdNumber s) s (rowNumbered (bdNumber s) 0 0 (begun s)) o store output))
 
 -- a directive by its number d and value v: 12 for the invalid directive, E40
-unfoldable pub directiveOf : ℕ → ℕ → State → List ℕ → List ℕ → Step
+unfoldable pub directiveOf : ℕ → ℕ → SenderState → List ℕ → List ℕ → Step
 directiveOf d v s store output =
     pick (eqb (directiveNumber d v s) 40) (refusedStep 12 s store output) (served (directiveNumber d v s) v s s store output)
 
 -- "A tick lowers a running timer by one"
-abbrev pub ticked : State → State
+abbrev pub ticked : SenderState → SenderState
 ticked s = record {
   state = s .state;
   settings = s .settings;
@@ -112,24 +112,24 @@ ticked s = record {
 }
 
 -- "the tick that makes it zero is the expiry"; any other is no event of the table
-abbrev pub tickNumber : State → ℕ
+abbrev pub tickNumber : SenderState → ℕ
 tickNumber s = pick (eqb (s .variables .timer) 1) (expiryNumber (ticked s)) 0
 
 -- a tick
-unfoldable pub tickOf : State → List ℕ → List ℕ → Step
+unfoldable pub tickOf : SenderState → List ℕ → List ℕ → Step
 tickOf s store output = served (tickNumber s) 0 s (ticked s) store output
 
 -- an answer of the lower layer
-unfoldable pub lowerLayerOf : Lower → State → List ℕ → List ℕ → Step
+unfoldable pub lowerLayerOf : Lower → SenderState → List ℕ → List ℕ → Step
 lowerLayerOf l s store output = served (lowerNumber l) 0 s s store output
 
 -- a control word as it was read: 10 where it is not of four octets, 7 where it is another channel's; an invalid one is E15
-abbrev pub wordBy : Reading → State → List ℕ → List ℕ → Step
+abbrev pub wordBy : WordReading → SenderState → List ℕ → List ℕ → Step
 wordBy (reading.Word r) s store output = served (wordNumber (r .word) s) (r .word .report) s s store output
 wordBy reading.Invalid s store output = served 15 0 s s store output
 wordBy reading.Address s store output = refusedStep 7 s store output
 wordBy reading.Length s store output = refusedStep 10 s store output
 
 -- a control word, any octets
-unfoldable pub controlWordOf : List ℕ → State → List ℕ → List ℕ → Step
+unfoldable pub controlWordOf : List ℕ → SenderState → List ℕ → List ℕ → Step
 controlWordOf octets s store output = wordBy (readingOf octets (s .settings .channel)) s store output

@@ -4,7 +4,6 @@ use mathlib.Core.Bool.{Bool}
 use lib.Dec.{leb, eqb}
 use Rattle.base.specs.Choice.{must, both}
 use Rattle.base.specs.Limits.{largestSpacecraft, largestChannel}
-use Rattle.base.specs.Modulo.{offset}
 use Rattle.fop.specs.Limits.{largestK}
 use Rattle.fop_actions.specs.declared.Settings.{Settings}
 use Rattle.fop_actions.specs.Start.{startOf}
@@ -28,12 +27,8 @@ settingsHold g =
     (both (leb 1 (g .«transmission_limit»))
     (both (eqb (g .«timeout_type») 0) (both (leb (g .spacecraft) largestSpacecraft) (leb (g .channel) largestChannel))))))
 
--- the settings and numbers given; V(S) - NN(R) within the largest K, as every event keeps it
-abbrev pub withinLimits : Settings → ℕ → ℕ → Bool
-withinLimits g vs nnr = both (settingsHold g) (leb (offset vs nnr) largestK)
-
--- "A sender starts Initial, .. with the numbers and settings given"; lent is the length of the store
+-- "A sender starts Initial, .. with the numbers and settings given": any two numbers; lent is the length of the store
 unfoldable pub startingOf : Settings → ℕ → ℕ → ℕ → Start
 startingOf g vs nnr lent =
-    must (withinLimits g vs nnr) (refusedStart 12)
+    must (settingsHold g) (refusedStart 12)
     (must (leb smallestStore lent) (refusedStart 11) (record { refusal = 0; sender = record { fop = startOf g vs nnr } }))

@@ -8,8 +8,8 @@ use Rattle.base.specs.Choice.{pick, both}
 use Rattle.base.specs.Limits.{largestUnit}
 use Rattle.base.specs.Modulo.{offset}
 use Rattle.fop.specs.Limits.{largestK}
-use Rattle.fop_actions.specs.declared.Sender.{Sender as State}
-use Rattle.fop_actions.specs.declared.State.{State as FopState}
+use Rattle.fop_actions.specs.declared.SenderState.{SenderState}
+use Rattle.fop_actions.specs.declared.State.{State}
 use Rattle.fop_actions.specs.declared.State.the-variants as state
 use Rattle.fop_actions.specs.declared.Variables.{Variables}
 use Rattle.fop_actions.specs.declared.Queues.{Queues}
@@ -21,11 +21,11 @@ use Rattle.sender.specs.Start.{settingsHold, refusedStart}
 abbrev pub unitsHeld : ℕ → Bool → ℕ
 unitsHeld sent waiting = pick waiting (suc sent) sent
 
--- V(S) - NN(R) within the largest K; the units sent are among them, and the marked ones among these; Transmission_Count is at least 1;
+-- the units sent are no more than the largest K and than V(S) - NN(R), and the marked ones are among them; Transmission_Count is at least 1;
 -- Suspend_State is 0
 abbrev pub numbersHold : Variables → Queues → Bool
 numbersHold v q =
-    both (leb (offset (v .vs) (v .nnr)) largestK)
+    both (leb (q .sent) largestK)
     (both (leb (q .sent) (offset (v .vs) (v .nnr)))
     (both (leb (q .marked) (q .sent)) (both (leb 1 (v .«transmission_count»)) (eqb (v .«suspend_state») 0))))
 
@@ -34,7 +34,7 @@ abbrev pub isEmpty : Queues → Bool
 isEmpty q = both (eqb (q .sent) 0) (not (q .waiting))
 
 -- by the state: a type-BC frame in S5 and only there; no unit outside S1 to S3; the timer stopped in S6
-abbrev pub stateHolds : FopState → Variables → Queues → Bool
+abbrev pub stateHolds : State → Variables → Queues → Bool
 stateHolds state.S1 v q = not (isFrame (q .control))
 stateHolds state.S2 v q = not (isFrame (q .control))
 stateHolds state.S3 v q = not (isFrame (q .control))
@@ -49,12 +49,12 @@ lengthsHold zero (x ∷ xs) = both (leb x largestUnit) (lengthsHold zero xs)
 lengthsHold (suc held) (x ∷ xs) = both (leb 1 x) (both (leb x largestUnit) (lengthsHold held xs))
 
 -- a well-formed sender: all of these, which is what every event keeps (crate fop_view, specs/State, `Good`)
-unfoldable pub wellFormed : State → Bool
+unfoldable pub wellFormed : SenderState → Bool
 wellFormed s =
     both (settingsHold (s .settings))
     (both (numbersHold (s .variables) (s .queues))
     (both (stateHolds (s .state) (s .variables) (s .queues)) (lengthsHold (unitsHeld (s .queues .sent) (s .queues .waiting)) (s .queues .lengths))))
 
 -- a sender from a state that was kept; 12 where it is none
-unfoldable pub restoredOf : State → Start
+unfoldable pub restoredOf : SenderState → Start
 restoredOf s = pick (wellFormed s) (record { refusal = 0; sender = record { fop = s } }) (refusedStart 12)

@@ -1,16 +1,34 @@
 // What the sender answers: an event done, and a refusal.
 use crate::Answer;
+use crate::FrameKind;
 use crate::Sender;
 use fop_actions::Alert;
+use fop_actions::Handed;
 use fop_actions::LARGEST_RESPONSES;
 use fop_actions::Responses;
 use fop_actions::Run;
 use fop_actions::Work;
 use fop_actions::start::sender_of;
-use frame::writer::Written;
+use frame::writer::FrameWritten;
 ghost use mathlib.Core.Path.{_≡_};
 ghost use Rattle.frame.specs.Answers.{writtenAnswer};
-ghost use Rattle.sender.specs.Answers.{answered, refusing, concluded, refusedResponses, refusedEvent};
+ghost use Rattle.sender.specs.Answers.{kindHanded, answered, refusing, concluded, refusedResponses, refusedEvent};
+
+// The kind of the frame handed down.
+fn kind_handed(handed: Handed) -> FrameKind
+    ensures { λ r. ⌜ r ≡ kindHanded handed ⌝ }
+{
+    match handed {
+        Handed::None => FrameKind::None,
+        Handed::Ad {
+            number: _,
+            place: _,
+        } => FrameKind::Ad,
+        Handed::Bd => FrameKind::Bd,
+        Handed::Unlock => FrameKind::Unlock,
+        Handed::SetVr(_) => FrameKind::SetVr,
+    }
+}
 
 // An event that is not refused.
 fn answered(event: u8, down: usize, work: Work) -> Answer
@@ -25,6 +43,8 @@ fn answered(event: u8, down: usize, work: Work) -> Answer
     let responses = told.responses;
     let confirmed = told.confirmed;
     let denied = told.denied;
+    let handed = told.handed;
+    let kind = kind_handed(handed);
     Answer {
         refusal: 0,
         event: event,
@@ -36,6 +56,7 @@ fn answered(event: u8, down: usize, work: Work) -> Answer
         responses: responses,
         confirmed: confirmed,
         denied: denied,
+        kind: kind,
         next: next,
     }
 }
@@ -69,7 +90,7 @@ fn refused_event(number: u8) -> u8
 }
 
 // A refusal: nothing changes.
-pub fn refused(sender: fop_actions::Sender, number: u8) -> Answer
+pub fn refused(sender: fop_actions::SenderState, number: u8) -> Answer
     ensures { λ r. ⌜ r ≡ refusing number sender ⌝ }
 {
     let state = sender.state;
@@ -90,18 +111,24 @@ pub fn refused(sender: fop_actions::Sender, number: u8) -> Answer
         responses: responses,
         confirmed: none,
         denied: none,
+        kind: FrameKind::None,
         next: next,
     }
 }
 
 // The answer by what writing the frame handed down came to.
-pub fn conclude(sender: fop_actions::Sender, event: u8, work: Work, written: Written) -> Answer
+pub fn conclude(
+    sender: fop_actions::SenderState,
+    event: u8,
+    work: Work,
+    written: FrameWritten,
+) -> Answer
     ensures { λ r. ⌜ r ≡ concluded event sender work (writtenAnswer written) ⌝ }
 {
     match written {
-        Written::Done(count) => answered(event, count, work),
-        Written::Length => refused(sender, 10),
-        Written::Setting => refused(sender, 12),
-        Written::Room => refused(sender, 11),
+        FrameWritten::Done(count) => answered(event, count, work),
+        FrameWritten::Length => refused(sender, 10),
+        FrameWritten::Setting => refused(sender, 12),
+        FrameWritten::Room => refused(sender, 11),
     }
 }

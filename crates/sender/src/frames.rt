@@ -4,7 +4,7 @@ use fop_actions::Handed;
 use fop_actions::PLACES;
 use fop_actions::Settings;
 use fop_actions::units::remove_units;
-use frame::writer::Written;
+use frame::writer::FrameWritten;
 use frame::writer::write_ad;
 use frame::writer::write_bd;
 use frame::writer::write_set_vr;
@@ -84,14 +84,19 @@ pub fn place_before(handed: Handed, count: u8) -> usize
 }
 
 // Writes the frame handed down, if any; `unit` is that of an AD or BD frame.
-pub fn write_handed(settings: Settings, handed: Handed, unit: &[u8], output: &mut [u8]) -> Written
+pub fn write_handed(
+    settings: Settings,
+    handed: Handed,
+    unit: &[u8],
+    output: &mut [u8],
+) -> FrameWritten
     ensures answer { λ r. ⌜ writtenAnswer r ≡ answer (handedWriting settings handed (now (unit .entry)) (length (now (output .entry)))) ⌝ }
     ensures memory { λ r. ⌜ now (output .exit) ≡ after (handedWriting settings handed (now (unit .entry)) (length (now (output .entry)))) (now (output .entry)) ⌝ }
 {
     let spacecraft = settings.spacecraft;
     let channel = settings.channel;
     match handed {
-        Handed::None => Written::Done(0),
+        Handed::None => FrameWritten::Done(0),
         Handed::Ad { number, place: _ } => write_ad(spacecraft, channel, number, unit, output),
         Handed::Bd => write_bd(spacecraft, channel, unit, output),
         Handed::Unlock => write_unlock(spacecraft, channel, output),

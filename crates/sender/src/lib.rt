@@ -3,8 +3,8 @@
 // The sender's state goes in by value and comes back in the answer. The units lie in a store that the host lends at every event, the
 // same one each time and written by nobody else: units of 249 octets from offset 0 on, the oldest first, the unit waiting behind the sent
 // ones. The frame handed down to the lower layer is written at the front of the lent output. A refusal changes nothing.
-pub mod answers;
-pub mod frames;
+mod answers;
+mod frames;
 mod state;
 
 use crate::answers::conclude;
@@ -18,9 +18,8 @@ use crate::state::settings_hold;
 use crate::state::well_formed;
 use base::LARGEST_UNIT;
 use clcw::Clcw;
-use clcw::Reading;
+use clcw::WordReading;
 use fop_actions::Alert;
-use fop_actions::LARGEST_K;
 use fop_actions::PLACES;
 use fop_actions::Responses;
 use fop_actions::Run;
@@ -30,7 +29,6 @@ use fop_actions::Work;
 use fop_actions::start::begin;
 use fop_actions::start::start;
 use fop_actions::units::put_unit;
-use fop_actions::values::difference;
 use fop_events::Lower;
 use fop_events::ad_event;
 use fop_events::bd_event;
@@ -39,7 +37,7 @@ use fop_events::expiry_event;
 use fop_events::lower_event;
 use fop_events::words::word_event;
 use fop_rows::row;
-use frame::writer::Written;
+use frame::writer::FrameWritten;
 ghost use mathlib.Core.Path.{_≡_};
 ghost use Prim.Native.Nat.{_≤_};
 ghost use lib.Dec.{leb};
@@ -50,7 +48,7 @@ ghost use Rattle.base.specs.Outcome.{answer, after};
 ghost use Rattle.frame.specs.Answers.{writtenAnswer};
 ghost use Rattle.sender.specs.Answers.{concluded};
 ghost use Rattle.sender.specs.Limits.{smallestStore};
-ghost use Rattle.sender.specs.Start.{withinLimits, refusedStart, startingOf};
+ghost use Rattle.sender.specs.Start.{refusedStart, startingOf};
 ghost use Rattle.sender.specs.State.{restoredOf};
 ghost use Rattle.sender.specs.Events.{handedWriting, unitOffered, servedBy, served, mustBeUnit, offeredBy, added, ticked, tickNumber, requestAdOf, requestBdOf, directiveOf, tickOf, lowerLayerOf, controlWordOf};
 
@@ -59,7 +57,7 @@ pub const SMALLEST_STORE: usize = LARGEST_UNIT * PLACES;
 
 // The sender's state. No other crate can write one: a start gives one, and each answer the next.
 pub struct Sender {
-    fop: fop_actions::Sender,
+    fop: fop_actions::SenderState,
 }
 
 // A start: document 01's refusal (0 for done, 12 for a setting, 11 for the lent store), and the sender; after a refusal that of the least
@@ -69,9 +67,19 @@ pub struct Start {
     pub sender: Sender,
 }
 
+// The kind of the frame handed down (table 6-3, clause 7.8), which tells whose accept or reject the lower layer's answer to it is.
+pub enum FrameKind {
+    None,
+    Ad,
+    Bd,
+    Unlock,
+    SetVr,
+}
+
 // The answer to an event: document 01's refusal (0 for done); the event's number in table 7-8 (0 where it is none); the next state; the count
 // of octets of the frame handed down, at the front of the output (0 where there is none); whether the lower layer is asked to abort; the
-// alert; a Suspend notification, which is never given for now; the responses in their order; the units confirmed and denied; the next sender.
+// alert; a Suspend notification, which is never given for now; the responses in their order; the units confirmed and denied; the kind of the
+// frame handed down; the next sender.
 pub struct Answer {
     pub refusal: u8,
     pub event: u8,
@@ -83,12 +91,13 @@ pub struct Answer {
     pub responses: Responses,
     pub confirmed: Run,
     pub denied: Run,
+    pub kind: FrameKind,
     pub next: Sender,
 }
 
 // An event that offers no unit, judged: the frame is written, then the units confirmed leave the store.
 fn serve_work(
-    sender: fop_actions::Sender,
+    sender: fop_actions::SenderState,
     event: u8,
     work: Work,
     store: &mut [u8],
@@ -115,8 +124,8 @@ fn serve_work(
 
 // The same by the event's row, of the state `by`, with the value that the event brings.
 fn serve(
-    sender: fop_actions::Sender,
-    by: fop_actions::Sender,
+    sender: fop_actions::SenderState,
+    by: fop_actions::SenderState,
     event: u8,
     value: u16,
     store: &mut [u8],
@@ -134,7 +143,7 @@ fn serve(
 }
 
 // Whether the unit offered is added to the wait queue: E19 in S1 to S3.
-fn adds(event: u8, sender: fop_actions::Sender) -> bool
+fn adds(event: u8, sender: fop_actions::SenderState) -> bool
     ensures { λ r. ⌜ r ≡ added event sender ⌝ }
 {
     if event != 19 {
@@ -153,7 +162,7 @@ fn adds(event: u8, sender: fop_actions::Sender) -> bool
 
 // An AD request, judged: the frame is written, then the unit offered goes into the store.
 fn offer_work(
-    sender: fop_actions::Sender,
+    sender: fop_actions::SenderState,
     event: u8,
     work: Work,
     unit: &[u8],
@@ -176,12 +185,12 @@ fn offer_work(
 
 // Writes the frame that an AD request hands down: of the unit offered, or of an older unit that is marked.
 fn write_offered(
-    sender: fop_actions::Sender,
+    sender: fop_actions::SenderState,
     work: Work,
     unit: &[u8],
     store: &[u8],
     output: &mut [u8],
-) -> Written
+) -> FrameWritten
     ensures answer { λ r. ⌜ writtenAnswer r ≡ answer (handedWriting (sender .settings) (work .told .handed) (unitOffered sender work (now (unit .entry)) (now (store .entry))) (length (now (output .entry)))) ⌝ }
     ensures memory { λ r. ⌜ now (output .exit) ≡ after (handedWriting (sender .settings) (work .told .handed) (unitOffered sender work (now (unit .entry)) (now (store .entry))) (length (now (output .entry)))) (now (output .entry)) ⌝ }
 {
@@ -199,7 +208,7 @@ fn write_offered(
 
 // A BD request, judged: the frame is written.
 fn bypass_work(
-    sender: fop_actions::Sender,
+    sender: fop_actions::SenderState,
     event: u8,
     work: Work,
     unit: &[u8],
@@ -234,7 +243,7 @@ fn request_refusal(unit: &[u8], store: &[u8]) -> u8
 }
 
 // The state after a tick lowered a running timer by one.
-fn lower_timer(sender: fop_actions::Sender) -> fop_actions::Sender
+fn lower_timer(sender: fop_actions::SenderState) -> fop_actions::SenderState
     ensures { λ r. ⌜ r ≡ ticked sender ⌝ }
 {
     let ticks = sender.variables.timer;
@@ -248,23 +257,13 @@ fn lower_timer(sender: fop_actions::Sender) -> fop_actions::Sender
 }
 
 // The event of a tick: the expiry where it makes the timer zero.
-fn tick_event(sender: fop_actions::Sender) -> u8
+fn tick_event(sender: fop_actions::SenderState) -> u8
     ensures { λ r. ⌜ r ≡ tickNumber sender ⌝ }
 {
     if sender.variables.timer == 1 {
         return expiry_event(lower_timer(sender));
     }
     0
-}
-
-// Document 01's limits of the settings and numbers of a start.
-fn within_limits(settings: Settings, vs: u8, nnr: u8) -> bool
-    ensures { λ r. ⌜ r ≡ withinLimits settings vs nnr ⌝ }
-{
-    if !settings_hold(settings) {
-        return false;
-    }
-    difference(vs, nnr) <= LARGEST_K
 }
 
 // A start that is refused.
@@ -297,14 +296,14 @@ pub fn refused_state() -> Start
 
 impl Sender {
     // The state, to be kept.
-    pub fn state(self) -> fop_actions::Sender
+    pub fn state(self) -> fop_actions::SenderState
         ensures { λ r. ⌜ r ≡ self .fop ⌝ }
     {
         self.fop
     }
 
     // A sender from a state that was kept; 12 where no sender has it.
-    pub fn restore(state: fop_actions::Sender) -> Start
+    pub fn restore(state: fop_actions::SenderState) -> Start
         ensures { λ r. ⌜ r ≡ restoredOf state ⌝ }
     {
         if !well_formed(state) {
@@ -321,7 +320,7 @@ impl Sender {
     pub fn new(settings: Settings, vs: u8, nnr: u8, store: &[u8]) -> Start
         ensures { λ r. ⌜ r ≡ startingOf settings vs nnr (length (now (store .entry))) ⌝ }
     {
-        if !within_limits(settings, vs, nnr) {
+        if !settings_hold(settings) {
             return refused_start(12);
         }
         if store.len() < SMALLEST_STORE {
@@ -414,14 +413,14 @@ impl Sender {
         let sender = self.fop;
         let reading = Clcw::read(octets, sender.settings.channel);
         match reading {
-            Reading::Word(received) => {
+            WordReading::Word(received) => {
                 let word = received.word;
                 let event = word_event(sender, word);
                 serve(sender, sender, event, word.report as u16, store, output)
             }
-            Reading::Invalid => serve(sender, sender, 15, 0, store, output),
-            Reading::Address => refused(sender, 7),
-            Reading::Length => refused(sender, 10),
+            WordReading::Invalid => serve(sender, sender, 15, 0, store, output),
+            WordReading::Address => refused(sender, 7),
+            WordReading::Length => refused(sender, 10),
         }
     }
 }

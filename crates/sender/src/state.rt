@@ -6,7 +6,7 @@ use fop_actions::Control;
 use fop_actions::LARGEST_K;
 use fop_actions::PLACES;
 use fop_actions::Queues;
-use fop_actions::Sender;
+use fop_actions::SenderState;
 use fop_actions::Settings;
 use fop_actions::State;
 use fop_actions::Variables;
@@ -47,7 +47,7 @@ fn numbers_hold(variables: Variables, queues: Queues) -> bool
     ensures { λ r. ⌜ r ≡ numbersHold variables queues ⌝ }
 {
     let outstanding = difference(variables.vs, variables.nnr);
-    if LARGEST_K < outstanding {
+    if LARGEST_K < queues.sent {
         return false;
     }
     if outstanding < queues.sent {
@@ -143,7 +143,7 @@ fn lengths_hold(lengths: [u16; PLACES], held: usize) -> bool
 }
 
 // A state that some sender can have.
-pub fn well_formed(sender: Sender) -> bool
+pub fn well_formed(sender: SenderState) -> bool
     ensures { λ r. ⌜ r ≡ wellFormed sender ⌝ }
 {
     let settings = sender.settings;

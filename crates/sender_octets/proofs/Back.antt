@@ -12,11 +12,11 @@ use Rattle.base.proofs.Tests.{both-left, no, bit-le}
 use Rattle.base.proofs.Lists.{same-equal, same-self}
 use Rattle.base.specs.Flags.{bitOf, isSet}
 use Rattle.fop_actions.specs.Limits.{places}
-use Rattle.fop_actions.specs.declared.State.{State as FopState}
+use Rattle.fop_actions.specs.declared.State.{State}
 use Rattle.fop_actions.specs.declared.State.the-variants as state
 use Rattle.fop_actions.specs.declared.Control.{Control}
 use Rattle.fop_actions.specs.declared.Control.the-variants as control
-use Rattle.fop_actions.specs.declared.Sender.{Sender as State}
+use Rattle.fop_actions.specs.declared.SenderState.{SenderState}
 use Rattle.sender.specs.State.{wellFormed}
 use Rattle.sender.specs.Start.{refusedStart}
 use Rattle.sender_octets.specs.Kept.{octetsOf, stateIn, isState, senderIn, stateNumber, stateNumbered, controlNumber, controlValue, controlNumbered, pairsFrom}
@@ -25,10 +25,10 @@ use Rattle.sender_octets.proofs.Parts.{settings-by, variables-by, queue
 
 -- what the struct's type sees to: it has a length for each place. That its other numbers fit their types is not needed: none is cut on
 -- the way to octets, which the contract of `octets_of` says
-pub record Sized (s : State) : Type 0 where
+pub record Sized (s : SenderState) : Type 0 where
   pub lengths : length (s .queues .lengths) ≡ places
 
-state-back : (x : FopState) → stateNumbered (stateNumber x) ≡ x
+pub state-back : (x : State) → stateNumbered (stateNumber x) ≡ x
 state-back state.S1 = refl
 state-back state.S2 = refl
 state-back state.S3 = refl
@@ -66,7 +66,7 @@ flags-back a b c d e =
       sym (flag-back (n / 16 % 2) e (omega arith)),
     )
 
-module _ (s : State) where
+module _ (s : SenderState) where
   settings-back : s .settings ≡ stateIn (octetsOf s) .settings
   unfolding octetsOf
   settings-back =
@@ -103,7 +103,7 @@ module _ (s : State) where
     pub octets-back : wellFormed s ≡ true → isState (octetsOf s) ≡ true
     unfolding isState
     octets-back w =
-        ap (λ (x : State). both (same (octetsOf s) (octetsOf x)) (wellFormed x)) read-back ∙ ap₂ both (same-self (octetsOf s)) w
+        ap (λ (x : SenderState). both (same (octetsOf s) (octetsOf x)) (wellFormed x)) read-back ∙ ap₂ both (same-self (octetsOf s)) w
 
 -- octets that are a state are the octets of the state in them
 pub state-only : (o : List ℕ) → isState o ≡ true → octetsOf (stateIn o) ≡ o

@@ -10,14 +10,14 @@ use Rattle.base.specs.Octets.{same}
 use Rattle.base.proofs.Lists.{same-length-not}
 use Rattle.base.proofs.Tests.{no}
 use Rattle.fop_actions.specs.Limits.{places}
-use Rattle.fop_actions.specs.declared.Sender.{Sender as State}
+use Rattle.fop_actions.specs.declared.SenderState.{SenderState}
 use Rattle.sender.specs.State.{wellFormed, restoredOf}
 use Rattle.sender.specs.Start.{refusedStart}
 use Rattle.sender.specs.declared.Start.{Start}
 use Rattle.sender_octets.specs.Kept.{stateOctets, octetsOf, stateIn, isState, senderIn}
 use Rattle.sender_octets.proofs.Pairs.{length-pairs, length-from}
 
-pub length-octets : (s : State) → length (s .queues .lengths) ≡ places → length (octetsOf s) ≡ stateOctets
+pub length-octets : (s : SenderState) → length (s .queues .lengths) ≡ places → length (octetsOf s) ≡ stateOctets
 unfolding octetsOf
 length-octets s h = omega (arith, length-pairs (s .queues .lengths))
 
@@ -26,7 +26,7 @@ twice : {A : Type 0} (b : Bool) (x y : A) → pick b x y ≡ pick b (pick b x y)
 twice true x y = refl
 twice false x y = refl
 
-restored-where : (s : State) → restoredOf s ≡ pick (wellFormed s) (restoredOf s) (refusedStart 12)
+restored-where : (s : SenderState) → restoredOf s ≡ pick (wellFormed s) (restoredOf s) (refusedStart 12)
 unfolding restoredOf
 restored-where s = twice (wellFormed s) _ _
 
@@ -47,5 +47,5 @@ module _ (o : List ℕ) where
   judged d e = e ∙ restored-where (stateIn o) ∙ sym (ap (λ (b : Bool). pick (both b (wellFormed (stateIn o))) (restoredOf (stateIn o)) (refusedStart 12)) d)
 
   -- the comparison that the code makes, of the octets of the state that it read
-  pub compared : {s : State} {w : List ℕ} {b c : Bool} → s ≡ stateIn o → w ≡ octetsOf s → b ≡ same o w → b ≡ c → same o (octetsOf (stateIn o)) ≡ c
+  pub compared : {s : SenderState} {w : List ℕ} {b c : Bool} → s ≡ stateIn o → w ≡ octetsOf s → b ≡ same o w → b ≡ c → same o (octetsOf (stateIn o)) ≡ c
   compared es ew eb e = sym (eb ∙ ap (same o) (ew ∙ ap octetsOf es)) ∙ e

@@ -6,18 +6,18 @@ use Prim.Native.Nat.{ℕ, _/_, _%_}
 use lib.ListN.{getD}
 use Rattle.base.specs.Flags.{bitOf, isSet}
 use Rattle.fop_actions.specs.Limits.{places}
-use Rattle.fop_actions.specs.declared.State.{State as FopState}
+use Rattle.fop_actions.specs.declared.State.{State}
 use Rattle.fop_actions.specs.declared.Settings.{Settings}
 use Rattle.fop_actions.specs.declared.Variables.{Variables}
 use Rattle.fop_actions.specs.declared.Queues.{Queues}
 use Rattle.fop_actions.specs.declared.Control.{Control}
-use Rattle.fop_actions.specs.declared.Sender.{Sender as State}
+use Rattle.fop_actions.specs.declared.SenderState.{SenderState}
 use Rattle.sender.specs.declared.Answer.{Answer}
 use Rattle.sender_octets.specs.Kept.{octetsOf, stateIn, stateNumber, stateNumbered, controlNumber, controlValue, controlNumbered, flagsOf, pairs, pairAt, pairsFrom}
-use Rattle.sender_octets.specs.Answer.{octetsOfAnswer, alertNumber}
+use Rattle.sender_octets.specs.Answer.{octetsOfAnswer, alertNumber, kindNumber}
 
 -- the octets before the lengths, with the state's number, the flags and the type-BC frame given
-abbrev pub numbersWith : State → ℕ → ℕ → ℕ → ℕ → List ℕ
+abbrev pub numbersWith : SenderState → ℕ → ℕ → ℕ → ℕ → List ℕ
 numbersWith s number flags control value =
     0x53 ∷ 1 ∷ number
     ∷ s .settings .k ∷ s .settings .«t1_initial» / 256 ∷ s .settings .«t1_initial» % 256 ∷ s .settings .«transmission_limit» ∷ s .settings .«timeout_type»
@@ -25,7 +25,7 @@ numbersWith s number flags control value =
     ∷ s .variables .vs ∷ s .variables .nnr ∷ s .variables .timer / 256 ∷ s .variables .timer % 256 ∷ s .variables .«transmission_count»
     ∷ flags ∷ s .variables .«suspend_state» ∷ s .queues .sent ∷ s .queues .marked ∷ control ∷ value ∷ []
 
-pub numbers-by : (s : State) {number flags control value : ℕ} → number ≡ stateNumber (s .state) → flags ≡ flagsOf s
+pub numbers-by : (s : SenderState) {number flags control value : ℕ} → number ≡ stateNumber (s .state) → flags ≡ flagsOf s
     → control ≡ controlNumber (s .queues .control) → value ≡ controlValue (s .queues .control) → numbersWith s number flags control value ++ pairs (s .queues .lengths) ≡ octetsOf s
 unfolding octetsOf
 numbers-by s {number} {flags} {control} {value} en ef ec ev =
@@ -33,18 +33,21 @@ numbers-by s {number} {flags} {control} {value} en ef ec ev =
     ∙ ap (λ (n : ℕ). numbersWith s (stateNumber (s .state)) n control value ++ pairs (s .queues .lengths)) ef
     ∙ ap₂ (λ (n m : ℕ). numbersWith s (stateNumber (s .state)) (flagsOf s) n m ++ pairs (s .queues .lengths)) ec ev
 
--- the octets of an answer, with the state's number, the alert's and the bits given
-abbrev pub answerWith : Answer → ℕ → ℕ → ℕ → ℕ → List ℕ
-answerWith a state abort alert suspended =
+-- the octets of an answer, with the state's number, the alert's, the kind's and the bits given
+abbrev pub answerWith : Answer → ℕ → ℕ → ℕ → ℕ → ℕ → List ℕ
+answerWith a state abort alert suspended kind =
     a .refusal ∷ a .event ∷ state ∷ a .down / 256 % 256 ∷ a .down % 256 ∷ abort ∷ alert ∷ suspended
     ∷ a .responses .count ∷ getD (a .responses .numbers) 0 0 ∷ getD (a .responses .numbers) 1 0 ∷ getD (a .responses .numbers) 2 0 ∷ getD (a .responses .numbers) 3 0
-    ∷ a .confirmed .number ∷ a .confirmed .count ∷ a .denied .number ∷ a .denied .count ∷ []
+    ∷ a .confirmed .number ∷ a .confirmed .count ∷ a .denied .number ∷ a .denied .count ∷ kind ∷ []
 
-pub answer-by : (a : Answer) {state abort alert suspended : ℕ} → state ≡ stateNumber (a .state) → abort ≡ bitOf (a .abort)
-    → alert ≡ alertNumber (a .alert) → suspended ≡ bitOf (a .suspended) → answerWith a state abort alert suspended ≡ octetsOfAnswer a
+pub answer-by : (a : Answer) {state abort alert suspended kind : ℕ} → state ≡ stateNumber (a .state) → abort ≡ bitOf (a .abort)
+    → alert ≡ alertNumber (a .alert) → suspended ≡ bitOf (a .suspended) → kind ≡ kindNumber (a .kind)
+    → answerWith a state abort alert suspended kind ≡ octetsOfAnswer a
 unfolding octetsOfAnswer
-answer-by a {state} {abort} {alert} {suspended} es eb el eu =
-    ap₂ (λ (n m : ℕ). answerWith a n m alert suspended) es eb ∙ ap₂ (λ (n m : ℕ). answerWith a (stateNumber (a .state)) (bitOf (a .abort)) n m) el eu
+answer-by a {state} {abort} {alert} {suspended} {kind} es eb el eu ek =
+    ap₂ (λ (n m : ℕ). answerWith a n m alert suspended kind) es eb
+    ∙ ap₂ (λ (n m : ℕ). answerWith a (stateNumber (a .state)) (bitOf (a .abort)) n m kind) el eu
+    ∙ ap (answerWith a (stateNumber (a .state)) (bitOf (a .abort)) (alertNumber (a .alert)) (bitOf (a .suspended))) ek
 
 module _ (o : List ℕ) where
   abbrev pub settingsWith : ℕ → ℕ → Settings
@@ -97,10 +100,10 @@ module _ (o : List ℕ) where
       ap₂ (λ (w : Bool) (c : Control). queuesWith w c marked lengths) ew ec
       ∙ ap₂ (λ (m : Bool) (l : List ℕ). queuesWith (isSet (getD o 16 0) 8) (controlNumbered (getD o 20 0) (getD o 21 0)) m l) em el
 
-  pub state-by : {state : FopState} {settings : Settings} {variables : Variables} {queues : Queues} → state ≡ stateNumbered (getD o 2 0)
+  pub state-by : {state : State} {settings : Settings} {variables : Variables} {queues : Queues} → state ≡ stateNumbered (getD o 2 0)
       → settings ≡ stateIn o .settings → variables ≡ stateIn o .variables → queues ≡ stateIn o .queues
       → record { state = state; settings = settings; variables = variables; queues = queues } ≡ stateIn o
   unfolding stateIn
   state-by {variables = variables} {queues = queues} es eg ev eq =
-      ap₂ (λ (s : FopState) (g : Settings). record { state = s; settings = g; variables = variables; queues = queues }) es eg
+      ap₂ (λ (s : State) (g : Settings). record { state = s; settings = g; variables = variables; queues = queues }) es eg
       ∙ ap₂ (λ (v : Variables) (q : Queues). record { state = stateIn o .state; settings = stateIn o .settings; variables = v; queues = q }) ev eq

@@ -15,11 +15,11 @@ use Rattle.base.specs.Choice.{pick, both}
 use Rattle.base.specs.Octets.{same}
 use Rattle.base.specs.Flags.{bitOf, isSet}
 use Rattle.fop_actions.specs.Limits.{places}
-use Rattle.fop_actions.specs.declared.State.{State as FopState}
+use Rattle.fop_actions.specs.declared.State.{State}
 use Rattle.fop_actions.specs.declared.State.the-variants as state
 use Rattle.fop_actions.specs.declared.Control.{Control}
 use Rattle.fop_actions.specs.declared.Control.the-variants as control
-use Rattle.fop_actions.specs.declared.Sender.{Sender as State}
+use Rattle.fop_actions.specs.declared.SenderState.{SenderState}
 use Rattle.sender.specs.State.{wellFormed, restoredOf}
 use Rattle.sender.specs.Start.{refusedStart}
 use Rattle.sender.specs.declared.Start.{Start}
@@ -29,7 +29,7 @@ abbrev pub stateOctets : ℕ
 stateOctets = 88
 
 -- S1 to S6 by number
-abbrev pub stateNumber : FopState → ℕ
+abbrev pub stateNumber : State → ℕ
 stateNumber state.S1 = 1
 stateNumber state.S2 = 2
 stateNumber state.S3 = 3
@@ -38,7 +38,7 @@ stateNumber state.S5 = 5
 stateNumber state.S6 = 6
 
 -- and back; any other number as S6
-abbrev pub stateNumbered : ℕ → FopState
+abbrev pub stateNumbered : ℕ → State
 stateNumbered n =
     pick (eqb n 1) state.S1 (pick (eqb n 2) state.S2 (pick (eqb n 3) state.S3 (pick (eqb n 4) state.S4 (pick (eqb n 5) state.S5 state.S6))))
 
@@ -73,13 +73,13 @@ pairsFrom octets i zero = []
 pairsFrom octets i (suc n) = pairAt octets i ∷ pairsFrom octets (i + 2) n
 
 -- the flags in one octet
-abbrev pub flagsOf : State → ℕ
+abbrev pub flagsOf : SenderState → ℕ
 flagsOf s =
     bitOf (s .variables .«ad_out») + bitOf (s .variables .«bc_out») * 2 + bitOf (s .variables .«bd_out») * 4 + bitOf (s .queues .waiting) * 8
     + bitOf (s .queues .«control_marked») * 16
 
 -- a state as octets
-unfoldable pub octetsOf : State → List ℕ
+unfoldable pub octetsOf : SenderState → List ℕ
 octetsOf s =
     0x53 ∷ 1 ∷ stateNumber (s .state)
     ∷ s .settings .k ∷ s .settings .«t1_initial» / 256 ∷ s .settings .«t1_initial» % 256 ∷ s .settings .«transmission_limit» ∷ s .settings .«timeout_type»
@@ -90,7 +90,7 @@ octetsOf s =
     ∷ pairs (s .queues .lengths)
 
 -- the state that octets would hold
-unfoldable pub stateIn : List ℕ → State
+unfoldable pub stateIn : List ℕ → SenderState
 stateIn o = record {
   state = stateNumbered (getD o 2 0);
   settings = record {

@@ -3,7 +3,7 @@ use crate::NUMBERS;
 use fop_actions::Control;
 use fop_actions::PLACES;
 use fop_actions::Queues;
-use fop_actions::Sender;
+use fop_actions::SenderState;
 use fop_actions::Settings;
 use fop_actions::State;
 use fop_actions::Variables;
@@ -147,7 +147,7 @@ fn queues_in(octets: &[u8]) -> Queues
 }
 
 // The state.
-pub(crate) fn state_in(octets: &[u8]) -> Sender
+pub(crate) fn state_in(octets: &[u8]) -> SenderState
     requires { ⌜ length (now octets) ≡ 88 ⌝ }
     ensures { λ r. ⌜ r ≡ stateIn (now (octets .entry)) ⌝ }
 {
@@ -155,7 +155,7 @@ pub(crate) fn state_in(octets: &[u8]) -> Sender
     let settings = settings_in(octets);
     let variables = variables_in(octets);
     let queues = queues_in(octets);
-    Sender {
+    SenderState {
         state: state,
         settings: settings,
         variables: variables,

@@ -3,7 +3,7 @@ use crate::NUMBERS;
 use crate::STATE_OCTETS;
 use fop_actions::Control;
 use fop_actions::PLACES;
-use fop_actions::Sender;
+use fop_actions::SenderState;
 use fop_actions::State;
 ghost use mathlib.Core.Path.{_≡_};
 ghost use mathlib.Core.List.{_++_};
@@ -65,7 +65,7 @@ fn control_value(control: Control) -> u8
 }
 
 // The flags: AD_Out, BC_Out, BD_Out Ready, a unit waits, the type-BC frame is marked.
-fn flags_of(state: Sender) -> u8
+fn flags_of(state: SenderState) -> u8
     ensures { λ r. ⌜ r ≡ flagsOf state ⌝ }
 {
     let ad_out = truth(state.variables.ad_out);
@@ -77,7 +77,7 @@ fn flags_of(state: Sender) -> u8
 }
 
 // The octets of a state before its lengths.
-pub fn numbers_of(state: Sender) -> [u8; NUMBERS]
+pub fn numbers_of(state: SenderState) -> [u8; NUMBERS]
     ensures { λ r. ⌜ r ++ pairs (state .queues .lengths) ≡ octetsOf state ⌝ }
 {
     let fop_state = state.state;

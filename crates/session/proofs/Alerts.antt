@@ -22,60 +22,60 @@ use Rattle.fop.specs.Variables.{Fop}
 use Rattle.fop.specs.Events.{when, fopTick, fopLower, Lower, fopAd, fopBd, isEmpty, fopDirective, directiveEvent}
 
 -- no alert, or one that p allows
-abbrev pub Hush : (Reason → Bool) → Option Reason → Type 0
-Hush p r = (r ≡ none) ⊎ ((q : Reason) × (r ≡ some q) × T (p q))
+abbrev pub Allowed : (Reason → Bool) → Option Reason → Type 0
+Allowed p r = (r ≡ none) ⊎ ((q : Reason) × (r ≡ some q) × T (p q))
 
-abbrev Hushed : (Reason → Bool) → Work → Type 0
-Hushed p w = Hush p (w .alert)
+abbrev AllowedAlert : (Reason → Bool) → Work → Type 0
+AllowedAlert p w = Allowed p (w .alert)
 
 -- every action but an alert that p does not allow, each with its proof
-unfoldable pub hushes : (p : Reason → Bool) (x : Action) → Option (Keeps (Hushed p) x)
+unfoldable pub allows : (p : Reason → Bool) (x : Action) → Option (Keeps (AllowedAlert p) x)
 unfolding perform removeAcknowledged transmitBc sendNext sendWaiting transmitAd
-hushes p (Alert r) = where-so (p r) (λ t w h. inr (r, refl, t))
-hushes p Accept = some (λ w h. h)
-hushes p Reject = some (λ w h. h)
-hushes p Confirm = some (λ w h. h)
-hushes p RejectAd = some (λ w h. h)
-hushes p AcceptBd = some (λ w h. h)
-hushes p RejectBd = some (λ w h. h)
-hushes p Ignore = some (λ w h. h)
-hushes p (SetSuspendState n) = some (λ w h. h)
-hushes p Suspend = some (λ w h. h)
-hushes p Resume = some (λ w h. h)
-hushes p AddToWaitQueue = some (λ w h. h)
-hushes p LookForFdu = some (λ w h. look-ways (Hushed p) w h (λ u e. h) (λ o r e. h))
-hushes p LookForDirective = some (λ w h. directive-ways (Hushed p) w h (λ b. h) (w .fop .bcFrame))
-hushes p RemoveAcknowledgedFrames = some (λ w h. h)
-hushes p InitiateAdRetransmission = some (λ w h. h)
-hushes p InitiateBcRetransmission = some (λ w h. h)
-hushes p ReleaseBcFrame = some (λ w h. h)
-hushes p CancelTimer = some (λ w h. h)
-hushes p StartTimer = some (λ w h. h)
-hushes p Initialise = some (λ w h. purge-ways (Hushed p) w h (λ r v k. k))
-hushes p TransmitUnlock = some (λ w h. h)
-hushes p TransmitSetVr = some (λ w h. h)
-hushes p TransmitBd = some (λ w h. h)
-hushes p SetVs = some (λ w h. h)
-hushes p SetNnr = some (λ w h. h)
-hushes p SetK = some (λ w h. h)
-hushes p SetT1Initial = some (λ w h. h)
-hushes p SetTransmissionLimit = some (λ w h. h)
-hushes p SetTimeoutType = some (λ w h. h)
-hushes p AdOutReady = some (λ w h. h)
-hushes p BcOutReady = some (λ w h. h)
-hushes p BdOutReady = some (λ w h. h)
+allows p (Alert r) = where-so (p r) (λ t w h. inr (r, refl, t))
+allows p Accept = some (λ w h. h)
+allows p Reject = some (λ w h. h)
+allows p Confirm = some (λ w h. h)
+allows p RejectAd = some (λ w h. h)
+allows p AcceptBd = some (λ w h. h)
+allows p RejectBd = some (λ w h. h)
+allows p Ignore = some (λ w h. h)
+allows p (SetSuspendState n) = some (λ w h. h)
+allows p Suspend = some (λ w h. h)
+allows p Resume = some (λ w h. h)
+allows p AddToWaitQueue = some (λ w h. h)
+allows p LookForFdu = some (λ w h. look-ways (AllowedAlert p) w h (λ u e. h) (λ o r e. h))
+allows p LookForDirective = some (λ w h. directive-ways (AllowedAlert p) w h (λ b. h) (w .fop .bcFrame))
+allows p RemoveAcknowledgedFrames = some (λ w h. h)
+allows p InitiateAdRetransmission = some (λ w h. h)
+allows p InitiateBcRetransmission = some (λ w h. h)
+allows p ReleaseBcFrame = some (λ w h. h)
+allows p CancelTimer = some (λ w h. h)
+allows p StartTimer = some (λ w h. h)
+allows p Initialise = some (λ w h. purge-ways (AllowedAlert p) w h (λ r v k. k))
+allows p TransmitUnlock = some (λ w h. h)
+allows p TransmitSetVr = some (λ w h. h)
+allows p TransmitBd = some (λ w h. h)
+allows p SetVs = some (λ w h. h)
+allows p SetNnr = some (λ w h. h)
+allows p SetK = some (λ w h. h)
+allows p SetT1Initial = some (λ w h. h)
+allows p SetTransmissionLimit = some (λ w h. h)
+allows p SetTimeoutType = some (λ w h. h)
+allows p AdOutReady = some (λ w h. h)
+allows p BcOutReady = some (λ w h. h)
+allows p BdOutReady = some (λ w h. h)
 
 -- a cell that is not for a suspended sender, with no alert but those that p allows
-abbrev pub calm : (Reason → Bool) → Cell → Bool
-calm p NotApplicable = true
-calm p (cell xs u) = allKeep (Hushed p) (hushes p) xs
-calm p (ifNotSuspended xs ys u) = false
+abbrev pub cellAllows : (Reason → Bool) → Cell → Bool
+cellAllows p NotApplicable = true
+cellAllows p (cell xs u) = allKeep (AllowedAlert p) (allows p) xs
+cellAllows p (ifNotSuspended xs ys u) = false
 
-pub cell-hush : (p : Reason → Bool) (c : Cell) (w : Work) → T (calm p c) → Hush p (w .alert) → Hush p ((performCell c w) .alert)
+pub cell-allowed : (p : Reason → Bool) (c : Cell) (w : Work) → T (cellAllows p c) → Allowed p (w .alert) → Allowed p ((performCell c w) .alert)
 unfolding performCell
-cell-hush p NotApplicable w t h = h
-cell-hush p (cell xs s) w t h = all-keep (Hushed p) (hushes p) xs w t h
-cell-hush p (ifNotSuspended xs ys s) w t h = absurd t
+cell-allowed p NotApplicable w t h = h
+cell-allowed p (cell xs s) w t h = all-keep (AllowedAlert p) (allows p) xs w t h
+cell-allowed p (ifNotSuspended xs ys s) w t h = absurd t
 
 -- the alerts of an event that is no word: of the timer, of Terminate, of the lower layer
 abbrev pub ownAlert : Reason → Bool
@@ -88,34 +88,34 @@ ownAlert Reason.t1 = true
 ownAlert Reason.term = true
 ownAlert Reason.llif = true
 
-abbrev calmIn : State → Cell → Bool
-calmIn s c = calm ownAlert c
+abbrev allowsIn : State → Cell → Bool
+allowsIn s c = cellAllows ownAlert c
 
-abbrev rowCalm : FopEvent → Bool
-rowCalm e = atAll calmIn (table78 e)
+abbrev rowAllows : FopEvent → Bool
+rowAllows e = atAll allowsIn (table78 e)
 
-do-hush : (e : FopEvent) (o : List ℕ) (v : ℕ) (f : Fop) → T (rowCalm e) → T (sound (modeOf (f .state))) → Hush ownAlert ((fopDo e o v f) .alert)
+do-allowed : (e : FopEvent) (o : List ℕ) (v : ℕ) (f : Fop) → T (rowAllows e) → T (sound (modeOf (f .state))) → Allowed ownAlert ((fopDo e o v f) .alert)
 unfolding fopDo
-do-hush e o v f t g = cell-hush ownAlert (cell78 (table78 e) (f .state)) (begin (some e) o v f) (at-cell calmIn (table78 e) (f .state) t g) (inl refl)
+do-allowed e o v f t g = cell-allowed ownAlert (cell78 (table78 e) (f .state)) (begin (some e) o v f) (at-cell allowsIn (table78 e) (f .state) t g) (inl refl)
 
 -- of a sender in a state of the session, at Timeout_Type 0
 module _ (f : Fop) (g : T (sound (modeOf (f .state)))) where
-  pub tick-hush : eqb (f .preset .timeoutType) 0 ≡ true → Hush ownAlert ((fopTick f) .alert)
-  unfolding table78 hushes
-  tick-hush z = tick-ways rowCalm tt (Hushed ownAlert) f z (λ e t. do-hush e [] 0 (lowered f) t g) (inl refl)
+  pub tick-alerts : eqb (f .preset .timeoutType) 0 ≡ true → Allowed ownAlert ((fopTick f) .alert)
+  unfolding table78 allows
+  tick-alerts z = tick-ways rowAllows tt (AllowedAlert ownAlert) f z (λ e t. do-allowed e [] 0 (lowered f) t g) (inl refl)
 
-  pub lower-hush : (l : Lower) → Hush ownAlert ((fopLower l f) .alert)
-  unfolding fopLower table78 hushes
-  lower-hush l = do-hush _ [] 0 f (lower-all rowCalm tt l) g
+  pub lower-alerts : (l : Lower) → Allowed ownAlert ((fopLower l f) .alert)
+  unfolding fopLower table78 allows
+  lower-alerts l = do-allowed _ [] 0 f (lower-all rowAllows tt l) g
 
-  pub ad-hush : (o : List ℕ) → Hush ownAlert ((fopAd o f) .alert)
-  unfolding fopAd table78 hushes
-  ad-hush o = do-hush _ o 0 f (first-all rowCalm (when (isEmpty (f .waitQueue)) FopEvent.E19 ∷ []) FopEvent.E20 tt) g
+  pub ad-alerts : (o : List ℕ) → Allowed ownAlert ((fopAd o f) .alert)
+  unfolding fopAd table78 allows
+  ad-alerts o = do-allowed _ o 0 f (first-all rowAllows (when (isEmpty (f .waitQueue)) FopEvent.E19 ∷ []) FopEvent.E20 tt) g
 
-  pub bd-hush : (o : List ℕ) → Hush ownAlert ((fopBd o f) .alert)
-  unfolding fopBd table78 hushes
-  bd-hush o = do-hush _ o 0 f (first-all rowCalm (when (f .out .bd) FopEvent.E21 ∷ []) FopEvent.E22 tt) g
+  pub bd-alerts : (o : List ℕ) → Allowed ownAlert ((fopBd o f) .alert)
+  unfolding fopBd table78 allows
+  bd-alerts o = do-allowed _ o 0 f (first-all rowAllows (when (f .out .bd) FopEvent.E21 ∷ []) FopEvent.E22 tt) g
 
-  pub terminate-hush : Hush ownAlert ((fopDirective 5 0 f) .alert)
-  unfolding fopDirective directiveEvent table78 hushes
-  terminate-hush = do-hush FopEvent.E29 [] 0 f tt g
+  pub terminate-alerts : (v : ℕ) → Allowed ownAlert ((fopDirective 5 v f) .alert)
+  unfolding fopDirective directiveEvent table78 allows
+  terminate-alerts v = do-allowed FopEvent.E29 [] v f tt g

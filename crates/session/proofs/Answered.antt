@@ -1,39 +1,34 @@
--- What the answers of tied ends say: alerts, refusals, control words.
+-- What the answers of tied ends say: alerts and refusals.
 use mathlib.Core.Logic.{_⊎_, inl, inr}
 use mathlib.Core.Path.{_≡_, refl, sym, ap, _∙_, subst}
 use mathlib.Core.Bool.{Bool, true, false}
 use mathlib.Core.List.{List, [], _∷_, map}
 use mathlib.Core.Option.{Option}
-use Prim.Native.Nat.{ℕ, _-_, _%_, _≤_, _<_}
+use Prim.Native.Nat.{ℕ, _-_, _<_}
 use native.Mathlib.Omega.{arith}
 use lib.Dec.{ltb}
 use lib.ListN.{length}
 use borrow.Author.Tests.{ltb-true, ltb-false}
 use Rattle.base.specs.Choice.{pick}
-use Rattle.base.specs.Modulo.{advanced}
-use Rattle.fop.specs.Units.{Frame, Word, valid, legal, written, wordOctets, readWord}
+use Rattle.fop.specs.Units.{Frame, Word, legal, written, wordOctets}
 use Rattle.fop.specs.Variables.{Fop, Work}
 use Rattle.fop.specs.Events.{SenderEvent, requestAd, requestBd, lower, directive, wordArrives, work, fopWord}
 use Rattle.fop.specs.Answers.{Answer, judged, needed, senderRefusal, senderAnswer, refused}
 use Rattle.session.specs.Ends.{Settings, Within, Ends, Tied, tables}
 use Rattle.session.specs.Session.{Linked}
-use Rattle.session.specs.Claims.{expected}
-use Rattle.session.specs.Stronger.{Calm, InSession}
+use Rattle.session.specs.Stronger.{LimitOnly, InSession}
 use Rattle.fop.specs.Events as fop
 use Rattle.fop.specs.Table.{Reason}
-use Rattle.session.specs.Stronger.{Known}
+use Rattle.session.specs.Stronger.{KnownAlert}
 use Rattle.session.proofs.Choices.{by-pick}
-use Rattle.session.proofs.Alerts.{Hush, ownAlert, ad-hush, bd-hush, tick-hush, lower-hush, terminate-hush}
-use Rattle.session.proofs.Inv.{in-mode, Inv, hears, fine, alerting}
-use Rattle.session.proofs.Core.{Session, goes, report, used, isHeld}
+use Rattle.session.proofs.Alerts.{Allowed, ownAlert, ad-alerts, bd-alerts, tick-alerts, lower-alerts, terminate-alerts}
+use Rattle.session.proofs.Inv.{in-mode, Inv, word-read, fine, alerting}
+use Rattle.session.proofs.Core.{Session, goes, used, isHeld}
 use Rattle.session.proofs.Chan.{Wds}
-use Rattle.session.proofs.Values.{word}
-use Rattle.session.proofs.Octets.{word-back}
 use Rattle.session.proofs.Receiver.{at}
-use Rattle.session.proofs.Next.{historyOf}
-use Rattle.session.proofs.Link.{Rel, tables-tied, word-is, fly-reads, Reads}
+use Rattle.session.proofs.Link.{Rel, tables-tied, fly-reads, Reads}
 use Rattle.session.proofs.Keys.{Tidy}
-use Rattle.session.proofs.Quiet.{word-hush}
+use Rattle.session.proofs.WordAlerts.{word-alerts}
 use Rattle.session.proofs.Theorem.{oldest-word}
 use Rattle.session.proofs.Received.{receiverOf, received-is, released-is}
 use Rattle.session.proofs.Refusals.{refusal-is, Mild, mild}
@@ -46,7 +41,7 @@ use Rattle.farm.specs.declared.Received.{Received}
 use Rattle.farm.specs.declared.Released.the-variants.{Done, NoneTaken}
 use Rattle.session.specs.Receiver.{frameArrives, releaseBuffer, ReceiverAnswer, releaseAnswer, receiverAnswer}
 
-own-known : (l : ℕ) (r : Option Reason) → Hush ownAlert r → Known l r
+own-known : (l : ℕ) (r : Option Reason) → Allowed ownAlert r → KnownAlert l r
 own-known l r (inl e) = inl e
 own-known l r (inr (Reason.term, e, t)) = inr (inl e)
 own-known l r (inr (Reason.t1, e, t)) = inr (inr (inl e))
@@ -57,21 +52,13 @@ own-known l r (inr (Reason.nnr, e, t)) = absurd t
 own-known l r (inr (Reason.lockout, e, t)) = absurd t
 own-known l r (inr (Reason.limit, e, t)) = absurd t
 
-calm-known : (l : ℕ) (r : Option Reason) → Calm l r → Known l r
-calm-known l r (inl e) = inl e
-calm-known l r (inr e) = inr (inr (inr (inr e)))
+limit-known : (l : ℕ) (r : Option Reason) → LimitOnly l r → KnownAlert l r
+limit-known l r (inl e) = inl e
+limit-known l r (inr e) = inr (inr (inr (inr e)))
 
 by-legal : (b : Bool) → (_≡_ {A = ℕ} (pick b 0 10) 0) ⊎ (_≡_ {A = ℕ} (pick b 0 10) 10)
 by-legal true = inl refl
 by-legal false = inr refl
-
-counter-is : (κ : Session) → κ .farm .counter ≡ length (κ .acceptedBd) % 4 → (report (κ .farm)) .counter ≤ 3
-unfolding report
-counter-is κ e = omega (arith, e)
-
-number-is : (κ : Session) (n a : ℕ) → κ .farm .vr ≡ advanced n a → (report (κ .farm)) .nr < 256
-unfolding report
-number-is κ n a e = omega (arith, e)
 
 module _ (set : Settings) (vw : Within set) (m : Ends) (t : Tied set m) (σ : Linked m) (γ : Linked (tables set)) (κ : Session)
     (R : Rel set vw m t σ κ) (G : Rel set vw (tables set) (tables-tied set) γ κ) (I : Inv set κ) (Q : Tidy (set .n) κ) where
@@ -86,11 +73,11 @@ module _ (set : Settings) (vw : Within set) (m : Ends) (t : Tied set m) (σ : Li
   answer-ways P e lent h r = subst P (sym (answer-is e lent)) (by-pick P (goes (set .own) e lent (κ .fop)) h (λ b. r))
 
   -- the oldest word, as it was reported
-  pub oldest-heard : (s : List ℕ) (ws : List (List ℕ)) → σ .words ≡ s ∷ ws
+  pub oldest-read : (s : List ℕ) (ws : List (List ℕ)) → σ .words ≡ s ∷ ws
       → (w : Word) × (more : List Word) × (κ .words ≡ w ∷ more) × (s ≡ wordOctets (set .own) w)
       × Wds (set .n) (length (κ .confirmed)) (length (κ .accepted)) (w ∷ more)
       × (work (set .own) (wordArrives s) (κ .fop) ≡ fopWord w (κ .fop)) × (judged (set .own) (wordArrives s) ≡ 0)
-  oldest-heard s ws e =
+  oldest-read s ws e =
       let l = oldest-word set vw _ _ (κ .words) s ws (I .words) (sym e ∙ R .words) in
       let wd : Wds (set .n) (length (κ .confirmed)) (length (κ .accepted)) (l .0 ∷ l .1) = rw (l .2) at (I .words) in (
         l .0,
@@ -98,31 +85,30 @@ module _ (set : Settings) (vw : Within set) (m : Ends) (t : Tied set m) (σ : Li
         l .2,
         l .3,
         wd,
-        ap (λ (x : List ℕ). work (set .own) (wordArrives x) (κ .fop)) (l .3) ∙ hears set vw (l .0) (κ .fop) (wd .3) (omega (arith, wd .1)),
+        ap (λ (x : List ℕ). work (set .own) (wordArrives x) (κ .fop)) (l .3) ∙ word-read set vw (l .0) (κ .fop) (wd .3) (omega (arith, wd .1)),
         ap (λ (x : List ℕ). judged (set .own) (wordArrives x)) (l .3) ∙ fine set vw (l .0) (wd .3) (omega (arith, wd .1)),
       )
 
-  pub quiet : (s : List ℕ) (ws : List (List ℕ)) (lent : ℕ) → σ .words ≡ s ∷ ws → Calm (set .limit) ((m .answer (wordArrives s) lent (σ .sender)) .alert)
-  quiet s ws lent e =
-      let l = oldest-heard s ws e in
-      answer-ways (λ a. Calm (set .limit) (a .alert)) (wordArrives s) lent
-      (λ g. subst (λ (w : Work). Calm (set .limit) (w .alert)) (sym (l .5)) (word-hush set κ I Q (l .0) (l .1) (l .2))) (inl refl)
+  pub word-alert : (s : List ℕ) (ws : List (List ℕ)) (lent : ℕ) → σ .words ≡ s ∷ ws → LimitOnly (set .limit) ((m .answer (wordArrives s) lent (σ .sender)) .alert)
+  word-alert s ws lent e =
+      let l = oldest-read s ws e in
+      answer-ways (λ a. LimitOnly (set .limit) (a .alert)) (wordArrives s) lent
+      (λ g. subst (λ (w : Work). LimitOnly (set .limit) (w .alert)) (sym (l .5)) (word-alerts set κ I Q (l .0) (l .1) (l .2))) (inl refl)
 
   -- the alerts
-  known : (e : SenderEvent) (lent : ℕ) → Hush ownAlert ((work (set .own) e (κ .fop)) .alert) → Known (set .limit) ((m .answer e lent (σ .sender)) .alert)
-  known e lent h = answer-ways (λ a. Known (set .limit) (a .alert)) e lent (λ g. own-known (set .limit) _ h) (inl refl)
+  known : (e : SenderEvent) (lent : ℕ) → Allowed ownAlert ((work (set .own) e (κ .fop)) .alert) → KnownAlert (set .limit) ((m .answer e lent (σ .sender)) .alert)
+  known e lent h = answer-ways (λ a. KnownAlert (set .limit) (a .alert)) e lent (λ g. own-known (set .limit) _ h) (inl refl)
 
-  pub alerts : (e : SenderEvent) (lent : ℕ) → InSession (σ .words) e → Known (set .limit) ((m .answer e lent (σ .sender)) .alert)
+  pub alerts : (e : SenderEvent) (lent : ℕ) → InSession (σ .words) e → KnownAlert (set .limit) ((m .answer e lent (σ .sender)) .alert)
   unfolding work
-  alerts (requestAd o) lent h = known (requestAd o) lent (ad-hush (κ .fop) (in-mode set κ I) o)
-  alerts (requestBd o) lent h = known (requestBd o) lent (bd-hush (κ .fop) (in-mode set κ I) o)
-  alerts fop.tick lent h = known fop.tick lent (tick-hush (κ .fop) (in-mode set κ I) (alerting set κ I))
-  alerts (lower l) lent h = known (lower l) lent (lower-hush (κ .fop) (in-mode set κ I) l)
+  alerts (requestAd o) lent h = known (requestAd o) lent (ad-alerts (κ .fop) (in-mode set κ I) o)
+  alerts (requestBd o) lent h = known (requestBd o) lent (bd-alerts (κ .fop) (in-mode set κ I) o)
+  alerts fop.tick lent h = known fop.tick lent (tick-alerts (κ .fop) (in-mode set κ I) (alerting set κ I))
+  alerts (lower l) lent h = known (lower l) lent (lower-alerts (κ .fop) (in-mode set κ I) l)
   alerts (directive d v) lent h =
-      subst (λ (x : ℕ). Known (set .limit) ((m .answer (directive x v) lent (σ .sender)) .alert)) (sym (h .0))
-      (subst (λ (x : ℕ). Known (set .limit) ((m .answer (directive 5 x) lent (σ .sender)) .alert)) (sym (h .1))
-      (known (directive 5 0) lent (terminate-hush (κ .fop) (in-mode set κ I))))
-  alerts (wordArrives s) lent h = calm-known (set .limit) _ (quiet s (h .0) lent (h .1))
+      subst (λ (x : ℕ). KnownAlert (set .limit) ((m .answer (directive x v) lent (σ .sender)) .alert)) (sym h)
+      (known (directive 5 v) lent (terminate-alerts (κ .fop) (in-mode set κ I) v))
+  alerts (wordArrives s) lent h = limit-known (set .limit) _ (word-alert s (h .0) lent (h .1))
 
   judge : (e : SenderEvent) → InSession (σ .words) e → (judged (set .own) e ≡ 0) ⊎ (judged (set .own) e ≡ 10)
   unfolding judged
@@ -130,8 +116,8 @@ module _ (set : Settings) (vw : Within set) (m : Ends) (t : Tied set m) (σ : Li
   judge (requestBd o) h = by-legal (legal o)
   judge fop.tick h = inl refl
   judge (lower l) h = inl refl
-  judge (directive d v) h = inl (rw (h .0))
-  judge (wordArrives s) h = inl (oldest-heard s (h .0) (h .1) .6)
+  judge (directive d v) h = inl (rw h)
+  judge (wordArrives s) h = inl (oldest-read s (h .0) (h .1) .6)
 
   pub refusals : (e : SenderEvent) (lent : ℕ) → InSession (σ .words) e → Mild ((m .answer e lent (σ .sender)) .refusal)
   unfolding senderRefusal
@@ -169,19 +155,3 @@ module _ (set : Settings) (vw : Within set) (m : Ends) (t : Tied set m) (σ : Li
           → Released-or-not (releaseAnswer (must b NoneTaken (Done (farm.answered 0 E10 0 (receiverOf set (used κ - 1) (κ .farm))))))
       go true z = inl (refl, omega (arith, ltb-true 0 (length (κ .accepted) - κ .released) z))
       go false z = inr (refl, omega (arith, ltb-false 0 (length (κ .accepted) - κ .released) z, R .stock .below))
-
-  -- the control word, by the histories
-  pub report-is : readWord (set .own) (m .word (σ .receiver))
-      ≡ valid (record {
-        lockout = κ .farm .lockout;
-        wait = κ .farm .wait;
-        retransmit = κ .farm .retransmit;
-        counter = length (κ .acceptedBd) % 4;
-        nr = expected set (historyOf κ);
-      })
-  unfolding report
-  report-is =
-      ap (readWord (set .own)) (word-is set vw m t σ κ R)
-      ∙ word-back (set .own) (vw .spacecraft) (vw .channel) (report (κ .farm)) (counter-is κ (I .receiver .counted))
-      (number-is κ (set .n) (length (κ .accepted)) (I .receiver .isVr))
-      ∙ rw (I .receiver .counted, I .receiver .isVr)

@@ -30,6 +30,7 @@ use Rattle.base.proofs.Tests.{both-left, both-true}
 use Rattle.farm.specs.Table.{table, accepts as acceptsCell}
 use Rattle.farm.specs.Window.{notWait}
 use Rattle.farm.specs.Receiver.{unitOf}
+use Rattle.farm.proofs.Units.{no-unit}
 use Rattle.farm.specs.declared.State.{State as FarmState}
 use Rattle.farm.specs.declared.State.the-variants.{Open, Wait, Lockout}
 use Rattle.farm.specs.declared.Event.the-variants as farm
@@ -72,9 +73,9 @@ module _ (set : Settings) (vw : Within set) (σ : Session) (I : Inv set σ) (u :
         num-is ∙ ap (λ (j : ℕ). advanced (set .n) j) i,
         omega (arith, ltb-true (length (σ .accepted) - σ .released) (set .buffers) (both-left (free set σ) (notWait (σ .farm .state)) p)),
       ))
-      (λ i p h. absurd (false≢true h))
-      (λ i h. absurd (false≢true h))
-      (λ i h. absurd (false≢true h))
+      (λ i p h. absurd (false≢true (rw (no-unit farm.E2 (σ .farm .state) refl refl) at h)))
+      (λ i h. absurd (false≢true (rw (no-unit farm.E3 (σ .farm .state) refl refl) at h)))
+      (λ i h. absurd (false≢true (rw (no-unit farm.E4 (σ .farm .state) refl refl) at h)))
 
   when-open : σ .farm .state ≡ Open → u .ns ≡ expected set (historyOf σ) → BufferFree set (historyOf σ)
       → handed (set .w) (free set σ) (AD u) (σ .farm) ≡ true

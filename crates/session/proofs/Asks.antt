@@ -19,7 +19,7 @@ use Rattle.fop.specs.Events.{fopWord, wordEvent, requestAd}
 use Rattle.fop.specs.Events.{wordArrives, work}
 use Rattle.fop.specs.Answers.{senderAnswer, judged, needed}
 use Rattle.session.specs.Ends.{Settings, Within}
-use Rattle.session.specs.Session.{adRequest, wordIn, nobody}
+use Rattle.session.specs.Session.{adRequest, wordIn, noUnit}
 use Rattle.session.specs.Claims.{IsOutstanding, outstanding, Marked}
 use Rattle.session.specs.Stronger.{inService, asking}
 use Rattle.session.proofs.Core.{stepWith, Session, answered, channels, step}
@@ -98,7 +98,7 @@ module _ (set : Settings) (vw : Within set) (σ : Session) (I : Inv set σ) (w :
   pub asks : asking (σ .fop .state) ≡ true → σ .fop .clock .transmissionCount < set .limit → 1 < set .limit → w .lockout ≡ false → w .wait ≡ false
       → w .retransmit ≡ true
       → w .nr ≡ advanced (set .n) (length (σ .confirmed)) → IsOutstanding (historyOf σ) i
-      → Resent (getD (σ .sent) i nobody) σ (step set (wordIn lent) σ) ⊎ Marked (getD (σ .sent) i nobody) ((step set (wordIn lent) σ) .fop)
+      → Resent (getD (σ .sent) i noUnit) σ (step set (wordIn lent) σ) ⊎ Marked (getD (σ .sent) i noUnit) ((step set (wordIn lent) σ) .fop)
   asks s k l a b c nr o =
       let sv : inService (σ .fop .state) ≡ true = asked (σ .fop .state) s in
       let from : length (σ .confirmed) ≤ i = out-from set σ I sv i o in
@@ -106,6 +106,6 @@ module _ (set : Settings) (vw : Within set) (σ : Session) (I : Inv set σ) (w :
       let lv0 = lv set σ I sv in
       let z : offset (w .nr) (σ .fop .nnr) ≡ 0 = omega (arith, nr, lv0, I .base) in
       let e = ask-is w (σ .fop) s a b c z (omega (arith, off-is set σ I sv, from, o .0)) (omega arith) (omega arith) in
-      rw (word-step set vw σ I w ws lent comes r) (over (getD (σ .sent) i nobody)
+      rw (word-step set vw σ I w ws lent comes r) (over (getD (σ .sent) i noUnit)
       (ticked set σ I sv FopEvent.E10 (w .nr) (σ .fop) refl i (σ .fop .sentQueue) refl (fopWord w (σ .fop)) (ap (λ (x : Work). x .fop .sentQueue) e)
       (ap (λ (x : Work). x .frames) e) o (σ .fop .out .ad) refl))

@@ -7,13 +7,13 @@ use native.Mathlib.Omega.{arith}
 use lib.ListN.{length, getD, length-append, List·getD-append}
 use Rattle.base.specs.Modulo.{advanced}
 use Rattle.fop.specs.Units.{Fdu, Frame, AD, BD, Unlock, SetVR, Refused, Word, legal}
-use Rattle.session.specs.Session.{nobody}
+use Rattle.session.specs.Session.{noUnit}
 
 -- each AD frame under way is a unit sent, at a place i; H is the count accepted, or one more than a place ahead, whichever is most
 abbrev pub Fly : ℕ → List Fdu → ℕ → ℕ → List Frame → Type 0
 Fly K s A H [] = Unit {0}
 Fly K s A H (AD u ∷ fs) =
-    (i : ℕ) × (u ≡ getD s i nobody) × (i < length s) × (H ≤ i + K) × (i < A + K) × Fly K s A (max H (suc i)) fs
+    (i : ℕ) × (u ≡ getD s i noUnit) × (i < length s) × (H ≤ i + K) × (i < A + K) × Fly K s A (max H (suc i)) fs
 Fly K s A H (BD o ∷ fs) = (legal o ≡ true) × Fly K s A H fs
 Fly K s A H (Unlock ∷ fs) = ⊥
 Fly K s A H (SetVR v ∷ fs) = ⊥
@@ -34,7 +34,7 @@ pub fly-more : (K : ℕ) (s t : List Fdu) (A H : ℕ) (fs : List Frame) → Fly 
 fly-more K s t A H [] h = tt
 fly-more K s t A H (AD u ∷ fs) h = (
   h .0,
-  h .1 ∙ sym (List·getD-append s t nobody (h .0) (h .2)),
+  h .1 ∙ sym (List·getD-append s t noUnit (h .0) (h .2)),
   omega (arith, length-append s t),
   h .3,
   h .4,
@@ -46,7 +46,7 @@ fly-more K s t A H (SetVR v ∷ fs) h = h
 fly-more K s t A H (Refused r ∷ fs) h = h
 
 -- one more frame enters
-pub fly-add : (K : ℕ) (s : List Fdu) (A H : ℕ) (fs : List Frame) (u : Fdu) (i : ℕ) → u ≡ getD s i nobody → i < length s → H ≤ length s
+pub fly-add : (K : ℕ) (s : List Fdu) (A H : ℕ) (fs : List Frame) (u : Fdu) (i : ℕ) → u ≡ getD s i noUnit → i < length s → H ≤ length s
     → length s ≤ i + K → i < A + K → Fly K s A H fs → Fly K s A H (fs ++ (AD u ∷ []))
 fly-add K s A H [] u i e b g r k h = (i, e, b, omega arith, k, tt)
 fly-add K s A H (AD v ∷ fs) u i e b g r k h =

@@ -4,7 +4,7 @@ use mathlib.Core.Bool.{Bool, true, false}
 use mathlib.Core.List.{List, [], _∷_, _++_}
 use mathlib.Core.Option.{Option}
 use Prim.Native.Nat.{ℕ, _+_, _-_}
-use lib.Dec.{ltb, eqb}
+use lib.Dec.{leb, ltb, eqb}
 use lib.ListN.{length}
 use Rattle.base.specs.Choice.{pick}
 use Rattle.base.specs.Modulo.{offset}
@@ -19,8 +19,9 @@ use Rattle.farm.specs.Receiver.{unitOf}
 use Rattle.farm.specs.declared.Event.{Event as FarmEvent}
 use Rattle.farm.specs.declared.Event.the-variants as farm
 use Rattle.farm.specs.declared.Variables.{Variables}
-use Rattle.farm.specs.declared.Unit.{Unit as AcceptedUnit}
-use Rattle.farm.specs.declared.Unit.the-variants.{None, AdUnit, BdUnit}
+use Rattle.farm.specs.declared.AcceptedUnit.{AcceptedUnit}
+use Rattle.farm.specs.declared.AcceptedUnit.the-variants.{None, AdUnit, BdUnit}
+use Rattle.session.specs.Receiver.{wordLength}
 use Rattle.session.specs.Ends.{Settings}
 use Rattle.session.specs.Session.{Event, adRequest, bdRequest, ticks, lowerSays, terminate, wordIn, wordLost, wordMade, frameIn, frameLost, release, addSent, addBd, places, rest}
 
@@ -169,6 +170,10 @@ frameCome set room (f ∷ fs) σ =
 unfoldable pub report : Variables → Word
 report v = record { lockout = v .lockout; wait = v .wait; retransmit = v .retransmit; counter = v .counter; nr = v .vr }
 
+-- the words under way, with one that is made where its room is lent
+abbrev pub addWord : Bool → Word → List Word → List Word
+addWord lent w ws = pick lent (ws ++ (w ∷ [])) ws
+
 -- a release, where a buffer is taken
 unfoldable pub releases : Bool → Session → Session
 releases held σ = pick held (receiver (stepOf farm.E10 0 (σ .farm)) (σ .accepted) (σ .acceptedBd) (σ .released + 1) (σ .frames) σ) σ
@@ -179,10 +184,10 @@ stepWith set room held (adRequest o lent) σ = sender set (requestAd o) lent σ
 stepWith set room held (bdRequest o lent) σ = sender set (requestBd o) lent σ
 stepWith set room held (ticks lent) σ = sender set fop.tick lent σ
 stepWith set room held (lowerSays l lent) σ = sender set (fop.lower l) lent σ
-stepWith set room held (terminate lent) σ = sender set (directive 5 0) lent σ
+stepWith set room held (terminate v lent) σ = sender set (directive 5 v) lent σ
 stepWith set room held (wordIn lent) σ = wordCome set lent (σ .words) σ
 stepWith set room held wordLost σ = channels (σ .frames) (rest (σ .words)) σ
-stepWith set room held wordMade σ = channels (σ .frames) (σ .words ++ (report (σ .farm) ∷ [])) σ
+stepWith set room held (wordMade lent) σ = channels (σ .frames) (addWord (leb wordLength lent) (report (σ .farm)) (σ .words)) σ
 stepWith set room held frameIn σ = frameCome set room (σ .frames) σ
 stepWith set room held frameLost σ = channels (rest (σ .frames)) (σ .words) σ
 stepWith set room held release σ = releases held σ

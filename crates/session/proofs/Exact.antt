@@ -31,7 +31,7 @@ use Rattle.session.proofs.Next.{lv, acked}
 use Rattle.session.proofs.Clear.{look-conf}
 use Rattle.session.proofs.Keys.{Tidy}
 use Rattle.session.proofs.Every.{implies, implied, everySeen, seen-at}
-use Rattle.session.proofs.Quiet.{fitting, live-fits}
+use Rattle.session.proofs.WordAlerts.{fitting, live-fits}
 
 -- no action takes a confirmed unit back
 purge-conf : (w : Work) → (purge w) .confirmed ≡ w .confirmed

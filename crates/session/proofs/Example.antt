@@ -12,7 +12,7 @@ use Rattle.fop.specs.Variables.{acceptAdUnit, rejectAdUnit, acceptBdUnit, rejec
 use Rattle.fop.specs.Events.{adAccept, bdAccept}
 use Rattle.session.specs.Ends.{Settings, tables}
 use Rattle.session.specs.Session.{Event, History, adRequest, bdRequest, ticks, lowerSays, terminate, wordIn, wordMade, frameIn, frameLost, release}
-use Rattle.session.proofs.Trace.{computing, settings, Said, S, R, N, trace, by, silent, down, aborting, responding, alerting, confirming, denying, discarding, handing}
+use Rattle.session.proofs.Trace.{computing, settings, Said, S, R, N, trace, by, noEvent, down, aborting, responding, alerting, confirming, denying, discarding, handing}
 
 -- a session over a list of events: every answer, and the histories at the end
 abbrev Runs : Settings → List Event → List Said → History → Type 0
@@ -73,9 +73,9 @@ adHistory sent accepted confirmed denied released = record {
 abbrev whole-list : List Event
 whole-list =
     adRequest (17 ∷ []) 256 ∷ frameLost ∷ lowerSays adAccept 256 ∷ ticks 256 ∷ ticks 256 ∷ frameIn
-    ∷ lowerSays adAccept 256 ∷ adRequest (34 ∷ 35 ∷ []) 256 ∷ lowerSays adAccept 256 ∷ frameIn ∷ wordMade
-    ∷ wordIn 256 ∷ release ∷ wordMade ∷ wordIn 256 ∷ frameIn ∷ wordMade ∷ wordIn 256 ∷ lowerSays adAccept 256
-    ∷ adRequest (51 ∷ []) 256 ∷ terminate 256 ∷ bdRequest (51 ∷ []) 256 ∷ frameLost ∷ frameIn ∷ []
+    ∷ lowerSays adAccept 256 ∷ adRequest (34 ∷ 35 ∷ []) 256 ∷ lowerSays adAccept 256 ∷ frameIn ∷ wordMade 4
+    ∷ wordIn 256 ∷ release ∷ wordMade 4 ∷ wordIn 256 ∷ frameIn ∷ wordMade 4 ∷ wordIn 256 ∷ lowerSays adAccept 256
+    ∷ adRequest (51 ∷ []) 256 ∷ terminate 7 256 ∷ bdRequest (51 ∷ []) 256 ∷ frameLost ∷ frameIn ∷ []
 
 abbrev Whole : Type 0
 Whole =
@@ -83,7 +83,7 @@ Whole =
     (sends frame-254
     ∷ N
     ∷ S (by E41 S1)
-    ∷ S (silent S1)
+    ∷ S (noEvent S1)
     ∷ S (aborting (down frame-254 (by E16 S1)))
     ∷ R (handing (17 ∷ []) farm.E1)
     ∷ S (by E41 S1)
@@ -119,7 +119,7 @@ Whole =
 -- a unit is lost; the timer resends it; it is accepted and confirmed
 abbrev lost-list : List Event
 lost-list =
-    adRequest (17 ∷ []) 256 ∷ frameLost ∷ lowerSays adAccept 256 ∷ ticks 256 ∷ ticks 256 ∷ frameIn ∷ wordMade
+    adRequest (17 ∷ []) 256 ∷ frameLost ∷ lowerSays adAccept 256 ∷ ticks 256 ∷ ticks 256 ∷ frameIn ∷ wordMade 4
     ∷ wordIn 256 ∷ []
 
 abbrev Lost : Type 0
@@ -128,7 +128,7 @@ Lost =
     (sends frame-254
     ∷ N
     ∷ S (by E41 S1)
-    ∷ S (silent S1)
+    ∷ S (noEvent S1)
     ∷ S (aborting (down frame-254 (by E16 S1)))
     ∷ R (handing (17 ∷ []) farm.E1)
     ∷ N
@@ -140,7 +140,7 @@ Lost =
 abbrev gap-list : List Event
 gap-list =
     adRequest (17 ∷ []) 256 ∷ lowerSays adAccept 256 ∷ adRequest (34 ∷ 35 ∷ []) 256 ∷ lowerSays adAccept 256
-    ∷ frameLost ∷ frameIn ∷ wordMade ∷ wordIn 256 ∷ lowerSays adAccept 256 ∷ frameIn ∷ frameIn ∷ wordMade
+    ∷ frameLost ∷ frameIn ∷ wordMade 4 ∷ wordIn 256 ∷ lowerSays adAccept 256 ∷ frameIn ∷ frameIn ∷ wordMade 4
     ∷ wordIn 256 ∷ []
 
 abbrev Gap : Type 0
@@ -166,7 +166,7 @@ Gap =
 abbrev full-list : List Event
 full-list =
     adRequest (17 ∷ []) 256 ∷ lowerSays adAccept 256 ∷ adRequest (34 ∷ 35 ∷ []) 256 ∷ lowerSays adAccept 256
-    ∷ frameIn ∷ frameIn ∷ wordMade ∷ wordIn 256 ∷ release ∷ wordMade ∷ wordIn 256 ∷ frameIn ∷ wordMade ∷ wordIn 256
+    ∷ frameIn ∷ frameIn ∷ wordMade 4 ∷ wordIn 256 ∷ release ∷ wordMade 4 ∷ wordIn 256 ∷ frameIn ∷ wordMade 4 ∷ wordIn 256
     ∷ []
 
 abbrev Full : Type 0
@@ -193,7 +193,7 @@ Full =
 abbrev expedited-list : List Event
 expedited-list =
     bdRequest (17 ∷ []) 256 ∷ bdRequest (34 ∷ 35 ∷ []) 256 ∷ lowerSays bdAccept 256 ∷ bdRequest (51 ∷ []) 256
-    ∷ frameIn ∷ frameIn ∷ wordMade ∷ []
+    ∷ frameIn ∷ frameIn ∷ wordMade 4 ∷ []
 
 abbrev Expedited : Type 0
 Expedited =
@@ -221,7 +221,7 @@ Expedited =
 abbrev both-list : List Event
 both-list =
     adRequest (17 ∷ []) 256 ∷ lowerSays adAccept 256 ∷ adRequest (34 ∷ 35 ∷ []) 256 ∷ lowerSays adAccept 256
-    ∷ adRequest (51 ∷ []) 256 ∷ lowerSays adAccept 256 ∷ frameIn ∷ frameLost ∷ frameIn ∷ wordMade ∷ wordIn 256 ∷ []
+    ∷ adRequest (51 ∷ []) 256 ∷ lowerSays adAccept 256 ∷ frameIn ∷ frameLost ∷ frameIn ∷ wordMade 4 ∷ wordIn 256 ∷ []
 
 abbrev Both : Type 0
 Both =
@@ -243,7 +243,7 @@ Both =
 -- Terminate, with a unit sent and one waiting
 abbrev ended-list : List Event
 ended-list =
-    adRequest (17 ∷ []) 256 ∷ adRequest (34 ∷ 35 ∷ []) 256 ∷ terminate 256 ∷ adRequest (51 ∷ []) 256 ∷ []
+    adRequest (17 ∷ []) 256 ∷ adRequest (34 ∷ 35 ∷ []) 256 ∷ terminate 0 256 ∷ adRequest (51 ∷ []) 256 ∷ []
 
 abbrev Ended : Type 0
 Ended =
@@ -258,7 +258,7 @@ Ended =
 -- words that acknowledge nothing new
 abbrev early-list : List Event
 early-list =
-    adRequest (17 ∷ []) 256 ∷ lowerSays adAccept 256 ∷ wordMade ∷ wordIn 256 ∷ frameIn ∷ wordMade ∷ wordMade
+    adRequest (17 ∷ []) 256 ∷ lowerSays adAccept 256 ∷ wordMade 4 ∷ wordIn 256 ∷ frameIn ∷ wordMade 4 ∷ wordMade 4
     ∷ wordIn 256 ∷ wordIn 256 ∷ []
 
 abbrev Early : Type 0

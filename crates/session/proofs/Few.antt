@@ -8,7 +8,7 @@ use Prim.Native.Nat.{ℕ, _+_, _≤_}
 use native.Mathlib.Omega.{arith}
 use lib.Dec.{leb, ltb, eqb, T, leb→le}
 use lib.ListN.{length, length-append}
-use Rattle.fop.specs.Units.{Frame, AD, Heard, valid, invalid, other, Own, readWord}
+use Rattle.fop.specs.Units.{Frame, AD, WordReceived, valid, invalid, other, Own, readWord}
 use Rattle.fop.specs.Table.{Ignore, SetSuspendState, Suspend, Resume, Action, Cell, cell, ifNotSuspended, NotApplicable, FopEvent, table78, cell78, Accept, Reject, Confirm}
 use Rattle.fop.specs.Table.{RejectAd, AcceptBd, RejectBd, AddToWaitQueue, LookForFdu, LookForDirective, RemoveAcknowledgedFrames, InitiateAdRetransmission}
 use Rattle.fop.specs.Table.{InitiateBcRetransmission, ReleaseBcFrame, CancelTimer, StartTimer, Alert, Initialise, TransmitUnlock, TransmitSetVr, TransmitBd}
@@ -18,7 +18,7 @@ use Rattle.fop.specs.Machine.{perform, performAll, performCell, lookForFdu, sen
 use Rattle.fop.specs.Variables.{begin}
 use Rattle.fop.specs.Machine.{purge, removeAcknowledged, fopDo}
 use Rattle.fop.specs.Events.{when, expiryLines, wordLines, wordEvent, seen, fopWord, fopAd, fopBd, fopExpiry, fopTick, fopLower, Lower, fopDirective, directiveLines}
-use Rattle.fop.specs.Events.{directiveEvent, isEmpty, fopHeard, SenderEvent, requestAd, requestBd, lower, directive, wordArrives, work}
+use Rattle.fop.specs.Events.{directiveEvent, isEmpty, fopReceived, SenderEvent, requestAd, requestBd, lower, directive, wordArrives, work}
 use Rattle.fop.specs.Events as fop
 use Rattle.session.proofs.Choices.{by-pick, and-l, and-r}
 use Rattle.session.proofs.Ways.{look-ways, directive-ways, purge-ways}
@@ -117,11 +117,11 @@ lower-few : (l : Lower) (f : Fop) → Most 1 (fopLower l f)
 unfolding fopLower table78 sends
 lower-few l f = do-few _ [] 0 f (lower-all rowFew tt l)
 
-heard-few : (h : Heard) (f : Fop) → Most 1 (fopHeard h f)
-unfolding fopHeard fopWord wordEvent table78 sends
-heard-few (valid w) f = do-few _ [] (w .nr) f (first-all rowFew (wordLines (seen w f)) FopEvent.E103 tt)
-heard-few invalid f = do-few _ [] 0 f tt
-heard-few (other r) f = omega arith
+received-few : (h : WordReceived) (f : Fop) → Most 1 (fopReceived h f)
+unfolding fopReceived fopWord wordEvent table78 sends
+received-few (valid w) f = do-few _ [] (w .nr) f (first-all rowFew (wordLines (seen w f)) FopEvent.E103 tt)
+received-few invalid f = do-few _ [] 0 f tt
+received-few (other r) f = omega arith
 
 ad-few : (o : List ℕ) (f : Fop) → Most 1 (fopAd o f)
 unfolding fopAd table78 sends
@@ -142,4 +142,4 @@ work-few own (requestBd o) f = bd-few o f
 work-few own fop.tick f = tick-few f
 work-few own (lower l) f = lower-few l f
 work-few own (directive d v) f = directive-few d v f
-work-few own (wordArrives s) f = heard-few (readWord own s) f
+work-few own (wordArrives s) f = received-few (readWord own s) f

@@ -21,7 +21,7 @@ use Rattle.fop.specs.Variables.{Work, Preset}
 use Rattle.fop.specs.Machine.{fdus, firstMarked, perform, performAll, performCell, lookForFdu, sendNext, sendWaiting, transmitAd, removeAcknowledged, fopDo}
 use Rattle.fop.specs.Variables.{begin}
 use Rattle.session.specs.Ends.{Settings}
-use Rattle.session.specs.Session.{nobody}
+use Rattle.session.specs.Session.{noUnit}
 use Rattle.session.specs.Claims.{IsOutstanding, member}
 use Rattle.fop.specs.Machine.{purge}
 use Rattle.fop.specs.Table.{ifNotSuspended, Ignore, SetSuspendState, Suspend, Resume}
@@ -39,7 +39,7 @@ use Rattle.session.proofs.Next.{historyOf}
 -- each AD frame of the list is a unit sent, at a place from C on; and there is one only where m is live
 abbrev pub From : Mode → ℕ → List Fdu → List Frame → Type 0
 From m C s [] = Unit {0}
-From m C s (AD u ∷ fs) = ((m ≡ live) × (i : ℕ) × (C ≤ i) × (i < length s) × (u ≡ getD s i nobody)) × From m C s fs
+From m C s (AD u ∷ fs) = ((m ≡ live) × (i : ℕ) × (C ≤ i) × (i < length s) × (u ≡ getD s i noUnit)) × From m C s fs
 From m C s (BD o ∷ fs) = From m C s fs
 From m C s (Unlock ∷ fs) = From m C s fs
 From m C s (SetVR v ∷ fs) = From m C s fs
@@ -49,7 +49,7 @@ from-more : (m : Mode) (C : ℕ) (s t : List Fdu) (fs : List Frame) → From m C
 from-more m C s t [] h = tt
 from-more m C s t (AD u ∷ fs) h =
     let i = h .0 .1 in
-    ((h .0 .0, i, h .0 .2, omega (arith, length-append s t, h .0 .3), h .0 .4 ∙ sym (List·getD-append s t nobody i (h .0 .3))), from-more m C s t fs (h .1))
+    ((h .0 .0, i, h .0 .2, omega (arith, length-append s t, h .0 .3), h .0 .4 ∙ sym (List·getD-append s t noUnit i (h .0 .3))), from-more m C s t fs (h .1))
 from-more m C s t (BD o ∷ fs) h = from-more m C s t fs h
 from-more m C s t (Unlock ∷ fs) h = from-more m C s t fs h
 from-more m C s t (SetVR v ∷ fs) h = from-more m C s t fs h
@@ -88,7 +88,7 @@ module _ (n : ℕ) (P : Preset) (C : ℕ) (gone : List (Option ℕ)) (acc sent0 
           let ln = queue-length C s (w .confirmed) (fdus (w .fop .sentQueue)) (h .1 .cut) in
           let j : ℕ = C + (length (w .confirmed) + i .0) in
           let b : j < length s = omega (arith, ln, i .1) in
-          let eu : u ≡ getD s j nobody = i .2 ∙ queue-at C s (w .confirmed) (fdus (w .fop .sentQueue)) (h .1 .cut) (i .0) in
+          let eu : u ≡ getD s j noUnit = i .2 ∙ queue-at C s (w .confirmed) (fdus (w .fop .sentQueue)) (h .1 .cut) (i .0) in
           let same : addAll n s (AD u ∷ []) ≡ s = same-sent n s u j (h .0 .num) b (omega (arith, h .0)) eu in (
             d .0,
             rw (addAll-append n sent0 (w .frames) (AD u ∷ []), same)
@@ -102,7 +102,7 @@ module _ (n : ℕ) (P : Preset) (C : ℕ) (gone : List (Option ℕ)) (acc sent0 
             d .0,
             rw (addAll-append n sent0 (w .frames) (AD u ∷ []), more)
                 (from-append m0 C (s ++ (u ∷ [])) (w .frames) (AD u ∷ []) (from-more m0 C s (u ∷ []) (w .frames) (d .1))
-                ((d .0, length s, omega (arith, h .0), omega (arith, length-append s (u ∷ [])), sym (getD-append-seam s u [] nobody)), tt)),
+                ((d .0, length s, omega (arith, h .0), omega (arith, length-append s (u ∷ [])), sym (getD-append-seam s u [] noUnit)), tt)),
           )
 
   bd-from : (m : Mode) (w : Work) → D m w → D m (perform TransmitBd w)
@@ -232,12 +232,12 @@ module _ (set : Settings) (σ : Session) (I : Inv set σ) where
 
   -- the one AD frame handed down
   pub is-handed : (u : Fdu) → From (modeOf (σ .fop .state)) (length (σ .confirmed)) (addAll (set .n) (σ .sent) (AD u ∷ [])) (AD u ∷ [])
-      → (u .ns ≡ advanced (set .n) (length (σ .sent))) ⊎ ((i : ℕ) × IsOutstanding (historyOf σ) i × (u ≡ getD (σ .sent) i nobody))
+      → (u .ns ≡ advanced (set .n) (length (σ .sent))) ⊎ ((i : ℕ) × IsOutstanding (historyOf σ) i × (u ≡ getD (σ .sent) i noUnit))
   is-handed u h = go (eqb (u .ns) (advanced (set .n) (length (σ .sent)))) refl h
     where
       go : (b : Bool) → eqb (u .ns) (advanced (set .n) (length (σ .sent))) ≡ b
           → From (modeOf (σ .fop .state)) (length (σ .confirmed)) (pick b (σ .sent ++ (u ∷ [])) (σ .sent)) (AD u ∷ [])
-          → (u .ns ≡ advanced (set .n) (length (σ .sent))) ⊎ ((i : ℕ) × IsOutstanding (historyOf σ) i × (u ≡ getD (σ .sent) i nobody))
+          → (u .ns ≡ advanced (set .n) (length (σ .sent))) ⊎ ((i : ℕ) × IsOutstanding (historyOf σ) i × (u ≡ getD (σ .sent) i noUnit))
       go true e h = inl (eqb-true _ _ e)
       go false e h =
           let f = serving (σ .fop .state) (I .side) (h .0 .0) in

@@ -9,7 +9,7 @@ use Prim.Native.Nat.{ℕ, _≤_, _<_}
 use native.Mathlib.Omega.{arith}
 use lib.Dec.{eqb, T, leb}
 use borrow.Author.Tests.{eq-eqb, eqb-true, leb-true}
-use Rattle.fop.specs.Units.{Heard, valid, invalid, other, Own, readWord}
+use Rattle.fop.specs.Units.{WordReceived, valid, invalid, other, Own, readWord}
 use Rattle.fop.specs.Table.{Action, Cell, cell, ifNotSuspended, NotApplicable, FopEvent, table78, cell78, Ignore, Accept, Reject, Confirm, RejectAd}
 use Rattle.fop.specs.Table.{AcceptBd, RejectBd, AddToWaitQueue, LookForFdu, LookForDirective, RemoveAcknowledgedFrames, InitiateAdRetransmission, InitiateBcRetransmission}
 use Rattle.fop.specs.Table.{ReleaseBcFrame, CancelTimer, StartTimer, Alert, Initialise, TransmitUnlock, TransmitSetVr, TransmitBd, SetSuspendState, Suspend, Resume}
@@ -19,7 +19,7 @@ use Rattle.fop.specs.Machine.{perform, performCell, sendNext, sendWaiting, tran
 use Rattle.fop.specs.Variables.{begin}
 use Rattle.fop.specs.Machine.{removeAcknowledged, fopDo}
 use Rattle.fop.specs.Events.{Line, when, first, wordLines, wordEvent, seen, fopWord, fopAd, fopBd, fopTick, fopLower, Lower, directiveLines, directiveEvent, validDirective, fopDirective, SenderEvent, requestAd, requestBd, lower, directive, wordArrives, work}
-use Rattle.fop.specs.Events.{isEmpty, fopHeard}
+use Rattle.fop.specs.Events.{isEmpty, fopReceived}
 use Rattle.fop.specs.Events as fop
 use Rattle.base.proofs.Computed.{is-true}
 use Rattle.session.proofs.Choices.{by-pick, and-l, and-r, and-both, unrefused, upto, _also_}
@@ -111,12 +111,12 @@ lower-still : (l : Lower) (f : Fop) → Idle f → Stays (fopLower l f)
 unfolding fopLower table78 still
 lower-still l f h = do-still false _ [] 0 f (lower-all (rowStill false) tt l) (λ e. absurd (false≢true e)) h
 
-heard-still : (x : Heard) (f : Fop) → Idle f → Stays (fopHeard x f)
-unfolding fopHeard fopWord wordEvent table78 still
-heard-still (valid w) f h =
+received-still : (x : WordReceived) (f : Fop) → Idle f → Stays (fopReceived x f)
+unfolding fopReceived fopWord wordEvent table78 still
+received-still (valid w) f h =
     do-still false _ [] (w .nr) f (first-all (rowStill false) (wordLines (seen w f)) FopEvent.E103 tt) (λ e. absurd (false≢true e)) h
-heard-still invalid f h = do-still false _ [] 0 f tt (λ e. absurd (false≢true e)) h
-heard-still (other r) f h = (h, refl)
+received-still invalid f h = do-still false _ [] 0 f tt (λ e. absurd (false≢true e)) h
+received-still (other r) f h = (h, refl)
 
 ad-still : (o : List ℕ) (f : Fop) → Idle f → Stays (fopAd o f)
 unfolding fopAd table78 still
@@ -182,7 +182,7 @@ work-still own (requestBd o) f j h = bd-still o f h
 work-still own fop.tick f j h = tick-still f h
 work-still own (lower l) f j h = lower-still l f h
 work-still own (directive d v) f j h = directive-still d v f (unrefused (validDirective d v) 11 j) h
-work-still own (wordArrives s) f j h = heard-still (readWord own s) f h
+work-still own (wordArrives s) f j h = received-still (readWord own s) f h
 
 pub idle : (own : Own) (e : SenderEvent) (lent : ℕ) (f : Fop) → Idle f → Idle (senderNext own e lent f) × ((senderAnswer own e lent f) .suspended ≡ false)
 unfolding senderNext senderAnswer

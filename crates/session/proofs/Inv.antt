@@ -16,7 +16,7 @@ use Rattle.fop.specs.Units.{Fdu, Frame, Word, Own, legal, wordOctets}
 use Rattle.fop.specs.Table.{FopEvent}
 use Rattle.fop.specs.Variables.{Fop, Work, Preset, begin, setClock}
 use Rattle.fop.specs.Machine.{fdus, fopDo}
-use Rattle.fop.specs.Events.{fopWord, fopAd, fopBd, fopTick, fopLower, fopDirective, directiveEvent, fopHeard, isEmpty, SenderEvent, requestAd}
+use Rattle.fop.specs.Events.{fopWord, fopAd, fopBd, fopTick, fopLower, fopDirective, directiveEvent, fopReceived, isEmpty, SenderEvent, requestAd}
 use Rattle.fop.specs.Events.{requestBd, lower, directive, wordArrives, work, Lower, seen}
 use Rattle.fop.specs.Answers.{judged, senderRefusal, needed}
 use Rattle.farm.specs.declared.State.{State as FarmState}
@@ -54,12 +54,12 @@ isLocked Open = false
 isLocked Wait = false
 isLocked Lockout = true
 
--- the receiver's part, with A accepted and D BD units accepted
+-- the receiver's part, with A accepted and D BD units accepted; they are counted on from the start
 pub record Rcv (set : Settings) (v : Variables) (A D : ℕ) : Type 0 where
   pub isVr : v .vr ≡ advanced (set .n) A
   pub unlocked : isLocked (v .state) ≡ false
   pub noLock : v .lockout ≡ false
-  pub counted : v .counter ≡ D % 4
+  pub counted : v .counter ≡ (set .counter + D) % 4
 
 -- the invariant; it knows nothing of buffers
 pub record Inv (set : Settings) (σ : Session) : Type 0 where
@@ -252,11 +252,11 @@ words-are set σ ws I h =
     record { base = I .base; side = I .side; isSet = I .isSet; waiting = I .waiting; places = I .places; words = h; receiver = I .receiver; bd = I .bd }
 
 -- a row that no word brings
-plain-keeps : (set : Settings) (σ : Session) (given : Given) (e : FopEvent) (o : List ℕ) → Inv set σ → T (rowOk given e)
-    → Reports given (set .n) (length (σ .confirmed)) (length (σ .accepted)) 0 o
-    → Inv set (answered (set .n) (fopDo e o 0 (σ .fop)) σ)
+plain-keeps : (set : Settings) (σ : Session) (given : Given) (e : FopEvent) (o : List ℕ) (v : ℕ) → Inv set σ → T (rowOk given e)
+    → Reports given (set .n) (length (σ .confirmed)) (length (σ .accepted)) v o
+    → Inv set (answered (set .n) (fopDo e o v (σ .fop)) σ)
 unfolding channels
-plain-keeps set σ given e o I t r = row-keeps set σ (σ .words) given (length (σ .confirmed)) e o 0 I t (omega arith) r (I .words)
+plain-keeps set σ given e o v I t r = row-keeps set σ (σ .words) given (length (σ .confirmed)) e o v I t (omega arith) r (I .words)
 
 -- Timeout_Type is 0
 pub alerting : (set : Settings) (σ : Session) → Inv set σ → eqb (σ .fop .preset .timeoutType) 0 ≡ true
@@ -307,29 +307,29 @@ sender-keeps set e lent σ I h =
 
 pub ad-keeps : (set : Settings) (lent : ℕ) (o : List ℕ) (σ : Session) → Inv set σ → Inv set (sender set (requestAd o) lent σ)
 unfolding fopAd judged work
-ad-keeps set lent o σ I = sender-keeps set (requestAd o) lent σ I (λ j. plain-keeps set σ unit _ o I (ad-ok (isEmpty (σ .fop .waitQueue))) (legal-of o j))
+ad-keeps set lent o σ I = sender-keeps set (requestAd o) lent σ I (λ j. plain-keeps set σ unit _ o 0 I (ad-ok (isEmpty (σ .fop .waitQueue))) (legal-of o j))
 
 pub bd-keeps : (set : Settings) (lent : ℕ) (o : List ℕ) (σ : Session) → Inv set σ → Inv set (sender set (requestBd o) lent σ)
 unfolding fopBd judged work
-bd-keeps set lent o σ I = sender-keeps set (requestBd o) lent σ I (λ j. plain-keeps set σ unit _ o I (bd-ok (σ .fop .out .bd)) (legal-of o j))
+bd-keeps set lent o σ I = sender-keeps set (requestBd o) lent σ I (λ j. plain-keeps set σ unit _ o 0 I (bd-ok (σ .fop .out .bd)) (legal-of o j))
 
 pub lower-keeps : (set : Settings) (lent : ℕ) (l : Lower) (σ : Session) → Inv set σ → Inv set (sender set (lower l) lent σ)
 unfolding fopLower work
-lower-keeps set lent l σ I = sender-keeps set (lower l) lent σ I (λ j. plain-keeps set σ nothing _ [] I (lower-ok l) tt)
+lower-keeps set lent l σ I = sender-keeps set (lower l) lent σ I (λ j. plain-keeps set σ nothing _ [] 0 I (lower-ok l) tt)
 
 pub ticks-keeps : (set : Settings) (lent : ℕ) (σ : Session) → Inv set σ → Inv set (sender set fop.tick lent σ)
 unfolding work
 ticks-keeps set lent σ I = sender-keeps set fop.tick lent σ I (λ j. tick-keeps set σ I)
 
-pub terminate-keeps : (set : Settings) (lent : ℕ) (σ : Session) → Inv set σ → Inv set (sender set (directive 5 0) lent σ)
+pub terminate-keeps : (set : Settings) (v lent : ℕ) (σ : Session) → Inv set σ → Inv set (sender set (directive 5 v) lent σ)
 unfolding fopDirective directiveEvent work
-terminate-keeps set lent σ I = sender-keeps set (directive 5 0) lent σ I (λ j. plain-keeps set σ nothing FopEvent.E29 [] I terminate-ok tt)
+terminate-keeps set v lent σ I = sender-keeps set (directive 5 v) lent σ I (λ j. plain-keeps set σ nothing FopEvent.E29 [] v I terminate-ok tt)
 
 -- a word under way is read as it was reported
-pub hears : (set : Settings) → Within set → (w : Word) (f : Fop) → w .counter ≤ 3 → w .nr < 256
+pub word-read : (set : Settings) → Within set → (w : Word) (f : Fop) → w .counter ≤ 3 → w .nr < 256
     → work (set .own) (wordArrives (wordOctets (set .own) w)) f ≡ fopWord w f
-unfolding work fopHeard
-hears set vw w f c b = rw (word-back (set .own) (vw .spacecraft) (vw .channel) w c b)
+unfolding work fopReceived
+word-read set vw w f c b = rw (word-back (set .own) (vw .spacecraft) (vw .channel) w c b)
 
 -- and is judged fit
 pub fine : (set : Settings) → Within set → (w : Word) → w .counter ≤ 3 → w .nr < 256 → judged (set .own) (wordArrives (wordOctets (set .own) w)) ≡ 0
@@ -343,5 +343,5 @@ unfolding wordCome fopWord channels
 word-keeps set vw lent σ [] I h = I
 word-keeps set vw lent σ (w ∷ ws) I h =
     sender-keeps set _ lent (channels (σ .frames) ws σ) (words-are set σ ws I (wds-lower (set .n) (h .0) _ _ ws (h .2) (h .4)))
-    (λ j. rw (hears set vw w (σ .fop) (h .3) (omega (arith, h .1)))
+    (λ j. rw (word-read set vw w (σ .fop) (h .3) (omega (arith, h .1)))
     (row-keeps set σ ws word (h .0) _ [] (w .nr) I (word-ok (seen w (σ .fop))) (h .2) (h .1, wds-le (set .n) (h .0) _ ws (h .4)) (h .4)))

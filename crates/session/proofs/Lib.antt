@@ -19,14 +19,15 @@ pub mod Clear
 pub mod Arrive
 pub mod Received
 pub mod Link
+pub mod Words
 pub mod Theorem
 pub mod Asks
 pub mod Keys
 pub mod Every
 pub mod Tidy
 pub mod Alerts
-pub mod Quiet
-pub mod Shut
+pub mod WordAlerts
+pub mod Serving
 pub mod Exact
 pub mod Handed
 pub mod Standing

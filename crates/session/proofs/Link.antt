@@ -5,6 +5,7 @@ use mathlib.Core.List.{List, [], _∷_, _++_, map, append-nil, map-append}
 use mathlib.Core.Option.{some}
 use Prim.Native.Nat.{_-_, ℕ, suc, _+_, _≤_, max}
 use native.Mathlib.Omega.{arith}
+use lib.Dec.{leb}
 use lib.ListN.{length}
 use Rattle.base.specs.Choice.{pick, must}
 use Rattle.fop.specs.Units.{Fdu, Frame, AD, BD, Unlock, SetVR, Refused, Word, legal, written, wordOctets}
@@ -21,7 +22,7 @@ use Rattle.farm.specs.declared.Received.{Received}
 use Rattle.farm.specs.declared.Released.{Released}
 use Rattle.farm.specs.declared.Released.the-variants.{Done, NoneTaken}
 use Rattle.session.specs.Receiver as rcv
-use Rattle.session.specs.Receiver.{frameArrives, releaseBuffer, ReceiverAnswer, receiverNext, releaseAnswer, receiverAnswer, receiverWord}
+use Rattle.session.specs.Receiver.{frameArrives, releaseBuffer, ReceiverAnswer, receiverNext, releaseAnswer, receiverAnswer, wordLength, receiverWord}
 use Rattle.session.specs.Frames.{read}
 use Rattle.session.specs.Ends.{Settings, Within, Ends, Tied, tables, startReceiver}
 use Rattle.session.specs.Session.{Linked, History, Event, adRequest, bdRequest, ticks, lowerSays, terminate, wordIn, wordLost, wordMade, frameIn, frameLost, release}
@@ -32,10 +33,10 @@ use Rattle.session.specs.Session as ses
 use Rattle.session.proofs.Core as core
 use Rattle.session.proofs.Received.{Readable, receiverOf, received-is, part-is, released-is, answerBy, accepted-is, acceptedBd-is, used-is}
 use Rattle.session.proofs.Buffers.{Stocked, stock-keeps, start-stock}
-use Rattle.session.proofs.Core.{frameEvent, star, used, free, isHeld, Session, addAll, addBds, firstOf, goes}
+use Rattle.session.proofs.Core.{addWord, frameEvent, star, used, free, isHeld, Session, addAll, addBds, firstOf, goes}
 use Rattle.session.proofs.Lists.{Numbered}
 use Rattle.session.proofs.Chan.{Fly}
-use Rattle.session.proofs.Octets.{ad-back, bd-back}
+use Rattle.session.proofs.Octets.{ad-back, bd-back, toldIf, word-told}
 use Rattle.session.proofs.Inv.{Inv}
 use Rattle.session.proofs.Receiver.{step-keeps, ad-cases, begun}
 use Rattle.session.proofs.Next.{historyOf}
@@ -118,6 +119,11 @@ module _ (set : Settings) (vw : Within set) where
   unfolding afterSender
   refusal-through r f κ = rw (append-nil (κ .confirmed), append-nil (κ .denied))
 
+  word-enters : (b : Bool) (w : Word) (ws : List Word)
+      → enters (map (wordOctets (set .own)) ws) ((toldIf b (wordOctets (set .own) w)) .word) ≡ map (wordOctets (set .own)) (addWord b w ws)
+  word-enters true w ws = sym (map-append (wordOctets (set .own)) ws (w ∷ []))
+  word-enters false w ws = refl
+
   -- the receiver's answer to a frame of the session
   abbrev answerTo : Session → Frame → ReceiverAnswer
   answerTo κ x = answerBy (frameEvent (set .w) (free set κ) x (κ .farm)) (κ .farm .state) x
@@ -193,11 +199,11 @@ module _ (set : Settings) (vw : Within set) where
         (t .answer e lent (σ .sender) (R .good) ∙ ap (λ (f : Fop). senderAnswer (set .own) e lent f) (R .fop))
 
     -- the oldest word to the sender
-    heard : (σ : Linked m) (κ : Session) (lent : ℕ) (ws : List Word) → Rel σ κ → Inv set (core.wordCome set lent ws κ)
+    word-in : (σ : Linked m) (κ : Session) (lent : ℕ) (ws : List Word) → Rel σ κ → Inv set (core.wordCome set lent ws κ)
         → Rel (ses.wordCome set m lent (map (wordOctets (set .own)) ws) σ) (core.wordCome set lent ws κ)
     unfolding ses.wordCome core.wordCome
-    heard σ κ lent [] R J = R
-    heard σ κ lent (w ∷ ws) R J = to-sender σ κ (wordArrives (wordOctets (set .own) w)) lent ws R J
+    word-in σ κ lent [] R J = R
+    word-in σ κ lent (w ∷ ws) R J = to-sender σ κ (wordArrives (wordOctets (set .own) w)) lent ws R J
 
     -- no frame of the session locks the receiver out
     unlocks : (κ : Session) (x : Frame) (fs : List Frame) → Inv set κ → Fly (set .k) (κ .sent) (length (κ .accepted)) (length (κ .accepted)) (x ∷ fs)
@@ -299,10 +305,13 @@ module _ (set : Settings) (vw : Within set) where
     relink σ κ fs ws fs' ws' R f w =
         record { good = R .good; goodReceiver = R .goodReceiver; fop = R .fop; farm = R .farm; stock = R .stock; frames = f; words = w; history = R .history }
 
-    -- the receiver's control word
-    pub word-is : (σ : Linked m) (κ : Session) → Rel σ κ → m .word (σ .receiver) ≡ wordOctets (set .own) (core.report (κ .farm))
+    -- the receiver's control word: its channel and counter are within their limits
+    pub word-is : (σ : Linked m) (κ : Session) → Rel σ κ → Inv set κ → (lent : ℕ)
+        → m .word lent (σ .receiver) ≡ toldIf (leb wordLength lent) (wordOctets (set .own) (core.report (κ .farm)))
     unfolding receiverWord core.report wordOctets wordOf
-    word-is σ κ R = t .word (σ .receiver) (R .goodReceiver) ∙ ap (λ (f : Receiver). receiverWord f) (R .farm)
+    word-is σ κ R I lent =
+        t .word lent (σ .receiver) (R .goodReceiver) ∙ ap (receiverWord lent) (R .farm)
+        ∙ word-told (wordOf (receiverOf set (used κ) (κ .farm))) lent (vw .channel) (omega (arith, I .receiver .counted))
 
     -- every event
     pub same-step : (e : Event) (σ : Linked m) (κ : Session) → Rel σ κ → Inv set κ → Rel (ses.step set m e σ) (core.step set e κ)
@@ -311,15 +320,15 @@ module _ (set : Settings) (vw : Within set) where
     same-step (bdRequest o lent) σ κ R I = plain σ κ (requestBd o) lent R (step-keeps set vw (bdRequest o lent) κ I)
     same-step (ticks lent) σ κ R I = plain σ κ fop.tick lent R (step-keeps set vw (ticks lent) κ I)
     same-step (lowerSays l lent) σ κ R I = plain σ κ (fop.lower l) lent R (step-keeps set vw (lowerSays l lent) κ I)
-    same-step (terminate lent) σ κ R I = plain σ κ (directive 5 0) lent R (step-keeps set vw (terminate lent) κ I)
+    same-step (terminate v lent) σ κ R I = plain σ κ (directive 5 v) lent R (step-keeps set vw (terminate v lent) κ I)
     same-step (wordIn lent) σ κ R I =
         subst (λ (l : List (List ℕ)). Rel (ses.wordCome set m lent l σ) (core.wordCome set lent (κ .words) κ)) (sym (R .words))
-        (heard σ κ lent (κ .words) R (step-keeps set vw (wordIn lent) κ I))
+        (word-in σ κ lent (κ .words) R (step-keeps set vw (wordIn lent) κ I))
     same-step wordLost σ κ R I =
         relink σ κ (κ .frames) (rest (κ .words)) (σ .frames) (rest (σ .words)) R (R .frames) (ap rest (R .words) ∙ map-rest (wordOctets (set .own)) (κ .words))
-    same-step wordMade σ κ R I =
+    same-step (wordMade lent) σ κ R I =
         relink σ κ (κ .frames) _ (σ .frames) _ R (R .frames)
-        (rw (R .words, word-is σ κ R) (sym (map-append (wordOctets (set .own)) (κ .words) (core.report (κ .farm) ∷ []))))
+        (rw (R .words, word-is σ κ R I lent) (word-enters (leb wordLength lent) (core.report (κ .farm)) (κ .words)))
     same-step frameIn σ κ R I =
         subst (λ (l : List (List ℕ)). Rel (ses.frameCome set m l σ) (core.frameCome set (free set κ) (κ .frames) κ)) (sym (R .frames))
         (got σ κ (κ .frames) R I (I .base .fly) (stock-keeps set vw frameIn κ I (R .stock)))
@@ -350,5 +359,5 @@ tables-tied set =
       answer = λ e lent x g. refl;
       nextReceiver = λ e x g. refl;
       answerReceiver = λ e x g. refl;
-      word = λ x g. refl;
+      word = λ lent x g. refl;
     }

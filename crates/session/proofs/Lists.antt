@@ -14,29 +14,29 @@ use borrow.Author.Tests.{ne-eqb, eqb-true, eqb-false, ltb-true, ltb-false}
 use Rattle.base.specs.Choice.{pick}
 use Rattle.base.specs.Modulo.{advanced}
 use Rattle.fop.specs.Units.{Fdu, Frame, legal}
-use Rattle.session.specs.Session.{nobody, addSent, lastPlace, places}
+use Rattle.session.specs.Session.{noUnit, addSent, lastPlace, places}
 use Rattle.session.specs.Claims.{unitsAt, member, remaining}
 use Rattle.session.specs.Stronger.{unitsOf, somes}
 use Rattle.session.proofs.Core.{addAll}
 
 -- each unit's number is its place's, and each is legal
 pub record Numbered (n : ℕ) (s : List Fdu) : Type 0 where
-  pub at : (i : ℕ) → i < length s → (getD s i nobody) .ns ≡ advanced n i
-  pub ok : (i : ℕ) → i < length s → legal ((getD s i nobody) .octets) ≡ true
+  pub at : (i : ℕ) → i < length s → (getD s i noUnit) .ns ≡ advanced n i
+  pub ok : (i : ℕ) → i < length s → legal ((getD s i noUnit) .octets) ≡ true
 
 pub numbered-nil : (n : ℕ) → Numbered n []
 numbered-nil n = record { at = λ i h. absurd (not-suc-le-zero h); ok = λ i h. absurd (not-suc-le-zero h) }
 
 -- what holds at each place of s, and of u, holds at each place of s ++ (u ∷ [])
-at-end : (P : ℕ → Fdu → Type 0) (s : List Fdu) (u : Fdu) → ((i : ℕ) → i < length s → P i (getD s i nobody)) → P (length s) u
-    → (i : ℕ) → i < length (s ++ (u ∷ [])) → P i (getD (s ++ (u ∷ [])) i nobody)
+at-end : (P : ℕ → Fdu → Type 0) (s : List Fdu) (u : Fdu) → ((i : ℕ) → i < length s → P i (getD s i noUnit)) → P (length s) u
+    → (i : ℕ) → i < length (s ++ (u ∷ [])) → P i (getD (s ++ (u ∷ [])) i noUnit)
 at-end P s u h e i b = go (eqb i (length s)) refl
   where
-    go : (t : Bool) → eqb i (length s) ≡ t → P i (getD (s ++ (u ∷ [])) i nobody)
-    go true t = rw (eqb-true i (length s) t, getD-append-seam s u [] nobody) e
+    go : (t : Bool) → eqb i (length s) ≡ t → P i (getD (s ++ (u ∷ [])) i noUnit)
+    go true t = rw (eqb-true i (length s) t, getD-append-seam s u [] noUnit) e
     go false t =
         let l : i < length s = omega (arith, eqb-false i (length s) t, length-append s (u ∷ []), b) in
-        rw (List·getD-append s (u ∷ []) nobody i l) (h i l)
+        rw (List·getD-append s (u ∷ []) noUnit i l) (h i l)
 
 pub numbered-add : (n : ℕ) (s : List Fdu) (u : Fdu) → Numbered n s → u .ns ≡ advanced n (length s) → legal (u .octets) ≡ true → Numbered n (s ++ (u ∷ []))
 numbered-add n s u h e g =
@@ -75,16 +75,16 @@ pub lastPlace-is : (n : ℕ) (s : List Fdu) → Numbered n s → (i j : ℕ) →
     → lastPlace s (advanced n j) i ≡ some j
 lastPlace-is n s h zero j a b c = absurd (omega arith)
 lastPlace-is n s h (suc i) j a b c =
-    go (λ l. lastPlace-is n s h i j l (omega arith) (omega arith)) (eqb ((getD s i nobody) .ns) (advanced n j)) refl
+    go (λ l. lastPlace-is n s h i j l (omega arith) (omega arith)) (eqb ((getD s i noUnit) .ns) (advanced n j)) refl
   where
-    e : (getD s i nobody) .ns ≡ advanced n i
+    e : (getD s i noUnit) .ns ≡ advanced n i
     e = h .at i b
 
-    go : (j < i → lastPlace s (advanced n j) i ≡ some j) → (t : Bool) → eqb ((getD s i nobody) .ns) (advanced n j) ≡ t
+    go : (j < i → lastPlace s (advanced n j) i ≡ some j) → (t : Bool) → eqb ((getD s i noUnit) .ns) (advanced n j) ≡ t
         → pick t (some i) (lastPlace s (advanced n j) i) ≡ some j
-    go f true t = let q : i ≡ j = omega (arith, eqb-true ((getD s i nobody) .ns) (advanced n j) t, e) in ap some q
+    go f true t = let q : i ≡ j = omega (arith, eqb-true ((getD s i noUnit) .ns) (advanced n j) t, e) in ap some q
     go f false t =
-        let d : i ≢ j = λ q. eqb-false ((getD s i nobody) .ns) (advanced n j) t (rw (← q) e) in
+        let d : i ≢ j = λ q. eqb-false ((getD s i noUnit) .ns) (advanced n j) t (rw (← q) e) in
         f (omega arith)
 
 pub places-are : (n : ℕ) (s : List Fdu) → Numbered n s → (x j c : ℕ) → x ≡ advanced n j → j + c ≤ length s → length s ≤ j + 256
@@ -97,11 +97,11 @@ places-are n s h x j (suc c) e a b =
 pub units-iota : (s : List Fdu) (j c : ℕ) → j + c ≤ length s → unitsAt s (iota j c) ≡ map some (take c (drop j s))
 units-iota s j zero h = refl
 units-iota s j (suc c) h =
-    rw (drop-cons s j nobody (omega arith)) (ap (_∷_ (some (getD s j nobody))) (units-iota s (suc j) c (omega arith)))
+    rw (drop-cons s j noUnit (omega arith)) (ap (_∷_ (some (getD s j noUnit))) (units-iota s (suc j) c (omega arith)))
 
 pub unitsOf-nums : (s : List Fdu) (j c : ℕ) → j + c ≤ length s → unitsOf s (nums j c) ≡ take c (drop j s)
 unitsOf-nums s j zero h = refl
-unitsOf-nums s j (suc c) h = rw (drop-cons s j nobody (omega arith)) (ap (_∷_ (getD s j nobody)) (unitsOf-nums s (suc j) c (omega arith)))
+unitsOf-nums s j (suc c) h = rw (drop-cons s j noUnit (omega arith)) (ap (_∷_ (getD s j noUnit)) (unitsOf-nums s (suc j) c (omega arith)))
 
 pub member-in : (i j c : ℕ) → j ≤ i → i < j + c → member i (iota j c) ≡ true
 member-in i j zero a b = absurd (omega arith)

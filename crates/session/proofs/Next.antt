@@ -20,7 +20,7 @@ use Rattle.fop.specs.Events.{fopAd, fopLower, fopTick, fopExpiry, adAccept, Sen
 use Rattle.fop.specs.Events.{lower, wordArrives, work, fopWord}
 use Rattle.fop.specs.Answers.{judged, needed}
 use Rattle.session.specs.Ends.{Settings, Within}
-use Rattle.session.specs.Session.{History, adRequest, ticks, lowerSays, wordIn, nobody, places}
+use Rattle.session.specs.Session.{History, adRequest, ticks, lowerSays, wordIn, noUnit, places}
 use Rattle.session.specs.Claims.{IsOutstanding, outstanding, remaining, member, nextUnit, serves, Marked}
 use Rattle.session.specs.Stronger.{inService}
 use Rattle.fop.specs.Events as fop
@@ -32,7 +32,7 @@ use Rattle.session.proofs.Values.{Live, live, word, same-sent, new-sent
 use Rattle.session.proofs.Rows.{modeOf}
 use Rattle.session.proofs.Queue.{found}
 use Rattle.session.proofs.Sender.{acks}
-use Rattle.session.proofs.Inv.{Inv, Side, presetOf, enter, alerting, goes-is, hears, fine}
+use Rattle.session.proofs.Inv.{Inv, Side, presetOf, enter, alerting, goes-is, word-read, fine}
 
 -- the histories; the invariant says that the receiver never locks out
 abbrev pub historyOf : Session → History
@@ -59,7 +59,7 @@ pub record Resent (u : Fdu) (σ τ : Session) : Type 0 where
   pub counted : τ .sent ≡ σ .sent
   pub place : ℕ
   pub out : IsOutstanding (historyOf σ) place
-  pub is : u ≡ getD (σ .sent) place nobody
+  pub is : u ≡ getD (σ .sent) place noUnit
 
 -- a fact in the states that serve: S1 and S2
 pub in-serving : (P : State → Type 0) → P S1 → P S2 → (s : State) → serves s ≡ true → P s
@@ -126,28 +126,28 @@ module _ (set : Settings) (σ : Session) (I : Inv set σ) (sv : inService (σ .f
       )
 
   -- a unit of the queue by its place in Sent
-  queue-unit : (j : ℕ) → getD (fdus (σ .fop .sentQueue)) j nobody ≡ getD (σ .sent) (length (σ .confirmed) + j) nobody
+  queue-unit : (j : ℕ) → getD (fdus (σ .fop .sentQueue)) j noUnit ≡ getD (σ .sent) (length (σ .confirmed) + j) noUnit
   queue-unit j =
-      queue-at (length (σ .confirmed)) (σ .sent) [] (fdus (σ .fop .sentQueue)) (lv .cut) j ∙ ap (λ (k : ℕ). getD (σ .sent) k nobody) (omega arith)
+      queue-at (length (σ .confirmed)) (σ .sent) [] (fdus (σ .fop .sentQueue)) (lv .cut) j ∙ ap (λ (k : ℕ). getD (σ .sent) k noUnit) (omega arith)
 
   -- an outstanding unit by its place in the queue
   out-unit : (i : ℕ) → IsOutstanding (historyOf σ) i
       → (i - length (σ .confirmed) < length (fdus (σ .fop .sentQueue)))
-      × (getD (fdus (σ .fop .sentQueue)) (i - length (σ .confirmed)) nobody ≡ getD (σ .sent) i nobody)
+      × (getD (fdus (σ .fop .sentQueue)) (i - length (σ .confirmed)) noUnit ≡ getD (σ .sent) i noUnit)
   out-unit i o =
       let from : length (σ .confirmed) ≤ i = out-from i o in
       let ln = queue-length (length (σ .confirmed)) (σ .sent) [] (fdus (σ .fop .sentQueue)) (lv .cut) in (
         omega (arith, ln, from, o .0),
-        queue-unit (i - length (σ .confirmed)) ∙ ap (λ (k : ℕ). getD (σ .sent) k nobody) (omega arith),
+        queue-unit (i - length (σ .confirmed)) ∙ ap (λ (k : ℕ). getD (σ .sent) k noUnit) (omega arith),
       )
 
   -- the j-th unit of the queue is sent again
-  pub resends : (w : Work) (u : Fdu) (j : ℕ) → j < length (fdus (σ .fop .sentQueue)) → u ≡ getD (fdus (σ .fop .sentQueue)) j nobody → w .frames ≡ AD u ∷ []
+  pub resends : (w : Work) (u : Fdu) (j : ℕ) → j < length (fdus (σ .fop .sentQueue)) → u ≡ getD (fdus (σ .fop .sentQueue)) j noUnit → w .frames ≡ AD u ∷ []
       → Resent u σ (answered (set .n) w σ)
   unfolding answered
   resends w u j b e f =
       let o = queue-out j b in
-      let eu : u ≡ getD (σ .sent) (length (σ .confirmed) + j) nobody = e ∙ queue-unit j in
+      let eu : u ≡ getD (σ .sent) (length (σ .confirmed) + j) noUnit = e ∙ queue-unit j in
       record {
         down = rw f;
         counted = rw f (same-sent (set .n) (σ .sent) u (length (σ .confirmed) + j) (I .base .num) (o .0) (omega (arith, I .base)) eu);
@@ -192,7 +192,7 @@ word-step set vw σ I w ws lent comes r =
     let wd : Wds (set .n) (length (σ .confirmed)) (length (σ .accepted)) (w ∷ ws) = rw comes at (I .words) in
     ap (λ (l : List Word). wordCome set lent l σ) comes
     ∙ sender-is set (wordArrives (wordOctets (set .own) w)) lent (channels (σ .frames) ws σ) (fine set vw w (wd .3) (omega (arith, wd .1))) r
-    ∙ ap (λ (x : Work). answered (set .n) x (channels (σ .frames) ws σ)) (hears set vw w (σ .fop) (wd .3) (omega (arith, wd .1)))
+    ∙ ap (λ (x : Work). answered (set .n) x (channels (σ .frames) ws σ)) (word-read set vw w (σ .fop) (wd .3) (omega (arith, wd .1)))
 
 -- Look for FDU sends the unit waiting, where none is marked and the window has room
 look-is : (w : Work) (o : List ℕ) → w .fop .out .ad ≡ true → firstMarked (w .fop .sentQueue) ≡ none → offset (w .fop .vs) (w .fop .nnr) < w .fop .preset .k
@@ -257,7 +257,7 @@ ready-new set σ I o lent r sv m k w =
 
 -- the timer expires
 getD-mark : (q : List Entry) (j : ℕ) → j < length (fdus q)
-    → getD (markAll q) j (record { fdu = nobody; marked = false }) ≡ record { fdu = getD (fdus q) j nobody; marked = true }
+    → getD (markAll q) j (record { fdu = noUnit; marked = false }) ≡ record { fdu = getD (fdus q) j noUnit; marked = true }
 getD-mark [] j h = absurd (omega arith)
 getD-mark (e ∷ q) zero h = refl
 getD-mark (e ∷ q) (suc j) h = getD-mark q j (omega arith)
@@ -297,7 +297,7 @@ module _ (set : Settings) (σ : Session) (I : Inv set σ) (sv : inService (σ .f
   pub ticked : (y : FopEvent) (v : ℕ) (f : Fop) → f .sentQueue ≡ σ .fop .sentQueue → (i : ℕ) (q : List Entry) → σ .fop .sentQueue ≡ q → (w : Work)
       → (w .fop .sentQueue ≡ (expired y v f) .fop .sentQueue) → w .frames ≡ (expired y v f) .frames → IsOutstanding (historyOf σ) i → (b : Bool)
       → f .out .ad ≡ b
-      → Resent (getD (σ .sent) i nobody) σ (answered (set .n) w σ) ⊎ Marked (getD (σ .sent) i nobody) (w .fop)
+      → Resent (getD (σ .sent) i noUnit) σ (answered (set .n) w σ) ⊎ Marked (getD (σ .sent) i noUnit) (w .fop)
   ticked y v f fq i q e w wq wf o false a =
       let j : ℕ = i - length (σ .confirmed) in
       let u = out-unit set σ I sv i o in
@@ -311,21 +311,21 @@ module _ (set : Settings) (σ : Session) (I : Inv set σ) (sv : inService (σ .f
   ticked y v f fq i (x ∷ q) e w wq wf o true a = go (eqb i (length (σ .confirmed))) refl
     where
       u0 : (i - length (σ .confirmed) < length (fdus (σ .fop .sentQueue)))
-          × (getD (fdus (σ .fop .sentQueue)) (i - length (σ .confirmed)) nobody ≡ getD (σ .sent) i nobody)
+          × (getD (fdus (σ .fop .sentQueue)) (i - length (σ .confirmed)) noUnit ≡ getD (σ .sent) i noUnit)
       u0 = out-unit set σ I sv i o
 
-      u : (i - length (σ .confirmed) < length (fdus (x ∷ q))) × (getD (fdus (x ∷ q)) (i - length (σ .confirmed)) nobody ≡ getD (σ .sent) i nobody)
+      u : (i - length (σ .confirmed) < length (fdus (x ∷ q))) × (getD (fdus (x ∷ q)) (i - length (σ .confirmed)) noUnit ≡ getD (σ .sent) i noUnit)
       u = rw e at u0
 
       from : length (σ .confirmed) ≤ i
       from = out-from set σ I sv i o
 
-      go : (b : Bool) → eqb i (length (σ .confirmed)) ≡ b → Resent (getD (σ .sent) i nobody) σ (answered (set .n) w σ)
-          ⊎ Marked (getD (σ .sent) i nobody) (w .fop)
+      go : (b : Bool) → eqb i (length (σ .confirmed)) ≡ b → Resent (getD (σ .sent) i noUnit) σ (answered (set .n) w σ)
+          ⊎ Marked (getD (σ .sent) i noUnit) (w .fop)
       go true b =
           let z : i - length (σ .confirmed) ≡ 0 = omega (arith, eqb-true i (length (σ .confirmed)) b) in
-          let ux : x .fdu ≡ getD (σ .sent) i nobody = rw z at (u .1) in
-          inl (resends set σ I sv w (getD (σ .sent) i nobody) (i - length (σ .confirmed)) (u0 .0) (sym (u0 .1))
+          let ux : x .fdu ≡ getD (σ .sent) i noUnit = rw z at (u .1) in
+          inl (resends set σ I sv w (getD (σ .sent) i noUnit) (i - length (σ .confirmed)) (u0 .0) (sym (u0 .1))
           (wf ∙ expired-on y v f x q a (fq ∙ e) .1 ∙ ap (λ (y : Fdu). AD y ∷ []) ux))
       go false b =
           let ne : i ≢ length (σ .confirmed) = eqb-false i (length (σ .confirmed)) b in
@@ -333,7 +333,7 @@ module _ (set : Settings) (σ : Session) (I : Inv set σ) (sv : inService (σ .f
           let z : i - length (σ .confirmed) ≡ suc (i - length (σ .confirmed) - 1) = omega (arith, from) in
           let l : i - length (σ .confirmed) - 1 < length (fdus q) = omega (arith, u .0) in
           let qs : w .fop .sentQueue ≡ record { fdu = x .fdu; marked = false } ∷ markAll q = wq ∙ expired-on y v f x q a (fq ∙ e) .0 in
-          let ux : getD (fdus q) j nobody ≡ getD (σ .sent) i nobody = rw z at (u .1) in
+          let ux : getD (fdus q) j noUnit ≡ getD (σ .sent) i noUnit = rw z at (u .1) in
           inr (record {
             place = suc j;
             on = rw (qs, length-mark q) (omega arith);
@@ -342,7 +342,7 @@ module _ (set : Settings) (σ : Session) (I : Inv set σ) (sv : inService (σ .f
 
 pub expires : (set : Settings) (σ : Session) → Inv set σ → (i lent : ℕ) → needed (set .own) fop.tick (σ .fop) ≤ lent → serves (σ .fop .state) ≡ true
     → σ .fop .clock .timer ≡ 1 → σ .fop .clock .transmissionCount < set .limit → IsOutstanding (historyOf σ) i
-    → Resent (getD (σ .sent) i nobody) σ (step set (ticks lent) σ) ⊎ Marked (getD (σ .sent) i nobody) ((step set (ticks lent) σ) .fop)
+    → Resent (getD (σ .sent) i noUnit) σ (step set (ticks lent) σ) ⊎ Marked (getD (σ .sent) i noUnit) ((step set (ticks lent) σ) .fop)
 unfolding step stepWith work judged answered
 expires set σ I i lent r sv t c o =
     let e = tick-is (σ .fop) sv t (omega (arith, c, ap (λ (p : Preset). p .transmissionLimit) (I .isSet))) (alerting set σ I) in

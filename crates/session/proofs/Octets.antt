@@ -1,31 +1,36 @@
 -- What is written reads back: frames of legal units (by crate frame's `frame-back` and `data-back`) and control words (by crate clcw's
 -- `word-back`).
-use mathlib.Core.Path.{_≡_, ap, _∙_}
-use mathlib.Core.Bool.{Bool, true, _&&_}
+use mathlib.Core.Path.{_≡_, refl, ap, _∙_}
+use mathlib.Core.Bool.{Bool, true, false, _&&_}
 use mathlib.Core.List.{List, [], _∷_, append-nil}
+use mathlib.Core.Option.{none, some}
 use Prim.Native.Nat.{ℕ, _+_, _*_, _≤_, _<_}
 use native.Mathlib.Omega.{arith}
 use lib.Dec.{leb, ltb}
 use lib.ListN.{length}
-use borrow.Author.Tests.{leb-true, ltb-true, lt-ltb}
-use Rattle.base.specs.Choice.{pick}
+use borrow.Author.Tests.{leb-true, le-leb, ltb-true, lt-ltb}
+use Rattle.base.specs.Choice.{pick, must}
+use Rattle.base.specs.Limits.{largestChannel}
+use Rattle.base.specs.Outcome.{Outcome.done, Outcome.refused}
 use Rattle.base.specs.Octets.{Octets}
 use Rattle.base.specs.Flags.{bitOf}
 use Rattle.base.proofs.Tests.{bit-le}
-use Rattle.fop.specs.Units.{Fdu, Frame, AD, BD, Word, valid, Own, areOctets, legal, written, wordOctets, readWord, heard}
+use Rattle.fop.specs.Units.{Fdu, Frame, AD, BD, Word, valid, Own, areOctets, legal, written, wordOctets, readWord, wordReceived}
 use Rattle.frame.specs.Frame.{frameOf, dataOf}
 use Rattle.frame.specs.Answers.{readingOf, partOf}
 use Rattle.frame.specs.declared.Kind.{Kind}
 use Rattle.frame.specs.declared.Kind.the-variants as kind
-use Rattle.frame.specs.declared.Reading.the-variants as reading
+use Rattle.frame.specs.declared.FrameReading.the-variants as reading
 use Rattle.frame.proofs.Back as fback
-use Rattle.clcw.specs.Clcw.{clcwOf}
+use Rattle.clcw.specs.Clcw.{clcwOf, writing}
 use Rattle.clcw.specs.Answers as wordReading
 use Rattle.clcw.specs.declared.Clcw.{Clcw}
-use Rattle.clcw.specs.declared.Reading.the-variants as clcwReading
+use Rattle.clcw.specs.declared.WordReading.the-variants as clcwReading
 use Rattle.clcw.proofs.Word as word
 use Rattle.clcw.proofs.Back as cback
 use Rattle.session.specs.Frames.{read}
+use Rattle.session.specs.Receiver.{wordLength, WordAnswer, wordTold}
+use Rattle.session.specs.Ends.{largestCounter}
 use Rattle.session.proofs.Choices.{and-both}
 
 pub octets-are : (o : List ℕ) → areOctets o ≡ true → Octets o
@@ -118,4 +123,18 @@ module _ (own : Own) (sc : own .spacecraft ≤ 1023) (ch : own .channel ≤ 63) 
   pub word-back : (w : Word) → w .counter ≤ 3 → w .nr < 256 → readWord own (wordOctets own w) ≡ valid w
   unfolding readWord wordOctets
   word-back w c b =
-      ap (λ (t : Bool). heard (pick t (wordReading.readingOf (clcwOf (clcw w)) (own .channel)) clcwReading.Length)) (word-octets w c b) ∙ ap heard (cback.word-back (clcw w) ch c b)
+      ap (λ (t : Bool). wordReceived (pick t (wordReading.readingOf (clcwOf (clcw w)) (own .channel)) clcwReading.Length)) (word-octets w c b) ∙ ap wordReceived (cback.word-back (clcw w) ch c b)
+
+-- what is told of a word's octets where its room is lent, and where it is not
+abbrev pub toldIf : Bool → List ℕ → WordAnswer
+toldIf lent octets = pick lent (record { refusal = 0; word = some octets }) (record { refusal = 11; word = none })
+
+-- a word whose channel and counter are within their limits is refused for want of room only
+pub word-told : (c : Clcw) (lent : ℕ) → c .channel ≤ largestChannel → c .counter ≤ largestCounter
+    → wordTold (writing c lent) ≡ toldIf (leb wordLength lent) (clcwOf c)
+unfolding writing
+word-told c lent h k = rw (le-leb (c .channel) largestChannel h, le-leb (c .counter) largestCounter k) (go (leb wordLength lent))
+  where
+    go : (b : Bool) → wordTold (must b (refused 11 0) (done (clcwOf c) tt)) ≡ toldIf b (clcwOf c)
+    go true = refl
+    go false = refl

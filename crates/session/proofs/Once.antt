@@ -10,14 +10,14 @@ use borrow.Author.Tests.{eq-eqb, le-ltb}
 use lib.Dec.{T, eqb}
 use Rattle.base.specs.Choice.{pick}
 use Rattle.base.specs.Modulo.{advanced}
-use Rattle.fop.specs.Units.{Fdu, Frame, AD, BD, Unlock, SetVR, Refused, Own, Word, Heard, valid, invalid, other, readWord, wordOctets}
+use Rattle.fop.specs.Units.{Fdu, Frame, AD, BD, Unlock, SetVR, Refused, Own, Word, WordReceived, valid, invalid, other, readWord, wordOctets}
 use Rattle.fop.specs.Table.{Action, Cell, cell, ifNotSuspended, NotApplicable, FopEvent, table78, cell78, Ignore, Accept, Reject, Confirm, RejectAd}
 use Rattle.fop.specs.Table.{AcceptBd, RejectBd, AddToWaitQueue, LookForFdu, LookForDirective, RemoveAcknowledgedFrames, InitiateAdRetransmission, InitiateBcRetransmission}
 use Rattle.fop.specs.Table.{ReleaseBcFrame, CancelTimer, StartTimer, Alert, Initialise, TransmitUnlock, TransmitSetVr, TransmitBd, SetSuspendState, Suspend, Resume}
 use Rattle.fop.specs.Table.{SetVs, SetNnr, SetK, SetT1Initial, SetTransmissionLimit, SetTimeoutType, AdOutReady, BcOutReady, BdOutReady}
 use Rattle.fop.specs.Variables.{Entry, Fop, Work, begin}
 use Rattle.fop.specs.Machine.{firstMarked, unacknowledged, isAcknowledged, countFor, markBc, perform, performCell, sendNext, sendWaiting, transmitAd, lookForDirective, removeAcknowledged, fopDo}
-use Rattle.fop.specs.Events.{when, first, Seen, wordLines, wordEvent, seen, fopWord, fopAd, fopBd, expiryLines, fopExpiry, fopTick, fopLower, directiveEvent, fopDirective, fopHeard, isEmpty, SenderEvent, requestAd, requestBd, lower, directive, wordArrives, work}
+use Rattle.fop.specs.Events.{when, first, Seen, wordLines, wordEvent, seen, fopWord, fopAd, fopBd, expiryLines, fopExpiry, fopTick, fopLower, directiveEvent, fopDirective, fopReceived, isEmpty, SenderEvent, requestAd, requestBd, lower, directive, wordArrives, work}
 use Rattle.fop.specs.Events as fop
 use Rattle.session.specs.Ends.{Settings, startSender}
 use Rattle.session.specs.Session.{Event, adRequest, bdRequest, ticks, lowerSays, terminate, wordIn, wordLost, wordMade, frameIn, frameLost, release}
@@ -204,11 +204,11 @@ word-once v s e = go (s .once) e
         FopEvent.E102 tt
     go false q = absurd (false≢true q)
 
-heard-once : (x : Heard) (f : Fop) → Once f → Stays (f .vs) (fopHeard x f)
-unfolding fopHeard fopWord wordEvent table78 once
-heard-once (valid w) f h = do-once _ [] (w .nr) f (word-once (f .vs) (seen w f) (eq-eqb _ 1 (h .limit))) h
-heard-once invalid f h = do-once _ [] 0 f tt h
-heard-once (other r) f h = (h, refl)
+received-once : (x : WordReceived) (f : Fop) → Once f → Stays (f .vs) (fopReceived x f)
+unfolding fopReceived fopWord wordEvent table78 once
+received-once (valid w) f h = do-once _ [] (w .nr) f (word-once (f .vs) (seen w f) (eq-eqb _ 1 (h .limit))) h
+received-once invalid f h = do-once _ [] 0 f tt h
+received-once (other r) f h = (h, refl)
 
 -- an event of the session
 pub work-once : (own : Own) (ws : List (List ℕ)) (e : SenderEvent) (f : Fop) → InSession ws e → Once f → Stays (f .vs) (work own e f)
@@ -218,14 +218,13 @@ work-once own ws (requestBd o) f i h = do-once _ o 0 f (first-all (rowOnce (f .v
 work-once own ws fop.tick f i h = tick-once f h
 work-once own ws (lower l) f i h = do-once _ [] 0 f (lower-all (rowOnce (f .vs)) tt l) h
 work-once own ws (directive d v) f i h =
-    subst (λ (x : ℕ). Stays (f .vs) (fopDirective x v f)) (sym (i .0))
-    (subst (λ (x : ℕ). Stays (f .vs) (fopDirective 5 x f)) (sym (i .1)) (do-once FopEvent.E29 [] 0 f tt h))
-work-once own ws (wordArrives s) f i h = heard-once (readWord own s) f h
+    subst (λ (x : ℕ). Stays (f .vs) (fopDirective x v f)) (sym i) (do-once FopEvent.E29 [] v f tt h)
+work-once own ws (wordArrives s) f i h = received-once (readWord own s) f h
 
 -- The session's sender at a limit of 1, at the start and after each event.
-pub start-once : (set : Settings) → set .limit ≡ 1 → Once (begun set .fop)
+pub start-once : (set : Settings) → 1 ≤ set .count → set .limit ≡ 1 → Once (begun set .fop)
 unfolding startSender
-start-once set l = record { limit = l; alerting = refl; counted = omega arith; unmarked = refl; noBc = refl }
+start-once set k l = record { limit = l; alerting = refl; counted = k; unmarked = refl; noBc = refl }
 
 module _ (set : Settings) where
   sender-once : (ws : List (List ℕ)) (e : SenderEvent) (lent : ℕ) (κ : Session) → InSession ws e → Once (κ .fop) → Once ((sender set e lent κ) .fop)
@@ -251,10 +250,10 @@ module _ (set : Settings) where
   step-once (bdRequest u lent) κ o = sender-once [] (requestBd u) lent κ tt o
   step-once (ticks lent) κ o = sender-once [] fop.tick lent κ tt o
   step-once (lowerSays l lent) κ o = sender-once [] (lower l) lent κ tt o
-  step-once (terminate lent) κ o = sender-once [] (directive 5 0) lent κ (refl, refl) o
+  step-once (terminate v lent) κ o = sender-once [] (directive 5 v) lent κ refl o
   step-once (wordIn lent) κ o = word-in lent (κ .words) κ o
   step-once wordLost κ o = o
-  step-once wordMade κ o = o
+  step-once (wordMade lent) κ o = o
   step-once frameIn κ o = frame-in (free set κ) (κ .frames) κ o
   step-once frameLost κ o = o
   step-once release κ o = by-pick (λ (τ : Session). Once (τ .fop)) (isHeld κ) (λ b. o) (λ b. o)

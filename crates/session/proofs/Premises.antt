@@ -102,12 +102,12 @@ expires-list = adRequest (17 ∷ []) 256 ∷ lowerSays adAccept 256 ∷ ticks 25
 
 -- with a window of 1 full
 abbrev clears-list : List Event
-clears-list = adRequest (17 ∷ []) 256 ∷ lowerSays adAccept 256 ∷ adRequest (34 ∷ 35 ∷ []) 256 ∷ frameIn ∷ wordMade ∷ []
+clears-list = adRequest (17 ∷ []) 256 ∷ lowerSays adAccept 256 ∷ adRequest (34 ∷ 35 ∷ []) 256 ∷ frameIn ∷ wordMade 4 ∷ []
 
 -- resending without wait: the first of two units was lost, a word asked for both, and the first is on its way again
 abbrev resending-list : List Event → List Event
 resending-list es =
-    adRequest (17 ∷ []) 256 ∷ lowerSays adAccept 256 ∷ adRequest (34 ∷ 35 ∷ []) 256 ∷ lowerSays adAccept 256 ∷ frameLost ∷ frameIn ∷ wordMade
+    adRequest (17 ∷ []) 256 ∷ lowerSays adAccept 256 ∷ adRequest (34 ∷ 35 ∷ []) 256 ∷ lowerSays adAccept 256 ∷ frameLost ∷ frameIn ∷ wordMade 4
     ∷ wordIn 256 ∷ es
 
 -- the second is too, and a third unit is offered
@@ -121,7 +121,7 @@ resending-expires = resending-list (ticks 256 ∷ [])
 abbrev resending-clears : List Event
 resending-clears =
     resending-list
-    (lowerSays adAccept 256 ∷ lowerSays adAccept 256 ∷ adRequest (51 ∷ 52 ∷ []) 256 ∷ frameIn ∷ frameIn ∷ wordMade ∷ [])
+    (lowerSays adAccept 256 ∷ lowerSays adAccept 256 ∷ adRequest (51 ∷ 52 ∷ []) 256 ∷ frameIn ∷ frameIn ∷ wordMade 4 ∷ [])
 
 pub premises : Accepts × Offered
     × ReadyAgain set again-list S1 one × ReadyAgain wide (resending-list []) S2 (record { ns = 255; octets = 34 ∷ 35 ∷ [] })

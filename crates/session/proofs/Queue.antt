@@ -13,7 +13,7 @@ use Rattle.base.specs.Modulo.{advanced, offset}
 use Rattle.fop.specs.Units.{Fdu}
 use Rattle.fop.specs.Variables.{Entry}
 use Rattle.fop.specs.Machine.{fdus, markAll, firstMarked, unmark, acknowledged, unacknowledged}
-use Rattle.session.specs.Session.{nobody}
+use Rattle.session.specs.Session.{noUnit}
 
 -- the queue's units
 pub fdus-mark : (q : List Entry) → fdus (markAll q) ≡ fdus q
@@ -33,18 +33,18 @@ fdus-append [] r = refl
 fdus-append (e ∷ q) r = ap (_∷_ (e .fdu)) (fdus-append q r)
 
 -- the oldest marked unit stands on the queue
-pub found : (q : List Entry) (u : Fdu) → firstMarked q ≡ some u → (i : ℕ) × (i < length (fdus q)) × (u ≡ getD (fdus q) i nobody)
+pub found : (q : List Entry) (u : Fdu) → firstMarked q ≡ some u → (i : ℕ) × (i < length (fdus q)) × (u ≡ getD (fdus q) i noUnit)
 found [] u h = let z : _≡_ {A = ℕ} 0 1 = cc in absurd (omega arith)
 found (e ∷ q) u h = go (found q u) (e .marked) h
   where
-    go : (firstMarked q ≡ some u → (i : ℕ) × (i < length (fdus q)) × (u ≡ getD (fdus q) i nobody)) → (b : Bool)
-        → pick b (some (e .fdu)) (firstMarked q) ≡ some u → (i : ℕ) × (i < length (fdus (e ∷ q))) × (u ≡ getD (fdus (e ∷ q)) i nobody)
+    go : (firstMarked q ≡ some u → (i : ℕ) × (i < length (fdus q)) × (u ≡ getD (fdus q) i noUnit)) → (b : Bool)
+        → pick b (some (e .fdu)) (firstMarked q) ≡ some u → (i : ℕ) × (i < length (fdus (e ∷ q))) × (u ≡ getD (fdus (e ∷ q)) i noUnit)
     go f true h = (0, omega arith, cc)
     go f false h = let r = f h in (suc (r .0), omega arith, r .2)
 
 -- what is acknowledged is a first part of a queue numbered from c + j on
 pub ack : (n c nn nr : ℕ) → nn ≡ advanced n c → (q : List Entry) (j : ℕ)
-    → ((i : ℕ) → i < length (fdus q) → (getD (fdus q) i nobody) .ns ≡ advanced n (c + (j + i))) → j + length (fdus q) ≤ 255
+    → ((i : ℕ) → i < length (fdus q) → (getD (fdus q) i noUnit) .ns ≡ advanced n (c + (j + i))) → j + length (fdus q) ≤ 255
     → (acknowledged nn nr q ≡ take (offset nr nn - j) (fdus q)) × (fdus (unacknowledged nn nr q) ≡ drop (offset nr nn - j) (fdus q))
 ack n c nn nr e [] j h b = (nil-take (offset nr nn - j), nil-drop (offset nr nn - j))
   where

@@ -11,6 +11,7 @@ use Rattle.base.specs.Choice.{must}
 use Rattle.fop.specs.Units.{Fdu, Frame, AD, BD, Unlock, SetVR, Refused, legal, written}
 use Rattle.farm.specs.Table.{table, accepts}
 use Rattle.farm.specs.Receiver.{eventOf, unitOf, takes, answered, arrived, byReading, receiveOf, partFor, unitPart, releaseOf}
+use Rattle.farm.proofs.Units.{no-unit}
 use Rattle.farm.specs.declared.State.{State as FarmState}
 use Rattle.farm.specs.declared.State.the-variants.{Open, Wait, Lockout}
 use Rattle.farm.specs.declared.Event.{Event as FarmEvent}
@@ -107,7 +108,8 @@ module _ (set : Settings) (vw : Within set) (κ : Session) (I : Inv set κ) wher
   accepted-is (AD u) fs h =
       ad-cases set vw κ (free set κ) u fs I h
       (λ e. addAccepted (κ .accepted) (AD u) (answerBy e (κ .farm .state) (AD u)) ≡ taken (AD u) (isHanded (unitOf e (κ .farm .state))) (κ .accepted))
-      (λ i p. e1-adds (κ .accepted) u (κ .farm .state)) (λ i p. refl) (λ i. refl) (λ i. refl)
+      (λ i p. e1-adds (κ .accepted) u (κ .farm .state)) (λ i p. rw (no-unit farm.E2 (κ .farm .state) refl refl))
+      (λ i. rw (no-unit farm.E3 (κ .farm .state) refl refl)) (λ i. rw (no-unit farm.E4 (κ .farm .state) refl refl))
   accepted-is (BD o) fs h = refl
   accepted-is Unlock fs h = refl
   accepted-is (SetVR v) fs h = refl
@@ -145,7 +147,8 @@ unfolding frameEvent
 used-is set vw κ I b (AD u) fs h =
     ad-cases set vw κ (free set κ) u fs I h
     (λ e. used κ + takes (unitOf e (κ .farm .state)) ≡ length (taken (AD u) (isHanded (unitOf e (κ .farm .state))) (κ .accepted)) - κ .released)
-    (λ i p. e1-takes (κ .accepted) u (κ .released) b (κ .farm .state)) (λ i p. omega arith) (λ i. omega arith) (λ i. omega arith)
+    (λ i p. e1-takes (κ .accepted) u (κ .released) b (κ .farm .state)) (λ i p. rw (no-unit farm.E2 (κ .farm .state) refl refl) (omega arith))
+    (λ i. rw (no-unit farm.E3 (κ .farm .state) refl refl) (omega arith)) (λ i. rw (no-unit farm.E4 (κ .farm .state) refl refl) (omega arith))
 used-is set vw κ I b (BD o) fs h = e6-takes (used κ) (κ .farm .state)
 used-is set vw κ I b Unlock fs h = absurd h
 used-is set vw κ I b (SetVR v) fs h = absurd h

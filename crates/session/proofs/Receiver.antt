@@ -21,8 +21,9 @@ use Rattle.farm.specs.declared.State.the-variants.{Open, Wait, Lockout}
 use Rattle.farm.specs.declared.Event.{Event as FarmEvent}
 use Rattle.farm.specs.declared.Event.the-variants.{E1, E2, E3, E4, E5, E6, E10}
 use Rattle.farm.specs.declared.Variables.{Variables}
+use Rattle.session.specs.Receiver.{wordLength}
 use Rattle.session.specs.Ends.{Settings, Within, startSender, startReceiver}
-use Rattle.session.specs.Session.{nobody, rest, Event, adRequest, bdRequest, ticks, lowerSays, terminate, wordIn, wordLost, wordMade, frameIn, frameLost, release}
+use Rattle.session.specs.Session.{noUnit, rest, Event, adRequest, bdRequest, ticks, lowerSays, terminate, wordIn, wordLost, wordMade, frameIn, frameLost, release}
 use Rattle.session.specs.Stronger.{Sub, none-left}
 use Rattle.session.proofs.Choices.{by-pick, never}
 use Rattle.session.proofs.Core.{Session, channels, receiver, frameCome, frameEvent, isHanded, releases, taken, takenBd, report, stepWith, step, free}
@@ -44,7 +45,7 @@ unchanged set σ v b fs r I f s h =
 
 -- one that accepted the expected unit
 accepted : (set : Settings) (σ : Session) (v : Variables) (u : Fdu) (fs : List Frame) → Inv set σ
-    → u ≡ getD (σ .sent) (length (σ .accepted)) nobody → length (σ .accepted) < length (σ .sent)
+    → u ≡ getD (σ .sent) (length (σ .accepted)) noUnit → length (σ .accepted) < length (σ .sent)
     → Fly (set .k) (σ .sent) (length (σ .accepted)) (suc (length (σ .accepted))) fs → Sub (σ .acceptedBd ++ bdsOf fs) (σ .sentBd)
     → Rcv set v (suc (length (σ .accepted))) (length (σ .acceptedBd))
     → Inv set (receiver v (σ .accepted ++ (u ∷ [])) (σ .acceptedBd) (σ .released) fs σ)
@@ -54,7 +55,7 @@ accepted set σ v u fs I eu b f s h =
     record {
       base = record {
         num = I .base .num;
-        order = rw (la, take-suc (σ .sent) (length (σ .accepted)) nobody b, ← eu, ← I .base .order);
+        order = rw (la, take-suc (σ .sent) (length (σ .accepted)) noUnit b, ← eu, ← I .base .order);
         behind = omega arith;
         truly = omega arith;
         room = I .base .room;
@@ -84,7 +85,7 @@ at s v = record { state = s; vr = v .vr; lockout = v .lockout; wait = v .wait; r
 
 -- the receiver's part with another state, other flags and counter
 rcv-with : {set : Settings} {v : Variables} {A D : ℕ} → Rcv set v A D → (s : FarmState) (l w r : Bool) (c E : ℕ) → l ≡ false → isLocked s ≡ false
-    → c ≡ E % 4
+    → c ≡ (set .counter + E) % 4
     → Rcv set (record { state = s; vr = v .vr; lockout = l; wait = w; retransmit = r; counter = c }) A E
 rcv-with h s l w r c E e u k = record { isVr = h .isVr; unlocked = u; noLock = e; counted = k }
 
@@ -98,7 +99,7 @@ module _ (set : Settings) (σ : Session) (u : Fdu) (fs : List Frame) (I : Inv se
         → Inv set (receiver v (σ .accepted) (σ .acceptedBd) (σ .released) fs σ)
     stays v h = unchanged set σ v (σ .acceptedBd) fs (σ .released) I fl sb h
 
-    takes : u ≡ getD (σ .sent) (length (σ .accepted)) nobody → length (σ .accepted) < length (σ .sent)
+    takes : u ≡ getD (σ .sent) (length (σ .accepted)) noUnit → length (σ .accepted) < length (σ .sent)
         → Fly (set .k) (σ .sent) (length (σ .accepted)) (suc (length (σ .accepted))) fs
         → (s : FarmState) → isLocked s ≡ false → R E1 s
     unfolding table stepOf performAll perform accepts
@@ -180,11 +181,13 @@ bd-cell : (set : Settings) (σ : Session) (o : List ℕ) (fs : List Frame) → I
     → Inv set (receiver (stepOf E6 0 (at s (σ .farm))) (σ .accepted) (takenBd (BD o) (isHanded (unitOf E6 s)) (σ .acceptedBd)) (σ .released) fs σ)
 unfolding table stepOf performAll perform accepts
 bd-cell set σ o fs I fl sb Open l =
-    let k : (σ .farm .counter + 1) % 4 ≡ length (σ .acceptedBd ++ (o ∷ [])) % 4 = omega (arith, length-append (σ .acceptedBd) (o ∷ []), I .receiver .counted) in
+    let k : (σ .farm .counter + 1) % 4 ≡ (set .counter + length (σ .acceptedBd ++ (o ∷ []))) % 4 =
+    omega (arith, length-append (σ .acceptedBd) (o ∷ []), I .receiver .counted) in
     unchanged set σ _ (σ .acceptedBd ++ (o ∷ [])) fs (σ .released) I fl (bd-accepted (σ .acceptedBd) (σ .sentBd) o fs sb)
     (rcv-with (I .receiver) Open _ _ _ _ _ (I .receiver .noLock) refl k)
 bd-cell set σ o fs I fl sb Wait l =
-    let k : (σ .farm .counter + 1) % 4 ≡ length (σ .acceptedBd ++ (o ∷ [])) % 4 = omega (arith, length-append (σ .acceptedBd) (o ∷ []), I .receiver .counted) in
+    let k : (σ .farm .counter + 1) % 4 ≡ (set .counter + length (σ .acceptedBd ++ (o ∷ []))) % 4 =
+    omega (arith, length-append (σ .acceptedBd) (o ∷ []), I .receiver .counted) in
     unchanged set σ _ (σ .acceptedBd ++ (o ∷ [])) fs (σ .released) I fl (bd-accepted (σ .acceptedBd) (σ .sentBd) o fs sb)
     (rcv-with (I .receiver) Wait _ _ _ _ _ (I .receiver .noLock) refl k)
 bd-cell set σ o fs I fl sb Lockout l = never l
@@ -251,10 +254,11 @@ stepWith-keeps set vw room held (adRequest o lent) σ I = ad-keeps set lent o σ
 stepWith-keeps set vw room held (bdRequest o lent) σ I = bd-keeps set lent o σ I
 stepWith-keeps set vw room held (ticks lent) σ I = ticks-keeps set lent σ I
 stepWith-keeps set vw room held (lowerSays l lent) σ I = lower-keeps set lent l σ I
-stepWith-keeps set vw room held (terminate lent) σ I = terminate-keeps set lent σ I
+stepWith-keeps set vw room held (terminate v lent) σ I = terminate-keeps set v lent σ I
 stepWith-keeps set vw room held (wordIn lent) σ I = word-keeps set vw lent σ (σ .words) I (I .words)
 stepWith-keeps set vw room held wordLost σ I = words-are set σ (rest (σ .words)) I (rest-words (set .n) _ _ (σ .words) (I .words))
-stepWith-keeps set vw room held wordMade σ I = words-are set σ _ I (reported set σ I)
+stepWith-keeps set vw room held (wordMade lent) σ I =
+    words-are set σ _ I (by-pick (Wds (set .n) _ _) (leb wordLength lent) (λ t. reported set σ I) (λ t. I .words))
 stepWith-keeps set vw room held frameIn σ I = frame-keeps set vw σ room (σ .frames) I (I .base .fly) (I .bd)
 stepWith-keeps set vw room held frameLost σ I = lost-keeps set σ I
 stepWith-keeps set vw room held release σ I =
@@ -298,6 +302,6 @@ start-inv set vw =
       waiting = tt;
       places = refl;
       words = omega arith;
-      receiver = record { isVr = omega (arith, vw .number); unlocked = refl; noLock = refl; counted = refl };
+      receiver = record { isVr = omega (arith, vw .number); unlocked = refl; noLock = refl; counted = omega (arith, vw .counterMost) };
       bd = none-left;
     }

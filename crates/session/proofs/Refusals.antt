@@ -16,8 +16,8 @@ use Rattle.session.proofs.Choices.{by-pick}
 use Rattle.session.proofs.Receiver.{at}
 use Rattle.base.specs.Choice.{must}
 use Rattle.frame.specs.Answers.{readingOf}
-use Rattle.frame.specs.declared.Reading.{Reading}
-use Rattle.frame.specs.declared.Reading.the-variants as reading
+use Rattle.frame.specs.declared.FrameReading.{FrameReading}
+use Rattle.frame.specs.declared.FrameReading.the-variants as reading
 use Rattle.farm.specs.Table.{table, stepOf, perform, performAll}
 use Rattle.farm.specs.Receiver as farm
 use Rattle.farm.specs.declared.State.{State as FarmState}
@@ -63,7 +63,7 @@ refused-keeps own =
       receiver = keptR;
     }
   where
-    by-reading : (x : Reading) (r : Receiver) → (farm.byReading r x) .refusal ≢ 0 → (farm.byReading r x) .next ≡ r
+    by-reading : (x : FrameReading) (r : Receiver) → (farm.byReading r x) .refusal ≢ 0 → (farm.byReading r x) .next ≡ r
     by-reading (reading.Frame fields) r h = absurd (h refl)
     by-reading (reading.Refused n) r h = e9 n r
 

@@ -1,6 +1,6 @@
 -- Wrong ends that the claims refute: a sender that never sends, one that sends on the first event only, one that never resends, one that
--- confirms what it likes, a receiver that always answers E4; and, by the stronger claims, one whose FARM-B count is made up.
-use mathlib.Core.Path.{_≡_, refl, ap}
+-- confirms what it likes, a receiver that always answers E4, one whose FARM-B count is made up, and one whose report value is.
+use mathlib.Core.Path.{_≡_, refl, ap, _∙_}
 use mathlib.Core.Logic.{_⊎_, inl, inr}
 use mathlib.Core.Bool.{Bool, true, false, false≢true}
 use mathlib.Core.List.{List, [], _∷_}
@@ -13,25 +13,24 @@ use Rattle.clcw.specs.Clcw as clcw
 use Rattle.farm.specs.Receiver as receiver
 use Rattle.farm.specs.declared.Event.the-variants as farm
 use Rattle.session.specs.Session as ses
-use Rattle.fop.specs.Units.{Fdu, Heard, valid, invalid, other}
+use Rattle.fop.specs.Units.{Fdu, WordReceived, valid, invalid, other, readWord}
 use Rattle.fop.specs.Variables.{Fop, Entry}
 use Rattle.fop.specs.Events.{SenderEvent, requestAd, requestBd, tick, lower, directive, wordArrives, adAccept}
 use Rattle.fop.specs.Answers.{Answer, senderAnswer, senderNext}
 use Rattle.farm.specs.declared.Receiver.{Receiver}
 use Rattle.clcw.specs.declared.Clcw.{Clcw}
-use Rattle.session.specs.Receiver.{ReceiverEvent, frameArrives, releaseBuffer, ReceiverAnswer, receiverNext, receiverAnswer, receiverWord}
+use Rattle.session.specs.Receiver.{ReceiverEvent, frameArrives, releaseBuffer, ReceiverAnswer, wordLength, WordAnswer, wordTold, receiverNext, receiverAnswer, receiverWord}
 use Rattle.session.specs.Ends.{Settings, Ends, tables, startSender, startReceiver}
-use Rattle.session.specs.Session.{Event, adRequest, ticks, lowerSays}
+use Rattle.session.specs.Session.{Event, adRequest, ticks, lowerSays, frameIn}
 use Rattle.session.specs.Claims.{Claims, Marked, Resends}
-use Rattle.session.specs.Stronger.{Stronger}
 use Rattle.session.proofs.Trace.{computing, settings, after, withDown, withConfirmed}
 
 abbrev set : Settings
 set = settings 3 2 1 3
 
 -- the tables, but for the sender's answers, the receiver's answers and its control word
-abbrev but-for : (SenderEvent → Answer → Answer) → (ReceiverEvent → ReceiverAnswer → ReceiverAnswer) → (Receiver → List ℕ) → Ends
-but-for f g word = record {
+abbrev changed : (SenderEvent → Answer → Answer) → (ReceiverEvent → ReceiverAnswer → ReceiverAnswer) → (ℕ → Receiver → WordAnswer) → Ends
+changed f g word = record {
   Sender = Fop;
   Receiver = Receiver;
   sender = startSender set;
@@ -44,18 +43,18 @@ but-for f g word = record {
 }
 
 -- but for the sender's answers alone, and but for the receiver's part alone
-abbrev sayer : (SenderEvent → Answer → Answer) → Ends
-sayer f = but-for f (λ e a. a) receiverWord
+abbrev sender-by : (SenderEvent → Answer → Answer) → Ends
+sender-by f = changed f (λ e a. a) receiverWord
 
-abbrev listener : (ReceiverEvent → ReceiverAnswer → ReceiverAnswer) → (Receiver → List ℕ) → Ends
-listener g word = but-for (λ e a. a) g word
+abbrev receiver-by : (ReceiverEvent → ReceiverAnswer → ReceiverAnswer) → (ℕ → Receiver → WordAnswer) → Ends
+receiver-by g word = changed (λ e a. a) g word
 
 abbrev Holds : Ends → List Event → Type 0
 Holds m es = Claims set m (after set m es) (after set (tables set) es)
 
 -- a sender that queues and never sends
 abbrev never-sends : Ends
-never-sends = sayer (λ e a. withDown none a)
+never-sends = sender-by (λ e a. withDown none a)
 
 refuted-sends : Holds never-sends [] → ⊥
 unfolding computing
@@ -91,16 +90,16 @@ unfolding computing
 refuted-first c = let e = c .offered (8 ∷ []) 256 refl (leb→le _ 256 tt) refl refl refl refl (leb→le _ 3 tt) .down in omega (arith, ap length e)
 
 -- a sender that never resends: nothing is handed down when the timer expires
-abbrev quiet-tick : SenderEvent → Answer → Answer
-quiet-tick (requestAd o) a = a
-quiet-tick (requestBd o) a = a
-quiet-tick tick a = withDown none a
-quiet-tick (lower l) a = a
-quiet-tick (directive d v) a = a
-quiet-tick (wordArrives s) a = a
+abbrev no-resending : SenderEvent → Answer → Answer
+no-resending (requestAd o) a = a
+no-resending (requestBd o) a = a
+no-resending tick a = withDown none a
+no-resending (lower l) a = a
+no-resending (directive d v) a = a
+no-resending (wordArrives s) a = a
 
 abbrev never-resends : Ends
-never-resends = sayer quiet-tick
+never-resends = sender-by no-resending
 
 refuted-resends : Holds never-resends first-sent → ⊥
 unfolding computing
@@ -119,19 +118,19 @@ refuted-resends c = go (c .expires 0 256 (leb→le _ 256 tt) refl refl (leb→le
 
 -- a sender whose run of confirmed units is made up
 abbrev confirms-all : Ends
-confirms-all = sayer (λ e a. withConfirmed (record { number = 254; count = 1 }) a)
+confirms-all = sender-by (λ e a. withConfirmed (record { number = 254; count = 1 }) a)
 
 refuted-confirms : Holds confirms-all (adRequest (7 ∷ []) 256 ∷ []) → ⊥
 unfolding computing
 refuted-confirms c = omega (arith, ap length (c .truly .1))
 
 -- a receiver that always answers E4, and so never accepts
-abbrev deaf : ReceiverEvent → ReceiverAnswer → ReceiverAnswer
-deaf (frameArrives s) a = record { refusal = 0; event = some farm.E4; unit = none }
-deaf releaseBuffer a = a
+abbrev always-e4 : ReceiverEvent → ReceiverAnswer → ReceiverAnswer
+always-e4 (frameArrives s) a = record { refusal = 0; event = some farm.E4; unit = none }
+always-e4 releaseBuffer a = a
 
 abbrev never-accepts : Ends
-never-accepts = listener deaf receiverWord
+never-accepts = receiver-by always-e4 receiverWord
 
 refuted-accepts : Holds never-accepts (adRequest (7 ∷ []) 256 ∷ []) → ⊥
 unfolding computing
@@ -139,18 +138,35 @@ refuted-accepts c =
     let e = c .accepts _ [] seven refl refl .1 (refl, refl, leb→le 1 _ tt) in
     omega (arith, ap length e)
 
--- a receiver whose FARM-B count is made up
-abbrev counts-wrong : Ends
-counts-wrong = listener (λ e a. a) (λ r. clcw.clcwOf (one-more (receiver.wordOf r)))
-  where
-    one-more : Clcw → Clcw
-    one-more w = record { channel = w .channel; lockout = w .lockout; wait = w .wait; retransmit = w .retransmit; counter = 1; report = w .report }
+-- a receiver whose control word is made up
+abbrev words-by : (Clcw → Clcw) → Ends
+words-by f = receiver-by (λ e a. a) (λ lent r. wordTold (clcw.writing (f (receiver.wordOf r)) lent))
 
-abbrev counter-of : Heard → ℕ
-counter-of (valid w) = w .counter
-counter-of invalid = 0
-counter-of (other r) = 0
+abbrev with-counts : ℕ → ℕ → Clcw → Clcw
+with-counts counter report w = record { channel = w .channel; lockout = w .lockout; wait = w .wait; retransmit = w .retransmit; counter = counter; report = report }
 
-refuted-count : Stronger set counts-wrong (after set counts-wrong []) (after set (tables set) []) → ⊥
+-- the FARM-B counter and the report value of what is read, and of the oldest word
+abbrev counts-of : WordReceived → ℕ × ℕ
+counts-of (valid w) = (w .counter, w .nr)
+counts-of invalid = (0, 0)
+counts-of (other r) = (0, 0)
+
+abbrev oldest-counts : List (List ℕ) → ℕ × ℕ
+oldest-counts [] = (0, 0)
+oldest-counts (s ∷ ws) = counts-of (readWord (set .own) s)
+
+-- its FARM-B count is 1 at the start already
+refuted-count : Holds (words-by (λ w. with-counts 1 (w .report) w)) [] → ⊥
 unfolding computing
-refuted-count c = let z : _≡_ {A = ℕ} 1 0 = ap counter-of (c .words) in omega arith
+refuted-count c =
+    let w = c .words wordLength (leb→le 4 4 tt) in
+    let z : _≡_ {A = ℕ × ℕ} (1, 254) (0, 254) = ap oldest-counts (w .1) ∙ ap counts-of (w .2) in
+    omega (arith, ap (λ (x : ℕ × ℕ). x .0) z)
+
+-- it reports the number of the start, whatever is accepted, and so confirms nothing
+refuted-report : Holds (words-by (λ w. with-counts (w .counter) 254 w)) (adRequest (7 ∷ []) 256 ∷ frameIn ∷ []) → ⊥
+unfolding computing
+refuted-report c =
+    let w = c .words wordLength (leb→le 4 4 tt) in
+    let z : _≡_ {A = ℕ × ℕ} (0, 254) (0, 255) = ap oldest-counts (w .1) ∙ ap counts-of (w .2) in
+    omega (arith, ap (λ (x : ℕ × ℕ). x .1) z)

@@ -40,16 +40,16 @@ new = record { ns = 254; octets = 2 ∷ [] }
 
 -- the old unit is sent, and denied by Terminate while its frame is under way
 abbrev denied : List Operation
-denied = event (adRequest (1 ∷ []) 256) ∷ event (lowerSays adAccept 256) ∷ event (terminate 256) ∷ []
+denied = event (adRequest (1 ∷ []) 256) ∷ event (lowerSays adAccept 256) ∷ event (terminate 0 256) ∷ []
 
 -- a word reports the number; Set V(S) to it, Initiate with CLCW check, and a clear word ends the check
 abbrev by-check : List Operation
 by-check =
-    event wordMade ∷ event (wordIn 256) ∷ direct 7 254 ∷ direct 2 0 ∷ event wordMade ∷ event (wordIn 256) ∷ []
+    event (wordMade 4) ∷ event (wordIn 256) ∷ direct 7 254 ∷ direct 2 0 ∷ event (wordMade 4) ∷ event (wordIn 256) ∷ []
 
 -- or Initiate with Set V(R), which a word made before ends; its frame is lost behind the old unit's
 abbrev by-set-vr : List Operation
-by-set-vr = event wordMade ∷ direct 4 254 ∷ event (lowerSays bcAccept 256) ∷ event (wordIn 256) ∷ []
+by-set-vr = event (wordMade 4) ∷ direct 4 254 ∷ event (lowerSays bcAccept 256) ∷ event (wordIn 256) ∷ []
 
 -- the new unit is sent, and the old one's frame arrives
 abbrev sent-again : List Operation
@@ -70,7 +70,7 @@ pub record Accident (σ : Linked (tables set)) : Type 0 where
   pub active : σ .sender .state ≡ S1
   pub on-board : σ .history .accepted ≡ old ∷ []
   pub queued : fdus (σ .sender .sentQueue) ≡ new ∷ []
-  pub confirmed : confirming σ ((does (event wordMade) σ) .words) .confirmed ≡ record { number = 254; count = 1 }
+  pub confirmed : confirming σ ((does (event (wordMade 4)) σ) .words) .confirmed ≡ record { number = 254; count = 1 }
   pub discarded : arriving σ (σ .frames) ≡ discarding E4
 
 -- Set V(S) and Initiate with CLCW check

@@ -36,9 +36,9 @@ module _ (set : Settings) (κ : Session) (I : Inv set κ) where
   low = omega (arith, I .base)
 
   -- out of service
-  pub fell : (s : State) → Side (modeOf s) (set .n) (length (κ .confirmed)) (κ .sent) (κ .denied) (fdus (κ .fop .sentQueue)) (κ .fop .vs) (κ .fop .nnr) → s ≡ S6
+  pub initial-denied : (s : State) → Side (modeOf s) (set .n) (length (κ .confirmed)) (κ .sent) (κ .denied) (fdus (κ .fop .sentQueue)) (κ .fop .vs) (κ .fop .nnr) → s ≡ S6
       → κ .denied ≡ iota (length (κ .confirmed)) (length (κ .sent) - length (κ .confirmed))
-  fell s h e =
+  initial-denied s h e =
       let d : Dead (length (κ .confirmed)) (κ .denied) (κ .sent) [] [] (fdus (κ .fop .sentQueue)) =
       subst (λ (x : State). Side (modeOf x) (set .n) (length (κ .confirmed)) (κ .sent) (κ .denied) (fdus (κ .fop .sentQueue)) (κ .fop .vs) (κ .fop .nnr)) e h in
       let a : length (d .after) ≡ length (κ .sent) - length (κ .confirmed) = ap length (d .cut) ∙ length-drop (length (κ .confirmed)) (κ .sent) in
@@ -73,7 +73,7 @@ module _ (set : Settings) (κ : Session) (I : Inv set κ) where
       by (inr e) =
           let z : remaining (κ .confirmed) (κ .denied) 0 S ≡ [] =
           ap (λ (x : List (Option ℕ)). remaining x (κ .denied) 0 S) (I .places)
-          ∙ ap (λ (x : List (Option ℕ)). remaining (iota 0 C) x 0 S) (fell (κ .fop .state) (I .side) e) ∙ left-none C (S - C) 0 S (omega (arith, low)) in
+          ∙ ap (λ (x : List (Option ℕ)). remaining (iota 0 C) x 0 S) (initial-denied (κ .fop .state) (I .side) e) ∙ left-none C (S - C) 0 S (omega (arith, low)) in
           omega (arith, ap length z)
 
   pub standing : inService (κ .fop .state) ≡ true → unitsAt (κ .sent) (κ .confirmed ++ somes (outstanding (historyOf κ))) ≡ map some (κ .sent)

@@ -1,12 +1,12 @@
 -- The stronger claims of all tied ends. What an event of the session hands down is a unit sent and not confirmed (Handed), by an event that
--- leaves the sender serving (Shut); a word makes the count confirmed exact (Exact); alerts, refusals and words are in Answered, what is
--- outstanding in Standing. Each is said of the tables' session and carried to the ends' by Link.
+-- leaves the sender serving (Serving); a word makes the count confirmed exact (Exact); alerts and refusals are in Answered, that of a word in
+-- Words, what is outstanding in Standing. Each is said of the tables' session and carried to the ends' by Link.
 use mathlib.Core.Logic.{_⊎_, inl, inr}
 use mathlib.Core.Path.{_≡_, refl, sym, ap, _∙_, subst}
 use mathlib.Core.Bool.{true}
 use mathlib.Core.List.{List, [], _∷_, _++_, map, map-append}
 use mathlib.Core.Option.{Option, some}
-use Prim.Native.Nat.{ℕ, _+_, _%_, _≤_, _<_}
+use Prim.Native.Nat.{ℕ, _+_, _≤_, _<_}
 use native.Mathlib.Omega.{arith}
 use lib.ListN.{length, getD}
 use Rattle.base.specs.Modulo.{advanced}
@@ -19,8 +19,8 @@ use Rattle.fop.specs.Events.{fopWord, SenderEvent, requestAd, requestBd, lower,
 use Rattle.fop.specs.Answers.{octetsDown, Answer, judged, needed, senderAnswer}
 use Rattle.session.specs.Frames.{read}
 use Rattle.session.specs.Ends.{Settings, Within, Ends, Tied, tables}
-use Rattle.session.specs.Session.{Linked, History, Event, adRequest, bdRequest, wordIn, frameIn, begins, run, nobody}
-use Rattle.session.specs.Claims.{unitsAt, outstanding, expected, IsOutstanding, nextNumber, Resends, Marked}
+use Rattle.session.specs.Session.{Linked, History, Event, adRequest, bdRequest, wordIn, frameIn, begins, run, noUnit}
+use Rattle.session.specs.Claims.{unitsAt, outstanding, IsOutstanding, nextNumber, Resends, Marked}
 use Rattle.session.specs.Stronger.{unitsOf, somes, inService, InSession, Stronger, Sub}
 use Rattle.fop.specs.Events as fop
 use Rattle.session.specs.Session as ses
@@ -43,9 +43,9 @@ use Rattle.session.proofs.Handed.{From, row-from, is-handed}
 use Rattle.session.proofs.Keys.{Tidy}
 use Rattle.session.proofs.Tidy.{step-tidy, start-tidy}
 use Rattle.session.proofs.Theorem.{oldest-frame, word-comes, either, from-start}
-use Rattle.session.proofs.Standing.{fell, all-units, at-most, standing, queued, state-is, opens}
+use Rattle.session.proofs.Standing.{initial-denied, all-units, at-most, standing, queued, state-is, opens}
 use Rattle.session.proofs.Once.{Run, Once, work-once, start-once, step-once}
-use Rattle.session.proofs.Shut.{NoAd, Shut, ad-shut, bd-shut, tick-shut, lower-shut, terminate-shut, word-shut}
+use Rattle.session.proofs.Serving.{NoAd, Serving, ad-serving, bd-serving, tick-serving, lower-serving, terminate-serving, word-serving}
 use Rattle.session.proofs.Exact.{exact}
 use Rattle.session.proofs.Clear.{length-places}
 use Rattle.session.proofs.Core as core
@@ -54,6 +54,7 @@ use Rattle.session.specs.Receiver.{releaseBuffer}
 use Rattle.fop.specs.Units.{readWord, valid}
 use lib.ListN.{length-append}
 use Rattle.session.specs.Claims.{serves}
+use Rattle.session.proofs.Words.{word-refusal}
 use Rattle.session.proofs.Answered as A
 
 module _ (set : Settings) (vw : Within set) (m : Ends) (t : Tied set m) (σ : Linked m) (γ : Linked (tables set)) (κ : Session)
@@ -100,15 +101,13 @@ module _ (set : Settings) (vw : Within set) (m : Ends) (t : Tied set m) (σ : Li
         (omega arith) tt,
   )
   given-by (directive d v) lent h g =
-      let g' : goes (set .own) (directive 5 0) lent (κ .fop) ≡ true = subst (λ (x : ℕ). goes (set .own) (directive 5 x) lent (κ .fop) ≡ true) (h .1)
-      (subst (λ (x : ℕ). goes (set .own) (directive x v) lent (κ .fop) ≡ true) (h .0) g) in
-      subst (λ (x : ℕ). Given-by (directive x v)) (sym (h .0)) (subst (λ (x : ℕ). Given-by (directive 5 x)) (sym (h .1)) (
-        reads-of set (directive 5 0) lent κ g' (terminate-keeps set lent κ I),
-        row-from set κ I nothing (length (κ .confirmed)) FopEvent.E29 [] 0
-            terminate-ok (omega arith) tt,
-      ))
+      let g' : goes (set .own) (directive 5 v) lent (κ .fop) ≡ true = subst (λ (x : ℕ). goes (set .own) (directive x v) lent (κ .fop) ≡ true) h g in
+      subst (λ (x : ℕ). Given-by (directive x v)) (sym h) (
+        reads-of set (directive 5 v) lent κ g' (terminate-keeps set v lent κ I),
+        row-from set κ I nothing (length (κ .confirmed)) FopEvent.E29 [] v terminate-ok (omega arith) tt,
+      )
   given-by (wordArrives s) lent h g =
-      let l = A.oldest-heard set vw m t σ γ κ R G I Q s (h .0) (h .1) in
+      let l = A.oldest-read set vw m t σ γ κ R G I Q s (h .0) (h .1) in
       let wd = l .4 in
       let g' : goes (set .own) (wordArrives (wordOctets (set .own) (l .0))) lent (κ .fop)
       ≡ true = subst (λ (x : List ℕ). goes (set .own) (wordArrives x) lent (κ .fop) ≡ true) (l .3) g in (
@@ -121,7 +120,7 @@ module _ (set : Settings) (vw : Within set) (m : Ends) (t : Tied set m) (σ : Li
 
   -- the next new unit, or an outstanding one
   abbrev Handed : Fdu → Type 0
-  Handed u = (u .ns ≡ advanced (set .n) (length (κ .sent))) ⊎ ((i : ℕ) × IsOutstanding (historyOf κ) i × (u ≡ getD (κ .sent) i nobody))
+  Handed u = (u .ns ≡ advanced (set .n) (length (κ .sent))) ⊎ ((i : ℕ) × IsOutstanding (historyOf κ) i × (u ≡ getD (κ .sent) i noUnit))
 
   -- the frame whose octets are read as the AD unit u is u's, and the only one
   down-is : (fr : List Frame) (o : List ℕ) (u : Fdu) → length fr ≤ 1 → Reads fr → octetsDown (set .own) fr ≡ some o → read (set .own) o ≡ AD u
@@ -164,30 +163,29 @@ module _ (set : Settings) (vw : Within set) (m : Ends) (t : Tied set m) (σ : Li
       (λ x. absurd (none-some x)) d
 
   -- only an event that leaves the sender active or resending without wait hands an AD frame down
-  shut-work : (e : SenderEvent) → InSession (σ .words) e → Shut (work (set .own) e (κ .fop))
+  work-serving : (e : SenderEvent) → InSession (σ .words) e → Serving (work (set .own) e (κ .fop))
   unfolding work
-  shut-work (requestAd o) h = ad-shut (κ .fop) (in-mode set κ I) o
-  shut-work (requestBd o) h = bd-shut (κ .fop) (in-mode set κ I) o
-  shut-work fop.tick h = tick-shut (κ .fop) (in-mode set κ I) (alerting set κ I)
-  shut-work (lower l) h = lower-shut (κ .fop) (in-mode set κ I) l
-  shut-work (directive d v) h =
-      subst (λ (x : ℕ). Shut (fopDirective x v (κ .fop))) (sym (h .0))
-      (subst (λ (x : ℕ). Shut (fopDirective 5 x (κ .fop))) (sym (h .1)) (terminate-shut (κ .fop) (in-mode set κ I)))
-  shut-work (wordArrives s) h =
-      let l = A.oldest-heard set vw m t σ γ κ R G I Q s (h .0) (h .1) in
-      subst Shut (sym (l .5)) (word-shut (κ .fop) (in-mode set κ I) (l .0))
+  work-serving (requestAd o) h = ad-serving (κ .fop) (in-mode set κ I) o
+  work-serving (requestBd o) h = bd-serving (κ .fop) (in-mode set κ I) o
+  work-serving fop.tick h = tick-serving (κ .fop) (in-mode set κ I) (alerting set κ I)
+  work-serving (lower l) h = lower-serving (κ .fop) (in-mode set κ I) l
+  work-serving (directive d v) h =
+      subst (λ (x : ℕ). Serving (fopDirective x v (κ .fop))) (sym h) (terminate-serving (κ .fop) (in-mode set κ I) v)
+  work-serving (wordArrives s) h =
+      let l = A.oldest-read set vw m t σ γ κ R G I Q s (h .0) (h .1) in
+      subst Serving (sym (l .5)) (word-serving (κ .fop) (in-mode set κ I) (l .0))
 
-  shut : (e : SenderEvent) (lent : ℕ) → InSession (σ .words) e → (o : List ℕ) (u : Fdu)
+  serving-only : (e : SenderEvent) (lent : ℕ) → InSession (σ .words) e → (o : List ℕ) (u : Fdu)
       → (m .answer e lent (σ .sender)) .down ≡ some o → read (set .own) o ≡ AD u → serves ((m .answer e lent (σ .sender)) .state) ≡ true
-  shut e lent h o u d q =
-      A.answer-ways set vw m t σ γ κ R G I Q (λ a. a .down ≡ some o → serves (a .state) ≡ true) e lent (λ g x. by-shut (shut-work e h) g x)
+  serving-only e lent h o u d q =
+      A.answer-ways set vw m t σ γ κ R G I Q (λ a. a .down ≡ some o → serves (a .state) ≡ true) e lent (λ g x. by-serving (work-serving e h) g x)
       (λ x. absurd (none-some x)) d
     where
-      by-shut : Shut (work (set .own) e (κ .fop)) → goes (set .own) e lent (κ .fop) ≡ true
+      by-serving : Serving (work (set .own) e (κ .fop)) → goes (set .own) e lent (κ .fop) ≡ true
           → octetsDown (set .own) ((work (set .own) e (κ .fop)) .frames) ≡ some o → serves ((work (set .own) e (κ .fop)) .fop .state) ≡ true
-      by-shut (inl n) g x =
+      by-serving (inl n) g x =
           absurd (subst NoAd (down-is ((work (set .own) e (κ .fop)) .frames) o u (work-few (set .own) e (κ .fop)) (given-by e lent h g .0) x q) n)
-      by-shut (inr k) g x = k
+      by-serving (inr k) g x = k
 
   -- a word makes the count confirmed what it reports
   exactly : (s : List ℕ) (ws : List (List ℕ)) (w : Word) (lent : ℕ) → σ .words ≡ s ∷ ws → readWord (set .own) s ≡ valid w
@@ -211,8 +209,8 @@ module _ (set : Settings) (vw : Within set) (m : Ends) (t : Tied set m) (σ : Li
         queue = λ e. ap (λ (f : Fop). fdus (f .sentQueue)) (G .fop) ∙ by (λ h. fdus (κ .fop .sentQueue) ≡ unitsOf (h .sent) (outstanding h))
             (queued set κ I (ap inService (sym st-is) ∙ e));
         undenied = λ e. by (λ h. h .denied ≡ []) (lv set κ I (ap inService (sym st-is) ∙ e) .fresh);
-        fallen = λ e. by (λ h. unitsAt (h .sent) (h .confirmed ++ h .denied) ≡ map some (h .sent))
-            (ap (λ (x : List (Option ℕ)). unitsAt (κ .sent) (κ .confirmed ++ x)) (fell set κ I (κ .fop .state) (I .side) (sym st-is ∙ e)) ∙ all-units set κ I);
+        initial = λ e. by (λ h. unitsAt (h .sent) (h .confirmed ++ h .denied) ≡ map some (h .sent))
+            (ap (λ (x : List (Option ℕ)). unitsAt (κ .sent) (κ .confirmed ++ x)) (initial-denied set κ I (κ .fop .state) (I .side) (sym st-is ∙ e)) ∙ all-units set κ I);
         states = subst (λ (s : State). (inService s ≡ true) ⊎ (s ≡ S6)) (sym st-is) (state-is set κ I (κ .fop .state) (I .side));
         responds = λ o lent g r a b c d k.
             ap (λ (x : Answer). x .responses) (answer-is (requestAd o) lent)
@@ -224,38 +222,17 @@ module _ (set : Settings) (vw : Within set) (m : Ends) (t : Tied set m) (σ : Li
             (rw (G .fop) at c) (rw (G .fop) at d) (rw (R .history) at k);
         asks = λ s ws w i lent e q r a k l b c d f o.
             let x = word-comes set vw m t σ γ κ R G I s ws w lent e q r in
-            by (λ h. Resends set (getD (h .sent) i nobody) σ (ses.step set m (wordIn lent) σ)
-            ⊎ Marked (getD (h .sent) i nobody) ((ses.step set (tables set) (wordIn lent) γ) .sender))
+            by (λ h. Resends set (getD (h .sent) i noUnit) σ (ses.step set m (wordIn lent) σ)
+            ⊎ Marked (getD (h .sent) i noUnit) ((ses.step set (tables set) (wordIn lent) γ) .sender))
             (either set vw m t σ γ κ R G I (wordIn lent) i
             (asks set vw κ I w (x .0) i lent (x .1) (x .2) (rw (G .fop) at a) (rw (G .fop) at k) l b c d (rw (R .history) at f) (rw (R .history) at o)));
         handed = λ e lent h o u d q.
-            by (λ y. (u .ns ≡ nextNumber set y) ⊎ ((i : ℕ) × IsOutstanding y i × (u ≡ getD (y .sent) i nobody))) (handed e lent h o u d q);
+            by (λ y. (u .ns ≡ nextNumber set y) ⊎ ((i : ℕ) × IsOutstanding y i × (u ≡ getD (y .sent) i noUnit))) (handed e lent h o u d q);
         once = λ l e lent h o u d q. by (λ y. u .ns ≡ nextNumber set y) (once l e lent h o u d q);
-        shut = shut;
+        servingOnly = serving-only;
         exact = exactly;
         opens = λ b. ap (λ (f : Receiver). f .variables .state) (G .farm)
             ∙ opens set κ I (κ .farm .state) (I .receiver .unlocked) (R .stock .full) (rw (R .history) at b);
-        words = subst
-            (λ (f : Receiver). readWord (set .own) (m .word (σ .receiver))
-            ≡ valid (record {
-              lockout = f .variables .lockout;
-              wait = f .variables .wait;
-              retransmit = f .variables .retransmit;
-              counter = length
-                  (σ .history .acceptedBd) % 4;
-              nr = expected set (σ .history);
-            }))
-            (sym (G .farm))
-            (by (λ h. readWord (set .own) (m .word (σ .receiver))
-            ≡ valid (record {
-              lockout = κ .farm .lockout;
-              wait = κ .farm .wait;
-              retransmit = κ .farm .retransmit;
-              counter = length (h .acceptedBd) %
-                  4;
-              nr = expected set h;
-            }))
-            (A.report-is set vw m t σ γ κ R G I Q));
         inOrderBd = by (λ h. Sub (h .acceptedBd) (h .sentBd)) (bd-part (κ .acceptedBd) (κ .sentBd) (κ .frames) (I .bd));
         expedited = λ o lent g r b.
             let x = expedites set κ o lent g (subst (λ (f : Fop). needed (set .own) (requestBd o) f ≤ lent) (G .fop) r) (rw (G .fop) at b) in
@@ -269,7 +246,7 @@ module _ (set : Settings) (vw : Within set) (m : Ends) (t : Tied set m) (σ : Li
             (sym e ∙ R .frames) q in
             ap (λ (h : History). h .acceptedBd) (same-step set vw m t frameIn σ κ R I .history) ∙ accepts-bd set κ o (l .0) (l .1)
             ∙ ap (λ (h : History). h .acceptedBd ++ (o ∷ [])) (sym (R .history));
-        quiet = A.quiet set vw m t σ γ κ R G I Q;
+        wordAlert = A.word-alert set vw m t σ γ κ R G I Q;
         alerts = A.alerts set vw m t σ γ κ R G I Q;
         refusals = A.refusals set vw m t σ γ κ R G I Q;
         frameRefusal = A.frame-refusal set vw m t σ γ κ R G I Q;
@@ -277,6 +254,7 @@ module _ (set : Settings) (vw : Within set) (m : Ends) (t : Tied set m) (σ : Li
             (((m .answerReceiver releaseBuffer (σ .receiver)) .refusal ≡ 0) × (h .released < length (h .accepted)))
             ⊎ (((m .answerReceiver releaseBuffer (σ .receiver)) .refusal ≡ 13) × (h .released ≡ length (h .accepted)))) (A.release-refusal set vw m t
             σ γ κ R G I Q);
+        wordRefusal = word-refusal set vw m t σ κ R I;
       }
 
 -- the stronger claims: after every list of events and at whatever event comes next
@@ -284,5 +262,5 @@ pub stronger-claims : (set : Settings) → Within set → (m : Ends) → Tied se
     → Stronger set m (run set m es (begins m)) (run set (tables set) es (begins (tables set)))
 stronger-claims set vw m t es =
     let k = from-start set vw m t (λ κ. Tidy (set .n) κ × (set .limit ≡ 1 → Once (κ .fop)))
-    (λ e κ I x. (step-tidy set vw e κ I (x .0), λ l. step-once set e κ (x .1 l))) (start-tidy set, start-once set) es in
+    (λ e κ I x. (step-tidy set vw e κ I (x .0), λ l. step-once set e κ (x .1 l))) (start-tidy set, start-once set (vw .countLeast)) es in
     stronger set vw m t (run set m es (begins m)) (run set (tables set) es (begins (tables set))) (k .0) (k .1) (k .2) (k .3) (k .4 .0) (k .4 .1)

@@ -3,7 +3,7 @@
 --
 -- How it is proved. Core is the tables' session with frames and words before they are octets. Its invariant (Inv) is kept by every event,
 -- whatever is told of the buffers (Receiver, `stepWith-keeps`; the sender's rows in Rows and Sender); that a receiver which waits has no
--- buffer free is a fact apart (Buffers). What holds at the next event is in Next, Clear and Arrive. Link says that a session of tied ends,
+-- buffer free is a fact apart (Buffers). What holds at the next event is in Next, Clear, Arrive and Words. Link says that a session of tied ends,
 -- octets and all, is a session of Core, so the ends' run and the tables' run share one.
 use mathlib.Core.Logic.{_⊎_, inl, inr, _↔_}
 use mathlib.Core.Path.{_≡_, refl, sym, ap, _∙_, subst}
@@ -22,7 +22,7 @@ use Rattle.farm.specs.declared.Receiver.{Receiver}
 use Rattle.farm.specs.declared.State.the-variants.{Open}
 use Rattle.session.specs.Frames.{read}
 use Rattle.session.specs.Ends.{Settings, Within, Ends, Tied, tables}
-use Rattle.session.specs.Session.{Linked, History, Event, adRequest, ticks, lowerSays, wordIn, frameIn, begins, run, nobody}
+use Rattle.session.specs.Session.{Linked, History, Event, adRequest, ticks, lowerSays, wordIn, frameIn, begins, run, noUnit}
 use Rattle.session.specs.Claims.{unitsAt, member, Sends, Resends, Marked, Claims, serves, expected, BufferFree, nextUnit, nextNumber}
 use Rattle.fop.specs.Events as fop
 use Rattle.session.specs.Session as ses
@@ -36,6 +36,7 @@ use Rattle.session.proofs.Receiver.{step-keeps, begun, start-inv}
 use Rattle.session.proofs.Clear.{clears-all, clears-sends}
 use Rattle.session.proofs.Arrive.{accepts}
 use Rattle.session.proofs.Next.{historyOf, Sent, Resent, offers, ready-again, ready-new, expires}
+use Rattle.session.proofs.Words.{word-made}
 use Rattle.session.proofs.Link.{Rel, at-start, same-step, tables-tied, reads, fly-reads, Reads}
 
 -- confirmed units are a first part of those accepted, and these of those sent
@@ -111,10 +112,10 @@ module _ (set : Settings) (vw : Within set) (m : Ends) (t : Tied set m) (σ : Li
         subst (λ (x : List ℕ). needed (set .own) (wordArrives x) (κ .fop) ≤ lent) so (lent-is (wordArrives s) lent r),
       )
 
-  pub either : (e : Event) (i : ℕ) → Resent (getD (κ .sent) i nobody) κ (core.step set e κ) ⊎ Marked (getD (κ .sent) i nobody) ((core.step set e κ) .fop)
-      → Resends set (getD (κ .sent) i nobody) σ (ses.step set m e σ) ⊎ Marked (getD (κ .sent) i nobody) ((ses.step set (tables set) e γ) .sender)
+  pub either : (e : Event) (i : ℕ) → Resent (getD (κ .sent) i noUnit) κ (core.step set e κ) ⊎ Marked (getD (κ .sent) i noUnit) ((core.step set e κ) .fop)
+      → Resends set (getD (κ .sent) i noUnit) σ (ses.step set m e σ) ⊎ Marked (getD (κ .sent) i noUnit) ((ses.step set (tables set) e γ) .sender)
   either e i (inl s) = inl (resends e _ s)
-  either e i (inr k) = inr (subst (Marked (getD (κ .sent) i nobody)) (sym (same-step set vw (tables set) (tables-tied set) e γ κ G I .fop)) k)
+  either e i (inr k) = inr (subst (Marked (getD (κ .sent) i noUnit)) (sym (same-step set vw (tables set) (tables-tied set) e γ κ G I .fop)) k)
 
   pub claims : Claims set m σ γ
   claims =
@@ -156,8 +157,8 @@ module _ (set : Settings) (vw : Within set) (m : Ends) (t : Tied set m) (σ : Li
             (sends (lowerSays adAccept lent) _
             (ready-new set κ I o lent (lent-is (lower adAccept) lent r) (rw (G .fop) at a) (rw (G .fop) at b) (rw (R .history) at k) (rw (G .fop) at w)));
         expires = λ i lent r a b c o.
-            by (λ h. Resends set (getD (h .sent) i nobody) σ (ses.step set m (ticks lent) σ)
-            ⊎ Marked (getD (h .sent) i nobody) ((ses.step set (tables set) (ticks lent) γ) .sender))
+            by (λ h. Resends set (getD (h .sent) i noUnit) σ (ses.step set m (ticks lent) σ)
+            ⊎ Marked (getD (h .sent) i noUnit) ((ses.step set (tables set) (ticks lent) γ) .sender))
             (either (ticks lent) i (expires set κ I i lent (lent-is fop.tick lent r) (rw (G .fop) at a) (rw (G .fop) at b) (rw (G .fop) at c)
             (rw (R .history) at o)));
         clears = λ s ws w lent e q r a b c d f.
@@ -170,6 +171,7 @@ module _ (set : Settings) (vw : Within set) (m : Ends) (t : Tied set m) (σ : Li
                   (sends (wordIn lent) _
                   (clears-sends set vw κ I a' w (k .0) lent (k .1) (k .2) b c d f' o (rw (R .history) at p) (rw (G .fop) at x) (rw (G .fop) at y))),
             );
+        words = word-made set vw m t σ κ R I (γ .receiver .variables) (ap (λ (f : Receiver). f .variables) (G .farm));
       }
 
 -- the two sessions after a list of events, both seen as one, with whatever X else every event keeps

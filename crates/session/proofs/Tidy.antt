@@ -17,6 +17,7 @@ use Rattle.fop.specs.Machine.{fopDo, performCell, performAll, perform}
 use Rattle.fop.specs.Events.{Seen, seen, wordEvent, fopWord, fopTick, fopAd, fopBd, fopLower, fopDirective, directiveEvent}
 use Rattle.fop.specs.Events.{when, first, Lower, lowerEvent, isEmpty, SenderEvent, requestAd, requestBd, lower, directive, wordArrives, work}
 use Rattle.fop.specs.Answers.{judged}
+use Rattle.session.specs.Receiver.{wordLength}
 use Rattle.session.specs.Ends.{Settings, Within, startSender, startReceiver}
 use Rattle.session.specs.Session.{Event, adRequest, bdRequest, ticks, lowerSays, terminate, wordIn, wordLost, wordMade, frameIn, frameLost, release, places}
 use Rattle.session.specs.Session.{rest, addSent}
@@ -28,7 +29,7 @@ use Rattle.session.proofs.Core.{releases, frameEvent, isHanded, free, i
 use Rattle.session.proofs.Chan.{Fly, Wds}
 use Rattle.session.proofs.Values.{Given, word, unit, nothing, Reports}
 use Rattle.session.proofs.Rows.{modeOf, sound, atAll, at-cell, rowOk, word-ok, ad-ok, bd-ok, lower-ok, terminate-ok}
-use Rattle.session.proofs.Inv.{Inv, alerting, in-mode, isLocked, row-bound, withFop, timed, fit, hears, legal-of}
+use Rattle.session.proofs.Inv.{Inv, alerting, in-mode, isLocked, row-bound, withFop, timed, fit, word-read, legal-of}
 use Rattle.session.proofs.Receiver.{ad-cases, begun, at}
 use Rattle.session.proofs.Clear.{length-places}
 use Rattle.session.proofs.Keys.{bit, bit-le, rank, rank-le, floor, waits, Keys, keys-le, keys-mono, keys-add, Tidy}
@@ -140,15 +141,15 @@ tidy-answered n σ ws w low t k a b =
     }
 
 -- a row that confirms nothing
-plain-tidy : (set : Settings) (σ : Session) (given : Given) (e : FopEvent) (o : List ℕ) → Inv set σ → Tidy (set .n) σ → T (rowOk given e) → T (rowHolds e)
-    → Reports given (set .n) (length (σ .confirmed)) (length (σ .accepted)) 0 o
-    → Tidy (set .n) (answered (set .n) (fopDo e o 0 (σ .fop)) (channels (σ .frames) (σ .words) σ))
+plain-tidy : (set : Settings) (σ : Session) (given : Given) (e : FopEvent) (o : List ℕ) (v : ℕ) → Inv set σ → Tidy (set .n) σ → T (rowOk given e) → T (rowHolds e)
+    → Reports given (set .n) (length (σ .confirmed)) (length (σ .accepted)) v o
+    → Tidy (set .n) (answered (set .n) (fopDo e o v (σ .fop)) (channels (σ .frames) (σ .words) σ))
 unfolding fopDo
-plain-tidy set σ given e o I t ok h r =
-    let rk : rank ((fopDo e o 0 (σ .fop)) .fop .state) ≤ rank (σ .fop .state) =
-    holds-next (cell78 (table78 e) (σ .fop .state)) (begin (some e) o 0 (σ .fop)) (at-cell holds (table78 e) (σ .fop .state) h (in-mode set σ I)) in
-    let cb = row-bound set σ given (length (σ .confirmed)) e o 0 I ok (omega arith) r in
-    tidy-answered (set .n) σ (σ .words) (fopDo e o 0 (σ .fop)) (floor (σ .fop .state) (length (σ .confirmed))) t (t .keys) (omega (arith, rk, cb)) (t .below)
+plain-tidy set σ given e o v I t ok h r =
+    let rk : rank ((fopDo e o v (σ .fop)) .fop .state) ≤ rank (σ .fop .state) =
+    holds-next (cell78 (table78 e) (σ .fop .state)) (begin (some e) o v (σ .fop)) (at-cell holds (table78 e) (σ .fop .state) h (in-mode set σ I)) in
+    let cb = row-bound set σ given (length (σ .confirmed)) e o v I ok (omega arith) r in
+    tidy-answered (set .n) σ (σ .words) (fopDo e o v (σ .fop)) (floor (σ .fop .state) (length (σ .confirmed))) t (t .keys) (omega (arith, rk, cb)) (t .below)
 
 sender-tidy : (set : Settings) (e : SenderEvent) (lent : ℕ) (σ : Session) → Tidy (set .n) σ
     → (judged (set .own) e ≡ 0 → Tidy (set .n) (answered (set .n) (work (set .own) e (σ .fop)) σ)) → Tidy (set .n) (sender set e lent σ)
@@ -162,7 +163,7 @@ tick-tidy set σ I t =
     let τ : Session = withFop (lowered (σ .fop)) σ in
     let t' : Tidy (set .n) τ = record { keys = t .keys; waitFlag = t .waitFlag; waitMissing = t .waitMissing; missing = t .missing; below = t .below } in
     tick-ways timerRow timer-holds (λ w. Tidy (set .n) (answered (set .n) w σ)) (σ .fop) (alerting set σ I)
-    (λ e h. plain-tidy set τ nothing e [] (timed set _ _ σ I) t' (and-l (rowOk nothing e) _ h) (and-r (rowOk nothing e) _ h) tt)
+    (λ e h. plain-tidy set τ nothing e [] 0 (timed set _ _ σ I) t' (and-l (rowOk nothing e) _ h) (and-r (rowOk nothing e) _ h) tt)
     (tidy-answered (set .n) τ (σ .words) (begin none [] 0 (τ .fop)) (floor (σ .fop .state) (length (σ .confirmed))) t' (t .keys) (omega arith) (t .below))
 
 words-tidy : (n : ℕ) (σ : Session) (fs : List Frame) (ws : List Word) → Tidy n σ
@@ -186,7 +187,7 @@ word-tidy set vw lent σ (w ∷ ws) I t h k =
     let cb = row-bound set σ word (k .0) (wordEvent (seen w (σ .fop))) [] (w .nr) I (word-ok (seen w (σ .fop))) ca (k .1, al) in
     sender-tidy set (wordArrives (wordOctets (set .own) w)) lent (channels (σ .frames) ws σ)
     (words-tidy (set .n) σ (σ .frames) ws t (keys-mono (set .n) _ _ _ _ _ _ ws (omega arith) (k .2) (omega arith) (k .6)))
-    (λ j. rw (hears set vw w (σ .fop) (h .3) (omega (arith, h .1)))
+    (λ j. rw (word-read set vw w (σ .fop) (h .3) (omega (arith, h .1)))
     (tidy-answered (set .n) σ ws (fopWord w (σ .fop)) (2 * k .0 + bit (w .retransmit)) t (k .6) (low (in-mode set σ I) (w .retransmit) refl cb) (omega (arith, k .5))))
   where
     low : T (sound (modeOf (σ .fop .state))) → (b : Bool) → w .retransmit ≡ b → length (σ .confirmed) + length ((fopWord w (σ .fop)) .confirmed) ≤ k .0
@@ -295,23 +296,25 @@ pub step-tidy : (set : Settings) → Within set → (e : Event) (σ : Session) �
 unfolding step stepWith releases work judged fopAd fopBd fopLower fopDirective directiveEvent channels
 step-tidy set vw (adRequest o lent) σ I t =
     sender-tidy set (requestAd o) lent σ t
-    (λ j. plain-tidy set σ unit (first (when (isEmpty (σ .fop .waitQueue)) FopEvent.E19 ∷ []) FopEvent.E20) o I t
+    (λ j. plain-tidy set σ unit (first (when (isEmpty (σ .fop .waitQueue)) FopEvent.E19 ∷ []) FopEvent.E20) o 0 I t
     (ad-ok (isEmpty (σ .fop .waitQueue))) (ad-holds (isEmpty (σ .fop .waitQueue))) (legal-of o j))
 step-tidy set vw (bdRequest o lent) σ I t =
     sender-tidy set (requestBd o) lent σ t
-    (λ j. plain-tidy set σ unit (first (when (σ .fop .out .bd) FopEvent.E21 ∷ []) FopEvent.E22) o I t (bd-ok (σ .fop .out .bd))
+    (λ j. plain-tidy set σ unit (first (when (σ .fop .out .bd) FopEvent.E21 ∷ []) FopEvent.E22) o 0 I t (bd-ok (σ .fop .out .bd))
     (bd-holds (σ .fop .out .bd)) (legal-of o j))
 step-tidy set vw (ticks lent) σ I t = sender-tidy set fop.tick lent σ t (λ j. tick-tidy set σ I t)
 step-tidy set vw (lowerSays l lent) σ I t = sender-tidy set (lower l) lent σ t
-    (λ j. plain-tidy set σ nothing (lowerEvent l) [] I t (lower-ok l) (lower-holds l) tt)
-step-tidy set vw (terminate lent) σ I t =
-    sender-tidy set (directive 5 0) lent σ t (λ j. plain-tidy set σ nothing FopEvent.E29 [] I t terminate-ok terminate-holds tt)
+    (λ j. plain-tidy set σ nothing (lowerEvent l) [] 0 I t (lower-ok l) (lower-holds l) tt)
+step-tidy set vw (terminate v lent) σ I t =
+    sender-tidy set (directive 5 v) lent σ t (λ j. plain-tidy set σ nothing FopEvent.E29 [] v I t terminate-ok terminate-holds tt)
 step-tidy set vw (wordIn lent) σ I t = word-tidy set vw lent σ (σ .words) I t (I .words) (t .keys)
 step-tidy set vw wordLost σ I t = words-tidy (set .n) σ (σ .frames) (rest (σ .words)) t (rest-keys (set .n) _ _ _ (σ .words) (t .keys))
-step-tidy set vw wordMade σ I t =
+step-tidy set vw (wordMade lent) σ I t =
     words-tidy (set .n) σ (σ .frames) _ t
-    (keys-add (set .n) _ _ (length (σ .accepted)) (σ .farm) (σ .words) (I .receiver .isVr) (I .receiver .noLock)
+    (by-pick (Keys (set .n) _ _ _) (leb wordLength lent)
+    (λ b. keys-add (set .n) _ _ (length (σ .accepted)) (σ .farm) (σ .words) (I .receiver .isVr) (I .receiver .noLock)
     (omega (arith, t .waitFlag, t .waitMissing)) (t .missing) (t .keys))
+    (λ b. t .keys))
 step-tidy set vw frameIn σ I t = frame-tidy set vw σ (free set σ) (σ .frames) I t (I .base .fly)
 step-tidy set vw frameLost σ I t = words-tidy (set .n) σ (rest (σ .frames)) (σ .words) t (t .keys)
 step-tidy set vw release σ I t = by-pick (Tidy (set .n)) (isHeld σ) (λ e. release-tidy set σ I t) (λ e. t)

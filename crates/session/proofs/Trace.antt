@@ -42,11 +42,11 @@ unfolding outstanding ses.run ses.begins ses.step ses.toSender ses.wordCome ses.
     units.wordOctets units.readWord table.table78 machine.transmitAd machine.sendWaiting machine.sendNext machine.lookForFdu machine.lookForDirective
     machine.transmitBc machine.denyBc machine.rejectWaiting machine.purge machine.removeAcknowledged machine.perform machine.performAll machine.performCell
     machine.fopDo events.wordEvent events.fopWord events.fopAd events.fopBd events.fopExpiry events.fopTick events.fopLower
-    events.directiveEvent events.fopDirective events.fopHeard events.work answers.needed answers.judged answers.senderRefusal
+    events.directiveEvent events.fopDirective events.fopReceived events.work answers.needed answers.judged answers.senderRefusal
     answers.senderAnswer answers.senderNext t79.table t79.perform t79.performAll t79.stepOf t79.accepts window.adEvent receiver.eventOf
     receiver.answered receiver.arrived receiver.byReading receiver.receiveOf receiver.unitPart receiver.releaseOf receiver.wordOf frame.bodyOf
     frame.rawFrame frame.totalOf frame.dataField frame.isCommand frame.commandHeld frame.headerRefusal frame.contentRefusal frame.refusalOf frame.kindOf
-    frameAnswers.fieldsOf frameAnswers.readingOf frameAnswers.partOf header.headerFields header.headerOf clcw.wordFields clcw.clcwOf
+    frameAnswers.fieldsOf frameAnswers.readingOf frameAnswers.partOf header.headerFields header.headerOf clcw.wordFields clcw.clcwOf clcw.writing
     clcw.isValid clcw.wordOf clcwAnswers.receivedOf clcwAnswers.readingOf fecf.fecfOf fecf.syndromeOf register.shiftBit register.shiftBits
     register.register fields.digitsOf fields.valueOf fields.packed fields.octetsOf fields.fieldAt octets.bitsOf octets.octetBits
 computing = tt
@@ -54,7 +54,7 @@ computing = tt
 -- the settings of the examples, by K, the count of buffers, T1_Initial and Transmission_Limit
 abbrev pub settings : ℕ → ℕ → ℕ → ℕ → Settings
 settings k buffers t1 limit =
-    record { n = 254; k = k; w = 10; buffers = buffers; t1 = t1; limit = limit; own = record { spacecraft = 5; channel = 9 } }
+    record { n = 254; k = k; w = 10; buffers = buffers; t1 = t1; limit = limit; own = record { spacecraft = 5; channel = 9 }; count = 1; counter = 0 }
 
 -- the session of a pair of ends after a list of events
 abbrev pub after : Settings → (m : Ends) → List Event → Linked m
@@ -79,10 +79,10 @@ said s (adRequest o l) σ = S (senderAnswer (s .own) (requestAd o) l (σ .sender
 said s (bdRequest o l) σ = S (senderAnswer (s .own) (requestBd o) l (σ .sender))
 said s (ticks l) σ = S (senderAnswer (s .own) tick l (σ .sender))
 said s (lowerSays x l) σ = S (senderAnswer (s .own) (lower x) l (σ .sender))
-said s (terminate l) σ = S (senderAnswer (s .own) (directive 5 0) l (σ .sender))
+said s (terminate v l) σ = S (senderAnswer (s .own) (directive 5 v) l (σ .sender))
 said s (wordIn l) σ = ask s (σ .words) l (σ .sender)
 said s wordLost σ = N
-said s wordMade σ = N
+said s (wordMade l) σ = N
 said s frameIn σ = arrive (σ .frames) (σ .receiver)
 said s frameLost σ = N
 said s release σ = R (receiverAnswer releaseBuffer (σ .receiver))
@@ -112,8 +112,8 @@ answering e s = record {
 abbrev pub by : FopEvent → State → Answer
 by e s = answering (some e) s
 
-abbrev pub silent : State → Answer
-silent s = answering none s
+abbrev pub noEvent : State → Answer
+noEvent s = answering none s
 
 -- the same answer but for the frame, the abort, the responses, the alert and the runs
 abbrev telling : Option (List ℕ) → Bool → List Response → Option Reason → Run → Run → Answer → Answer

@@ -1,27 +1,27 @@
--- Whatever the unit is: one that meets demand 3 after every list of events sends, accepts, resends and does not send on its first event alone
--- (specs/Signed). The claims themselves lead it there: an offered unit must be sent, its frame accepted, and after an expiry sent again.
--- Sending and accepting at all settings, the others at one.
-use mathlib.Core.Path.{_≡_, refl, ap, _∙_, sym}
+-- Whatever the unit is: one that meets demand 3 after every list of events sends, accepts, resends, confirms, and does not send on its first
+-- event alone (specs/Signed). The claims themselves lead it there: an offered unit must be sent, its frame accepted, the control word then made
+-- must report it, that word must confirm it, and after an expiry it must be sent again. Sending and accepting at all settings, the others at one.
+use mathlib.Core.Path.{_≡_, refl, ap, subst, _∙_, sym}
 use mathlib.Core.Logic.{_⊎_, inl, inr}
-use mathlib.Core.Bool.{Bool, true, false, _||_}
+use mathlib.Core.Bool.{Bool, true, false, true≢false, _||_}
 use mathlib.Core.List.{List, [], _∷_, _++_}
 use mathlib.Core.Option.{Option, none, some}
 use Prim.Native.Nat.{ℕ, zero, suc, _+_, _≤_, _<_}
 use native.Mathlib.Omega.{arith}
-use borrow.Author.Tests.{leb-true, leb-false}
+use borrow.Author.Tests.{leb-true, leb-false, eqb-true}
 use lib.Dec.{leb, eqb, leb→le}
-use lib.ListN.{length, length-append}
+use lib.ListN.{length, length-append, getD}
 use Rattle.base.specs.Choice.{pick}
 use Rattle.base.specs.Modulo.{advanced}
 use Rattle.fop.specs.Units.{Fdu, Own, Frame, AD, BD, Unlock, SetVR, Refused, legal, written}
-use Rattle.fop.specs.Events.{requestAd, lower, adAccept}
+use Rattle.fop.specs.Events.{requestAd, wordArrives, tick, lower, adAccept}
 use Rattle.fop.specs.Answers.{needed}
 use Rattle.session.specs.Ends.{Settings, Within, Ends, startSender, startReceiver, tables}
 use Rattle.session.specs.Frames.{read}
 use Rattle.session.specs.Session as ses
-use Rattle.session.specs.Session.{Event, adRequest, ticks, lowerSays, frameIn}
-use Rattle.session.specs.Claims.{Claims, Sends, Resends, nextUnit, remaining, member, outstanding}
-use Rattle.session.specs.Signed.{after, Demanded, Sending, Accepting, Resending, SendingLater}
+use Rattle.session.specs.Session.{Event, adRequest, ticks, lowerSays, wordMade, wordIn, frameIn}
+use Rattle.session.specs.Claims.{Claims, Sends, Resends, nextUnit, nextNumber, expected, remaining, member, outstanding, unitsAt, IsOutstanding}
+use Rattle.session.specs.Signed.{after, Demanded, Sending, Accepting, Resending, Confirming, SendingLater, Signed}
 use Rattle.session.proofs.Link.{reads}
 use Rattle.session.proofs.Trace.{computing, settings}
 
@@ -62,6 +62,28 @@ module _ (set : Settings) (within : Within set) (m : Ends) (c : Demanded set m) 
 abbrev set : Settings
 set = settings 3 2 1 3
 
+set-within : Within set
+set-within = record {
+  number = leb→le _ _ tt;
+  windowLeast = leb→le _ _ tt;
+  windowMost = leb→le _ _ tt;
+  even = refl;
+  farmLeast = leb→le _ _ tt;
+  farmMost = leb→le _ _ tt;
+  fits = leb→le _ _ tt;
+  buffersLeast = leb→le _ _ tt;
+  buffersMost = leb→le _ _ tt;
+  timerLeast = leb→le _ _ tt;
+  timerMost = leb→le _ _ tt;
+  limitLeast = leb→le _ _ tt;
+  limitMost = leb→le _ _ tt;
+  spacecraft = leb→le _ _ tt;
+  channel = leb→le _ _ tt;
+  countLeast = leb→le _ _ tt;
+  countMost = leb→le _ _ tt;
+  counterMost = leb→le _ _ tt;
+}
+
 -- the first unit offered, as it is sent
 abbrev seven : Fdu
 seven = record { ns = 254; octets = 7 ∷ [] }
@@ -94,6 +116,34 @@ add-grows n s (Refused r) = omega arith
 sent-grows : (own : Own) (n : ℕ) (s : List Fdu) (d : Option (List ℕ)) → length s ≤ length (ses.sentAfter own n s d)
 sent-grows own n s none = omega arith
 sent-grows own n s (some o) = add-grows n s (read own o)
+
+-- a place that is not among the first places of a list is not among these
+not-member : (i : ℕ) (a b : List (Option ℕ)) → member i (a ++ b) ≡ false → member i a ≡ false
+not-member i [] b e = refl
+not-member i (some j ∷ a) b e = by-test (eqb i j) (not-member i a b) e
+  where
+    by-test : (t : Bool) → (member i (a ++ b) ≡ false → member i a ≡ false) → (t || member i (a ++ b)) ≡ false → (t || member i a) ≡ false
+    by-test true k h = h
+    by-test false k h = k h
+not-member i (none ∷ a) b e = not-member i a b e
+
+-- among one unit sent, and at the most another one, the first number is at the first place
+first-place : (t : Bool) (u : Fdu) → (t ≡ true → u .ns ≡ 255) → (i : ℕ) → seven ≡ getD (pick t (seven ∷ u ∷ []) (seven ∷ [])) i ses.noUnit → i ≡ 0
+first-place t u h zero e = refl
+first-place true u h (suc zero) e = absurd (omega (arith, ap (λ (x : Fdu). x .ns) e, h refl))
+first-place true u h (suc (suc i)) e = absurd (omega (arith, ap (λ (x : Fdu). x .ns) e))
+first-place false u h (suc i) e = absurd (omega (arith, ap (λ (x : Fdu). x .ns) e))
+
+added-place : (x : Frame) (i : ℕ) → seven ≡ getD (ses.addSent 254 (seven ∷ []) x) i ses.noUnit → i ≡ 0
+added-place (AD u) i e = first-place (eqb (u .ns) 255) u (eqb-true (u .ns) 255) i e
+added-place (BD o) i e = first-place false seven (λ q. absurd (true≢false (sym q))) i e
+added-place Unlock i e = first-place false seven (λ q. absurd (true≢false (sym q))) i e
+added-place (SetVR v) i e = first-place false seven (λ q. absurd (true≢false (sym q))) i e
+added-place (Refused r) i e = first-place false seven (λ q. absurd (true≢false (sym q))) i e
+
+sent-place : (own : Own) (l : List Fdu) → l ≡ seven ∷ [] → (d : Option (List ℕ)) (i : ℕ) → seven ≡ getD (ses.sentAfter own 254 l d) i ses.noUnit → i ≡ 0
+sent-place own l p none i e = first-place false seven (λ q. absurd (true≢false (sym q))) i (e ∙ ap (λ (s : List Fdu). getD s i ses.noUnit) p)
+sent-place own l p (some o) i e = added-place (read own o) i (e ∙ ap (λ (s : List Fdu). getD (ses.addSent 254 s (read own o)) i ses.noUnit) p)
 
 module _ (m : Ends) (c : Demanded set m) where
   -- a unit is offered, and its timer expires before the lower layer answered
@@ -150,3 +200,111 @@ module _ (m : Ends) (c : Demanded set m) where
           record { first = first; later = lowerSays adAccept 256 ∷ adRequest (8 ∷ []) 256 ∷ []; more = omega (arith, grown, kept-sent) }
       by-count false e =
           record { first = first; later = ready; more = omega (arith, leb-false (length ready-sent) 2 e, ap length first-sent) }
+
+  -- its frame arrives, and a control word is made
+  abbrev arrived : List Event
+  arrived = first ∷ frameIn ∷ []
+
+  first-frame : (after set m (first ∷ [])) .frames ≡ written (set .own) (AD seven) ∷ []
+  unfolding computing
+  first-frame = c [] .offered (7 ∷ []) 256 refl (leb→le _ 256 tt) refl refl refl refl (leb→le _ 3 tt) .down
+
+  arrived-accepted : (after set m arrived) .history .accepted ≡ seven ∷ []
+  unfolding computing
+  arrived-accepted = c (first ∷ []) .accepts _ [] seven first-frame refl .1 (refl, refl, leb→le 1 _ tt)
+
+  -- an arrival changes neither the words under way nor what was sent, confirmed and denied
+  record Same (σ τ : ses.Linked m) : Type 0 where
+    words : τ .words ≡ σ .words
+    sent : τ .history .sent ≡ σ .history .sent
+    confirmed : τ .history .confirmed ≡ σ .history .confirmed
+    denied : τ .history .denied ≡ σ .history .denied
+
+  arrival-keeps : (fs : List (List ℕ)) (σ : ses.Linked m) → Same σ (ses.frameCome set m fs σ)
+  unfolding ses.frameCome ses.afterFrame
+  arrival-keeps [] σ = record { words = refl; sent = refl; confirmed = refl; denied = refl }
+  arrival-keeps (x ∷ fs) σ = record { words = refl; sent = refl; confirmed = refl; denied = refl }
+
+  kept : Same (after set m (first ∷ [])) (after set m arrived)
+  unfolding ses.run ses.step
+  kept = arrival-keeps ((after set m (first ∷ [])) .frames) (after set m (first ∷ []))
+
+  -- nothing is confirmed before a unit is accepted
+  none-confirmed : (s : List Fdu) (l : List (Option ℕ)) (rest : List (Option Fdu)) → unitsAt s l ++ rest ≡ [] → member 0 l ≡ false
+  none-confirmed s [] rest e = refl
+  none-confirmed s (some i ∷ is) rest e = absurd (omega (arith, ap length e))
+  none-confirmed s (none ∷ is) rest e = absurd (omega (arith, ap length e))
+
+  unconfirmed : member 0 ((after set m (first ∷ [])) .history .confirmed) ≡ false
+  unfolding ses.run ses.step ses.toSender ses.afterSender ses.begins
+  unconfirmed =
+      none-confirmed ((after set m (first ∷ [])) .history .sent) ((after set m (first ∷ [])) .history .confirmed) (c (first ∷ []) .truly .0)
+      (c (first ∷ []) .truly .1)
+
+  -- nor denied: after an expiry it must be sent again, and only an outstanding unit can be
+  due-denied : (i : ℕ) → member i ((after set m due) .history .denied) ≡ false → member i ((after set m (first ∷ [])) .history .denied) ≡ false
+  unfolding ses.run ses.step ses.toSender ses.afterSender
+  due-denied i e = not-member i ((after set m (first ∷ [])) .history .denied) _ e
+
+  due-place : (i : ℕ) → seven ≡ getD ((after set m due) .history .sent) i ses.noUnit → i ≡ 0
+  unfolding ses.run ses.step ses.toSender ses.afterSender
+  due-place i e =
+      sent-place (set .own) ((after set m (first ∷ [])) .history .sent) first-sent ((m .answer tick 256 ((after set m (first ∷ [])) .sender)) .down) i e
+
+  again : Resends set {m = m} seven (after set m due) (ses.step set m (lowerSays adAccept 256) (after set m due))
+  unfolding computing
+  again = c due .readyAgain seven 256 (leb→le _ 256 tt) refl refl
+
+  undenied : member 0 ((after set m (first ∷ [])) .history .denied) ≡ false
+  undenied =
+      due-denied 0
+      (subst (λ (i : ℕ). member i ((after set m due) .history .denied) ≡ false) (due-place (again .place) (again .is)) (again .out .2))
+
+  -- so the control word made then confirms it
+  abbrev made : List Event
+  made = first ∷ frameIn ∷ wordMade 4 ∷ []
+
+  first-outstanding : IsOutstanding ((after set m made) .history) 0
+  unfolding ses.run ses.step
+  first-outstanding = (
+    omega (arith, ap length (kept .sent), ap length first-sent),
+    ap (member 0) (kept .confirmed) ∙ unconfirmed,
+    ap (member 0) (kept .denied) ∙ undenied,
+  )
+
+  abbrev word : List ℕ
+  word = c arrived .words 4 (leb→le 4 4 tt) .0
+
+  no-words : (after set m (first ∷ [])) .words ≡ []
+  unfolding ses.run ses.step ses.toSender ses.begins
+  no-words = refl
+
+  made-words : (after set m made) .words ≡ word ∷ []
+  unfolding ses.run
+  made-words = c arrived .words 4 (leb→le 4 4 tt) .1 ∙ ap (λ (l : List (List ℕ)). l ++ (word ∷ [])) (kept .words ∙ no-words)
+
+  -- the number reported is the next to send
+  reports-next : expected set ((after set m arrived) .history) ≡ nextNumber set ((after set m made) .history)
+  unfolding ses.run ses.step
+  reports-next = ap (λ (l : ℕ). advanced (set .n) l) (ap length arrived-accepted ∙ sym (ap length (kept .sent ∙ first-sent)))
+
+  abbrev word-room : ℕ
+  word-room = needed (set .own) (wordArrives word) ((after set (tables set) made) .sender)
+
+  pub confirms : Confirming set m
+  unfolding computing
+  confirms = record {
+    events = first ∷ frameIn ∷ wordMade 4 ∷ wordIn word-room ∷ [];
+    confirmed = c made .clears word [] _ word-room made-words (c arrived .words 4 (leb→le 4 4 tt) .2) (omega arith) refl refl refl refl reports-next .0
+        0 first-outstanding;
+  }
+
+  -- all of it
+  pub signed : Signed set m
+  signed = record {
+    sends = sends set set-within m c;
+    accepts = accepts set set-within m c;
+    resends = resends;
+    confirms = confirms;
+    sends-later = sends-later;
+  }

@@ -11,7 +11,7 @@ use borrow.Author.Tests.{eq-eqb, ne-eqb}
 use Rattle.base.specs.Modulo.{advanced, offset}
 use Rattle.fop.specs.Units.{Fdu, Frame, AD, BD, legal}
 use Rattle.fop.specs.Variables.{Preset}
-use Rattle.session.specs.Session.{nobody, places}
+use Rattle.session.specs.Session.{noUnit, places}
 use Rattle.session.proofs.Core.{addAll, firstOf}
 use Rattle.session.proofs.Lists.{Numbered, numbered-add, iota, places-are}
 use Rattle.session.proofs.Chan.{Fly, fly-more, fly-add, fly-bd}
@@ -70,7 +70,7 @@ module _ (n : ℕ) (P : Preset) (C : ℕ) (gone : List (Option ℕ)) (acc : List
   WI bad sent fr conf den q vs nn p v wt o = Unit {0}
 
 -- a unit sent again does not count anew
-pub same-sent : (n : ℕ) (s : List Fdu) (u : Fdu) (j : ℕ) → Numbered n s → j < length s → length s ≤ j + 127 → u ≡ getD s j nobody
+pub same-sent : (n : ℕ) (s : List Fdu) (u : Fdu) (j : ℕ) → Numbered n s → j < length s → length s ≤ j + 127 → u ≡ getD s j noUnit
     → addAll n s (AD u ∷ []) ≡ s
 same-sent n s u j h b r e =
     rw (ne-eqb (u .ns) (advanced n (length s)) (λ q. omega (arith, h .at j b, ap (λ (x : Fdu). x .ns) e)))
@@ -91,10 +91,10 @@ queue-length C sent conf q e = sym (length-append conf q) ∙ ap length e ∙ le
 
 -- a unit of the queue by its place in sent
 pub queue-at : (C : ℕ) (sent conf q : List Fdu) → conf ++ q ≡ drop C sent → (i : ℕ)
-    → getD q i nobody ≡ getD sent (C + (length conf + i)) nobody
+    → getD q i noUnit ≡ getD sent (C + (length conf + i)) noUnit
 queue-at C sent conf q e i =
-    sym (getD-append-add conf q i nobody) ∙ ap (λ (l : List Fdu). getD l (length conf + i) nobody) e
-    ∙ getD-drop C sent (length conf + i) nobody
+    sym (getD-append-add conf q i noUnit) ∙ ap (λ (l : List Fdu). getD l (length conf + i) noUnit) e
+    ∙ getD-drop C sent (length conf + i) noUnit
 
 -- the places of a run, of the units q that follow what is confirmed
 pub run-places : (n C : ℕ) (sent conf q more : List Fdu) → Numbered n sent → conf ++ (q ++ more) ≡ drop C sent → length sent ≤ C + length conf + 256
@@ -103,20 +103,20 @@ run-places n C sent conf [] more b e l = refl
 run-places n C sent conf (u ∷ us) more b e l =
     let ln = queue-length C sent conf ((u ∷ us) ++ more) e in
     let la : length ((u ∷ us) ++ more) ≡ suc (length us) + length more = length-append (u ∷ us) more in
-    let eu : u ≡ getD sent (C + (length conf + 0)) nobody = queue-at C sent conf ((u ∷ us) ++ more) e 0 in
+    let eu : u ≡ getD sent (C + (length conf + 0)) noUnit = queue-at C sent conf ((u ∷ us) ++ more) e 0 in
     let ej : C + (length conf + 0) ≡ C + length conf = omega arith in
     places-are n sent b (u .ns) (C + length conf) (suc (length us))
-    (ap (λ (x : Fdu). x .ns) (eu ∙ ap (λ (i : ℕ). getD sent i nobody) ej) ∙ b .at (C + length conf) (omega arith)) (omega arith) (omega arith)
+    (ap (λ (x : Fdu). x .ns) (eu ∙ ap (λ (i : ℕ). getD sent i noUnit) ej) ∙ b .at (C + length conf) (omega arith)) (omega arith) (omega arith)
 
 module _ (n : ℕ) (P : Preset) (C : ℕ) (gone : List (Option ℕ)) (acc : List Fdu) (given : Given) (a : ℕ) where
   -- a unit of the queue is sent again
   pub resent : (sent : List Fdu) (fr : List Frame) (conf den q : List Fdu) (vs nn : ℕ) (p : Preset) (v : ℕ) (wt : Option (List ℕ)) (o : List ℕ)
-      → WI n P C gone acc given a live sent fr conf den q vs nn p v wt o → (u : Fdu) (i : ℕ) → i < length q → u ≡ getD q i nobody
+      → WI n P C gone acc given a live sent fr conf den q vs nn p v wt o → (u : Fdu) (i : ℕ) → i < length q → u ≡ getD q i noUnit
       → WI n P C gone acc given a live (addAll n sent (AD u ∷ [])) (fr ++ (AD u ∷ [])) conf den q vs nn p v wt o
   resent sent fr conf den q vs nn p v wt o h u i b e =
       let ln : length conf + length q ≡ length sent - C = queue-length C sent conf q (h .1 .cut) in
       let j : ℕ = C + (length conf + i) in
-      let eu : u ≡ getD sent j nobody = e ∙ queue-at C sent conf q (h .1 .cut) i in
+      let eu : u ≡ getD sent j noUnit = e ∙ queue-at C sent conf q (h .1 .cut) i in
       let bj : j < length sent = omega arith in
       rw (same-sent n sent u j (h .0 .num) bj (omega arith) eu) (
         refly (h .0) (fly-add (P .k) sent (length acc) (length acc) fr u j eu bj (h .0 .behind) (omega arith) (omega arith) (h .0 .fly)),
@@ -144,7 +144,7 @@ module _ (n : ℕ) (P : Preset) (C : ℕ) (gone : List (Option ℕ)) (acc : List
           room = omega arith;
           small = h .0 .small;
           fly =
-              fly-add (P .k) (sent ++ (u ∷ [])) (length acc) (length acc) fr u (length sent) (sym (getD-append-seam sent u [] nobody)) (omega arith)
+              fly-add (P .k) (sent ++ (u ∷ [])) (length acc) (length acc) fr u (length sent) (sym (getD-append-seam sent u [] noUnit)) (omega arith)
               (omega arith) (omega arith) (omega arith) (fly-more (P .k) sent (u ∷ []) (length acc) (length acc) fr (h .0 .fly));
         },
         record {

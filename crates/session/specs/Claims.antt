@@ -11,7 +11,7 @@ use mathlib.Core.Logic.{_⊎_, _↔_, _≢_}
 use mathlib.Core.Bool.{Bool, true, false, _||_}
 use mathlib.Core.List.{List, [], _∷_, _++_, map}
 use mathlib.Core.Option.{Option, none, some}
-use Prim.Native.Nat.{ℕ, zero, suc, _+_, _≤_, _<_}
+use Prim.Native.Nat.{ℕ, zero, suc, _+_, _%_, _≤_, _<_}
 use lib.Dec.{eqb}
 use lib.ListN.{length, getD}
 use Rattle.base.specs.Choice.{pick}
@@ -24,9 +24,11 @@ use Rattle.fop.specs.Events.{SenderEvent, requestAd, lower, wordArrives, adAcce
 use Rattle.fop.specs.Events as fop
 use Rattle.fop.specs.Answers.{needed}
 use Rattle.farm.specs.declared.State.the-variants.{Open, Lockout}
+use Rattle.farm.specs.declared.Variables.{Variables}
 use Rattle.session.specs.Frames.{read}
+use Rattle.session.specs.Receiver.{wordLength}
 use Rattle.session.specs.Ends.{Settings, Ends, tables}
-use Rattle.session.specs.Session.{adRequest, ticks, lowerSays, wordIn, frameIn, Linked, History, step, nobody}
+use Rattle.session.specs.Session.{adRequest, ticks, lowerSays, wordIn, wordMade, frameIn, Linked, History, step, noUnit}
 
 -- "a first part, in order"
 abbrev pub Prefix : {A : Type 0} → List A → List A → Type 0
@@ -35,7 +37,7 @@ Prefix a b = (c : List _) × (a ++ c ≡ b)
 -- the units at places of s
 abbrev pub unitsAt : List Fdu → List (Option ℕ) → List (Option Fdu)
 unitsAt s [] = []
-unitsAt s (some i ∷ is) = some (getD s i nobody) ∷ unitsAt s is
+unitsAt s (some i ∷ is) = some (getD s i noUnit) ∷ unitsAt s is
 unitsAt s (none ∷ is) = none ∷ unitsAt s is
 
 -- the place x is among these
@@ -69,6 +71,17 @@ expected set h = advanced (set .n) (length (h .accepted))
 abbrev pub BufferFree : Settings → History → Type 0
 BufferFree set h = length (h .accepted) < set .buffers + h .released
 
+-- the control word of a receiver with these flags: "the FARM-B counter modulo 4", counted on from the start by the BD units accepted, and the
+-- number expected
+abbrev pub reported : Settings → Variables → History → Word
+reported set v h = record {
+  lockout = v .lockout;
+  wait = v .wait;
+  retransmit = v .retransmit;
+  counter = (set .counter + length (h .acceptedBd)) % 4;
+  nr = expected set h;
+}
+
 -- the unit o, with the next number to send
 abbrev pub nextUnit : Settings → History → List ℕ → Fdu
 nextUnit set h o = record { ns = nextNumber set h; octets = o }
@@ -94,13 +107,13 @@ module _ (set : Settings) {m : Ends} where
     pub counted : τ .history .sent ≡ σ .history .sent
     pub place : ℕ
     pub out : IsOutstanding (σ .history) place
-    pub is : u ≡ getD (σ .history .sent) place nobody
+    pub is : u ≡ getD (σ .history .sent) place noUnit
 
 -- u is on the Sent_Queue, marked
 pub record Marked (u : Fdu) (f : Fop) : Type 0 where
   pub place : ℕ
   pub on : place < length (f .sentQueue)
-  pub is : getD (f .sentQueue) place (record { fdu = nobody; marked = false }) ≡ record { fdu = u; marked = true }
+  pub is : getD (f .sentQueue) place (record { fdu = noUnit; marked = false }) ≡ record { fdu = u; marked = true }
 
 -- "What demand 3 says of the sender at the next event supposes that the room it needs there is lent"
 abbrev pub Lent : Settings → SenderEvent → ℕ → Fop → Type 0
@@ -138,8 +151,8 @@ pub record Claims (set : Settings) (m : Ends) (σ : Linked m) (γ : Linked (tabl
   -- "To either, a timer expiry short of the transmission limit resends or marks every outstanding unit,"
   pub expires : (i lent : ℕ) → Lent set fop.tick lent (γ .sender)
       → serves (γ .sender .state) ≡ true → γ .sender .clock .timer ≡ 1 → γ .sender .clock .transmissionCount < set .limit → IsOutstanding (σ .history) i
-      → Resends set (getD (σ .history .sent) i nobody) σ (step set m (ticks lent) σ)
-      ⊎ Marked (getD (σ .history .sent) i nobody) ((step set (tables set) (ticks lent) γ) .sender)
+      → Resends set (getD (σ .history .sent) i noUnit) σ (step set m (ticks lent) σ)
+      ⊎ Marked (getD (σ .history .sent) i noUnit) ((step set (tables set) (ticks lent) γ) .sender)
   -- "and a clear control word reporting the next number to send confirms them all and, if there were any and the lower layer is ready,
   -- sends the unit waiting, if any."
   pub clears : (s : List ℕ) (ws : List (List ℕ)) (w : Word) (lent : ℕ) → σ .words ≡ s ∷ ws → readWord (set .own) s ≡ valid w
@@ -148,3 +161,7 @@ pub record Claims (set : Settings) (m : Ends) (σ : Linked m) (γ : Linked (tabl
       → ((i : ℕ) → IsOutstanding (σ .history) i → member i ((step set m (wordIn lent) σ) .history .confirmed) ≡ true)
       × ((o : List ℕ) → 0 < length (outstanding (σ .history)) → γ .sender .out .ad ≡ true → γ .sender .waitQueue ≡ some o
       → Sends set (nextUnit set (σ .history) o) σ (step set m (wordIn lent) σ))
+  -- "the receiver's control word, with V(R), flags and counter as table 7-9 gives them, enters its channel", where its room is lent
+  pub words : (lent : ℕ) → wordLength ≤ lent
+      → (s : List ℕ) × ((step set m (wordMade lent) σ) .words ≡ σ .words ++ (s ∷ []))
+      × (readWord (set .own) s ≡ valid (reported set (γ .receiver .variables) (σ .history)))

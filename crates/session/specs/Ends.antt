@@ -1,20 +1,25 @@
 -- The settings of a session, the start, and a pair of ends: whatever they do, and what it is that they do as the tables say.
 use mathlib.Core.Path.{_≡_}
-use mathlib.Core.List.{List}
+use mathlib.Core.Bool.{false}
 use Prim.Native.Nat.{ℕ, _/_, _%_, _≤_}
 use Rattle.base.specs.Limits.{largestSpacecraft, largestChannel}
 use Rattle.fop.specs.Limits.{largestK, largestTransmissionLimit, largestTimer, largestNumber}
 use Rattle.fop.specs.Units.{Own}
 use Rattle.fop.specs.Table.{S1}
-use Rattle.fop.specs.Variables.{Fop, atStart, setState}
+use Rattle.fop.specs.Variables.{Fop, atStart, setState, setClock}
 use Rattle.fop.specs.Events.{SenderEvent}
 use Rattle.fop.specs.Answers.{Answer, senderNext, senderAnswer}
-use Rattle.farm.specs.Receiver.{atStart as receiverAtStart, largestBuffers}
+use Rattle.farm.specs.Receiver.{largestBuffers}
+use Rattle.farm.specs.declared.State.the-variants.{Open}
 use Rattle.farm.specs.declared.Receiver.{Receiver}
-use Rattle.session.specs.Receiver.{ReceiverEvent, ReceiverAnswer, receiverNext, receiverAnswer, receiverWord}
+use Rattle.session.specs.Receiver.{ReceiverEvent, ReceiverAnswer, WordAnswer, receiverNext, receiverAnswer, receiverWord}
+
+-- "the FARM-B counter modulo 4"
+abbrev pub largestCounter : ℕ
+largestCounter = 3
 
 -- n is V(S), NN(R) and V(R) at the start ("n is V(S) at the start"); k the sender's window K and w the receiver's W; the count of AD
--- buffers; T1_Initial in ticks; Transmission_Limit; the address of both ends
+-- buffers; T1_Initial in ticks; Transmission_Limit; the address of both ends; Transmission_Count and the FARM-B counter at the start
 pub record Settings : Type 0 where
   pub n : ℕ
   pub k : ℕ
@@ -23,6 +28,8 @@ pub record Settings : Type 0 where
   pub t1 : ℕ
   pub limit : ℕ
   pub own : Own
+  pub count : ℕ
+  pub counter : ℕ
 
 -- "settings within limits, K at most PW", by document 01, "Limits"
 pub record Within (s : Settings) : Type 0 where
@@ -41,19 +48,31 @@ pub record Within (s : Settings) : Type 0 where
   pub limitMost : s .limit ≤ largestTransmissionLimit
   pub spacecraft : s .own .spacecraft ≤ largestSpacecraft
   pub channel : s .own .channel ≤ largestChannel
+  pub countLeast : 1 ≤ s .count
+  pub countMost : s .count ≤ largestTransmissionLimit
+  pub counterMost : s .counter ≤ largestCounter
 
 -- "Synchronised and active": "sender Active, queues empty, flags ready, timer stopped, V(S) = NN(R) = V(R), receiver as at its start, both
--- of one spacecraft and channel"
+-- of one spacecraft and channel". That leaves Transmission_Count open.
 unfoldable pub startSender : Settings → Fop
 startSender s =
-    setState S1 (atStart (s .n) (s .n) (record { k = s .k; transmissionLimit = s .limit; t1Initial = s .t1; timeoutType = 0 }))
+    setClock 0 (s .count)
+    (setState S1 (atStart (s .n) (s .n) (record { k = s .k; transmissionLimit = s .limit; t1Initial = s .t1; timeoutType = 0 })))
 
--- the receiver's part: crate farm's `atStart`
+-- The receiver's part: Open, flags zero, no buffer taken, V(R) as set. Document 01's start is the case counter 0; a receiver that carried out
+-- Unlock or Set V(R) has counted it.
 unfoldable pub startReceiver : Settings → Receiver
-startReceiver s = receiverAtStart (s .own .spacecraft) (s .own .channel) (s .w) (s .n) (s .buffers)
+startReceiver s = record {
+  spacecraft = s .own .spacecraft;
+  channel = s .own .channel;
+  window = s .w;
+  buffers = s .buffers;
+  taken = 0;
+  variables = record { state = Open; vr = s .n; lockout = false; wait = false; retransmit = false; counter = s .counter };
+}
 
 -- A sender and a receiver, whatever they are: how they stand at the start, and the next state, answer and control word that they give. A
--- number is the room lent for a frame.
+-- number is the room lent for a frame or word.
 pub record Ends : Type 1 where
   pub Sender : Type 0
   pub Receiver : Type 0
@@ -63,7 +82,7 @@ pub record Ends : Type 1 where
   pub answer : SenderEvent → ℕ → Sender → Answer
   pub nextReceiver : ReceiverEvent → Receiver → Receiver
   pub answerReceiver : ReceiverEvent → Receiver → ReceiverAnswer
-  pub word : Receiver → List ℕ
+  pub word : ℕ → Receiver → WordAnswer
 
 -- the ends that the tables themselves are: table 7-8 by crate fop, table 7-9 by crate farm
 abbrev pub tables : Settings → Ends
@@ -96,4 +115,4 @@ pub record Tied (s : Settings) (m : Ends) : Type 1 where
   pub answer : (e : SenderEvent) (lent : ℕ) (x : m .Sender) → Good x → m .answer e lent x ≡ senderAnswer (s .own) e lent (fop x)
   pub nextReceiver : (e : ReceiverEvent) (x : m .Receiver) → GoodReceiver x → farm (m .nextReceiver e x) ≡ receiverNext e (farm x)
   pub answerReceiver : (e : ReceiverEvent) (x : m .Receiver) → GoodReceiver x → m .answerReceiver e x ≡ receiverAnswer e (farm x)
-  pub word : (x : m .Receiver) → GoodReceiver x → m .word x ≡ receiverWord (farm x)
+  pub word : (lent : ℕ) (x : m .Receiver) → GoodReceiver x → m .word lent x ≡ receiverWord lent (farm x)

@@ -4,8 +4,8 @@ use Prim.Native.Nat.{ℕ}
 use Rattle.frame.specs.Answers.{readingOf, partOf}
 use Rattle.frame.specs.declared.Kind.{Kind}
 use Rattle.frame.specs.declared.Kind.the-variants as kind
-use Rattle.frame.specs.declared.Reading.{Reading}
-use Rattle.frame.specs.declared.Reading.the-variants as reading
+use Rattle.frame.specs.declared.FrameReading.{FrameReading}
+use Rattle.frame.specs.declared.FrameReading.the-variants as reading
 use Rattle.fop.specs.Units.{Frame, AD, BD, Unlock, SetVR, Refused, Own}
 
 -- a frame of this kind, with its data part
@@ -16,7 +16,7 @@ carried kind.Unlock o = Unlock
 carried (kind.SetVr v) o = SetVR v
 
 -- a reading of crate frame, with the data part
-abbrev pub byReading : Reading → List ℕ → Frame
+abbrev pub byReading : FrameReading → List ℕ → Frame
 byReading (reading.Frame fields) o = carried (fields .kind) o
 byReading (reading.Refused r) o = Refused r
 

@@ -2,13 +2,14 @@
 use mathlib.Core.List.{List}
 use mathlib.Core.Option.{Option, none, some}
 use Prim.Native.Nat.{ℕ}
-use Rattle.clcw.specs.Clcw.{clcwOf}
+use Rattle.base.specs.Outcome.{Outcome, Outcome.done, Outcome.refused}
+use Rattle.clcw.specs.Clcw.{writing}
 use Rattle.farm.specs.Receiver.{receiveOf, unitPart, releaseOf, wordOf}
 use Rattle.farm.specs.declared.Event.{Event as FarmEvent}
 use Rattle.farm.specs.declared.Receiver.{Receiver}
 use Rattle.farm.specs.declared.Received.{Received}
-use Rattle.farm.specs.declared.Unit.{Unit as AcceptedUnit}
-use Rattle.farm.specs.declared.Unit.the-variants.{None, AdUnit, BdUnit}
+use Rattle.farm.specs.declared.AcceptedUnit.{AcceptedUnit}
+use Rattle.farm.specs.declared.AcceptedUnit.the-variants.{None, AdUnit, BdUnit}
 use Rattle.farm.specs.declared.Released.{Released}
 use Rattle.farm.specs.declared.Released.the-variants.{Done, NoneTaken}
 
@@ -55,6 +56,20 @@ unfoldable pub receiverAnswer : ReceiverEvent → Receiver → ReceiverAnswer
 receiverAnswer (frameArrives s) r = frameAnswer (receiveOf r s) (unitPart r s)
 receiverAnswer releaseBuffer r = releaseAnswer (releaseOf r)
 
--- "the receiver's control word, with V(R), flags and counter as table 7-9 gives them", as octets
-unfoldable pub receiverWord : Receiver → List ℕ
-receiverWord r = clcwOf (wordOf r)
+-- clause 6.3.1: a control word is four octets
+abbrev pub wordLength : ℕ
+wordLength = 4
+
+-- what the receiver answers when its control word is asked for (E11): the refusal, 0 for done, and the word's octets where it is not refused
+pub record WordAnswer : Type 0 where
+  pub refusal : ℕ
+  pub word : Option (List ℕ)
+
+-- by what writing the word comes to
+abbrev pub wordTold : Outcome (Unit {0}) → WordAnswer
+wordTold (done octets more) = record { refusal = 0; word = some octets }
+wordTold (refused number place) = record { refusal = number; word = none }
+
+-- "the receiver's control word, with V(R), flags and counter as table 7-9 gives them", written by crate clcw into room of this length
+unfoldable pub receiverWord : ℕ → Receiver → WordAnswer
+receiverWord lent r = wordTold (writing (wordOf r) lent)

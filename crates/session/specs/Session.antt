@@ -29,8 +29,8 @@ pub record History : Type 0 where
   pub acceptedBd : List (List ℕ)
 
 -- what stands at a place where no unit is
-abbrev pub nobody : Fdu
-nobody = record { ns = 0; octets = [] }
+abbrev pub noUnit : Fdu
+noUnit = record { ns = 0; octets = [] }
 
 -- Sent: "the units of AD frames handed down whose N(S) is n plus the count sent before"
 abbrev pub addSent : ℕ → List Fdu → Frame → List Fdu
@@ -61,7 +61,7 @@ sentBdAfter own b (some o) = addBd b (read own o)
 -- the place below i of the unit last sent with the number x
 abbrev pub lastPlace : List Fdu → ℕ → ℕ → Option ℕ
 lastPlace s x zero = none
-lastPlace s x (suc i) = pick (eqb ((getD s i nobody) .ns) x) (some i) (lastPlace s x i)
+lastPlace s x (suc i) = pick (eqb ((getD s i noUnit) .ns) x) (some i) (lastPlace s x i)
 
 -- Confirmed, Denied: "those of the answers' runs end to end, a number meaning the unit last sent with it by then": the places of `count` units
 -- from the number x on
@@ -164,17 +164,18 @@ begins m = record {
   history = record { sent = []; accepted = []; confirmed = []; denied = []; released = 0; lockedOut = false; sentBd = []; acceptedBd = [] };
 }
 
--- the events; a number is the room lent for a frame. To the sender: an AD or BD request, a tick, an answer of the lower layer, Terminate, the
--- oldest word; to the receiver: the oldest frame, a release; the receiver's control word is made; the oldest frame or word is lost
+-- the events; the last number is the room lent for a frame or word. To the sender: an AD or BD request, a tick, an answer of the lower layer,
+-- Terminate with its value, which is not looked at, the oldest word; to the receiver: the oldest frame, a release; the receiver's control
+-- word is made; the oldest frame or word is lost
 pub data Event : Type 0 where
   adRequest bdRequest : List ℕ → ℕ → Event
   ticks : ℕ → Event
   lowerSays : Lower → ℕ → Event
-  terminate : ℕ → Event
-  wordIn : ℕ → Event
-  wordLost wordMade frameIn frameLost release : Event
+  terminate : ℕ → ℕ → Event
+  wordIn wordMade : ℕ → Event
+  wordLost frameIn frameLost release : Event
 
--- "each frame handed down, even if aborted later, enters its channel"
+-- "each frame handed down, even if aborted later, enters its channel", and so does a control word that is made
 abbrev pub enters : List (List ℕ) → Option (List ℕ) → List (List ℕ)
 enters fs none = fs
 enters fs (some o) = fs ++ (o ∷ [])
@@ -232,10 +233,10 @@ step set m (adRequest o lent) σ = toSender set m (requestAd o) lent (σ .words)
 step set m (bdRequest o lent) σ = toSender set m (requestBd o) lent (σ .words) σ
 step set m (ticks lent) σ = toSender set m fop.tick lent (σ .words) σ
 step set m (lowerSays l lent) σ = toSender set m (fop.lower l) lent (σ .words) σ
-step set m (terminate lent) σ = toSender set m (directive 5 0) lent (σ .words) σ
+step set m (terminate v lent) σ = toSender set m (directive 5 v) lent (σ .words) σ
 step set m (wordIn lent) σ = wordCome set m lent (σ .words) σ
 step set m wordLost σ = channels m (σ .frames) (rest (σ .words)) σ
-step set m wordMade σ = channels m (σ .frames) (σ .words ++ (m .word (σ .receiver) ∷ [])) σ
+step set m (wordMade lent) σ = channels m (σ .frames) (enters (σ .words) ((m .word lent (σ .receiver)) .word)) σ
 step set m frameIn σ = frameCome set m (σ .frames) σ
 step set m frameLost σ = channels m (rest (σ .frames)) (σ .words) σ
 step set m release σ = releases m σ

@@ -4,7 +4,7 @@ use mathlib.Core.Logic.{_⊎_, _≢_}
 use mathlib.Core.Bool.{Bool, true, false}
 use mathlib.Core.List.{List, [], _∷_, _++_, map}
 use mathlib.Core.Option.{Option, none, some}
-use Prim.Native.Nat.{ℕ, _≤_, _<_, _%_}
+use Prim.Native.Nat.{ℕ, _≤_, _<_}
 use lib.ListN.{length, getD}
 use Rattle.base.specs.Modulo.{advanced}
 use Rattle.fop.specs.Units.{Fdu, AD, BD, Word, valid, Own, legal, written, readWord}
@@ -17,10 +17,10 @@ use Rattle.fop.specs.Answers.{senderNext, senderAnswer}
 use Rattle.farm.specs.declared.State.the-variants.{Open}
 use Rattle.farm.specs.declared.Receiver.{Receiver}
 use Rattle.session.specs.Frames.{read}
-use Rattle.session.specs.Receiver.{ReceiverEvent, frameArrives, releaseBuffer, receiverNext, receiverAnswer}
+use Rattle.session.specs.Receiver.{ReceiverEvent, frameArrives, releaseBuffer, wordLength, receiverNext, receiverAnswer}
 use Rattle.session.specs.Ends.{Settings, Ends, tables}
-use Rattle.session.specs.Session.{adRequest, bdRequest, wordIn, frameIn, Linked, step, nobody}
-use Rattle.session.specs.Claims.{unitsAt, IsOutstanding, outstanding, nextNumber, expected, BufferFree, serves, Lent, Resends, Marked}
+use Rattle.session.specs.Session.{adRequest, bdRequest, wordIn, wordMade, frameIn, Linked, step, noUnit}
+use Rattle.session.specs.Claims.{unitsAt, IsOutstanding, outstanding, nextNumber, BufferFree, serves, Lent, Resends, Marked}
 
 -- S1 to S3
 abbrev pub inService : State → Bool
@@ -48,7 +48,7 @@ somes (i ∷ is) = some i ∷ somes is
 -- the units at places of s
 abbrev pub unitsOf : List Fdu → List ℕ → List Fdu
 unitsOf s [] = []
-unitsOf s (i ∷ is) = getD s i nobody ∷ unitsOf s is
+unitsOf s (i ∷ is) = getD s i noUnit ∷ unitsOf s is
 
 -- a is b with some elements left out
 pub data Sub {A : Type 0} : List A → List A → Type 0 where
@@ -57,12 +57,12 @@ pub data Sub {A : Type 0} : List A → List A → Type 0 where
   takes : {x : A} {a b : List A} → Sub a b → Sub (x ∷ a) (x ∷ b)
 
 -- no alert, or at a transmission limit of 1 that of the limit
-abbrev pub Calm : ℕ → Option Reason → Type 0
-Calm l r = (r ≡ none) ⊎ ((r ≡ some Reason.limit) × (l ≡ 1))
+abbrev pub LimitOnly : ℕ → Option Reason → Type 0
+LimitOnly l r = (r ≡ none) ⊎ ((r ≡ some Reason.limit) × (l ≡ 1))
 
 -- no alert, or term, T1 or LLIF, or at a transmission limit of 1 that of the limit
-abbrev pub Known : ℕ → Option Reason → Type 0
-Known l r =
+abbrev pub KnownAlert : ℕ → Option Reason → Type 0
+KnownAlert l r =
     (r ≡ none) ⊎ ((r ≡ some Reason.term) ⊎ ((r ≡ some Reason.t1) ⊎ ((r ≡ some Reason.llif) ⊎ ((r ≡ some Reason.limit) × (l ≡ 1)))))
 
 -- an event that the session can bring to the sender
@@ -71,7 +71,7 @@ InSession ws (requestAd o) = Unit {0}
 InSession ws (requestBd o) = Unit {0}
 InSession ws fop.tick = Unit {0}
 InSession ws (lower l) = Unit {0}
-InSession ws (directive d v) = (d ≡ 5) × (v ≡ 0)
+InSession ws (directive d v) = d ≡ 5
 InSession ws (wordArrives s) = (more : List (List ℕ)) × (ws ≡ s ∷ more)
 
 -- the stronger claims, after every list of events and at whatever event comes next
@@ -83,8 +83,8 @@ pub record Stronger (set : Settings) (m : Ends) (σ : Linked m) (γ : Linked (ta
       → unitsAt (σ .history .sent) (σ .history .confirmed ++ somes (outstanding (σ .history))) ≡ map some (σ .history .sent)
   pub queue : inService (γ .sender .state) ≡ true → fdus (γ .sender .sentQueue) ≡ unitsOf (σ .history .sent) (outstanding (σ .history))
   pub undenied : inService (γ .sender .state) ≡ true → σ .history .denied ≡ []
-  -- out of service, Sent is Confirmed and then Denied
-  pub fallen : γ .sender .state ≡ S6 → unitsAt (σ .history .sent) (σ .history .confirmed ++ σ .history .denied) ≡ map some (σ .history .sent)
+  -- in Initial, Sent is Confirmed and then Denied
+  pub initial : γ .sender .state ≡ S6 → unitsAt (σ .history .sent) (σ .history .confirmed ++ σ .history .denied) ≡ map some (σ .history .sent)
   -- no state but S1, S2, S3 and S6
   pub states : (inService (γ .sender .state) ≡ true) ⊎ (γ .sender .state ≡ S6)
   -- a unit that is sent at once is accepted, and starts the timer
@@ -99,17 +99,17 @@ pub record Stronger (set : Settings) (m : Ends) (σ : Linked m) (γ : Linked (ta
   pub asks : (s : List ℕ) (ws : List (List ℕ)) (w : Word) (i lent : ℕ) → σ .words ≡ s ∷ ws → readWord (set .own) s ≡ valid w
       → Lent set (wordArrives s) lent (γ .sender) → asking (γ .sender .state) ≡ true → γ .sender .clock .transmissionCount < set .limit → 1 < set .limit
       → w .lockout ≡ false → w .wait ≡ false → w .retransmit ≡ true → w .nr ≡ advanced (set .n) (length (σ .history .confirmed)) → IsOutstanding (σ .history) i
-      → Resends set (getD (σ .history .sent) i nobody) σ (step set m (wordIn lent) σ)
-      ⊎ Marked (getD (σ .history .sent) i nobody) ((step set (tables set) (wordIn lent) γ) .sender)
+      → Resends set (getD (σ .history .sent) i noUnit) σ (step set m (wordIn lent) σ)
+      ⊎ Marked (getD (σ .history .sent) i noUnit) ((step set (tables set) (wordIn lent) γ) .sender)
   -- every AD frame handed down is the next new unit, or an outstanding unit, its octets unchanged
   pub handed : (e : SenderEvent) (lent : ℕ) → InSession (σ .words) e → (o : List ℕ) (u : Fdu)
       → (m .answer e lent (σ .sender)) .down ≡ some o → read (set .own) o ≡ AD u
-      → (u .ns ≡ nextNumber set (σ .history)) ⊎ ((i : ℕ) × IsOutstanding (σ .history) i × (u ≡ getD (σ .history .sent) i nobody))
+      → (u .ns ≡ nextNumber set (σ .history)) ⊎ ((i : ℕ) × IsOutstanding (σ .history) i × (u ≡ getD (σ .history .sent) i noUnit))
   -- at a transmission limit of 1 it is the next new unit: nothing is handed down twice
   pub once : set .limit ≡ 1 → (e : SenderEvent) (lent : ℕ) → InSession (σ .words) e → (o : List ℕ) (u : Fdu)
       → (m .answer e lent (σ .sender)) .down ≡ some o → read (set .own) o ≡ AD u → u .ns ≡ nextNumber set (σ .history)
   -- and is handed down only by an event that leaves the sender active or resending without wait
-  pub shut : (e : SenderEvent) (lent : ℕ) → InSession (σ .words) e → (o : List ℕ) (u : Fdu)
+  pub servingOnly : (e : SenderEvent) (lent : ℕ) → InSession (σ .words) e → (o : List ℕ) (u : Fdu)
       → (m .answer e lent (σ .sender)) .down ≡ some o → read (set .own) o ≡ AD u → serves ((m .answer e lent (σ .sender)) .state) ≡ true
   -- a control word that reaches a sender in service makes the count of confirmed units what it reports
   pub exact : (s : List ℕ) (ws : List (List ℕ)) (w : Word) (lent : ℕ) → σ .words ≡ s ∷ ws → readWord (set .own) s ≡ valid w
@@ -117,15 +117,6 @@ pub record Stronger (set : Settings) (m : Ends) (σ : Linked m) (γ : Linked (ta
       → w .nr ≡ advanced (set .n) (length ((step set m (wordIn lent) σ) .history .confirmed))
   -- a receiver with a free buffer is Open
   pub opens : BufferFree set (σ .history) → γ .receiver .variables .state ≡ Open
-  -- a control word reports the flags as table 7-9 gives them, the count of BD units accepted, modulo 4, and the next number expected
-  pub words : readWord (set .own) (m .word (σ .receiver))
-      ≡ valid (record {
-        lockout = γ .receiver .variables .lockout;
-        wait = γ .receiver .variables .wait;
-        retransmit = γ .receiver .variables .retransmit;
-        counter = length (σ .history .acceptedBd) % 4;
-        nr = expected set (σ .history);
-      })
   -- BD units accepted are those handed down, in order, but for those lost
   pub inOrderBd : Sub (σ .history .acceptedBd) (σ .history .sentBd)
   -- with BD_Out ready, a legal BD unit offered is handed down at once, in every state; a BD unit that arrives is accepted
@@ -134,11 +125,11 @@ pub record Stronger (set : Settings) (m : Ends) (σ : Linked m) (γ : Linked (ta
       × ((step set m (bdRequest o lent) σ) .history .sentBd ≡ σ .history .sentBd ++ (o ∷ []))
   pub acceptsBd : (s : List ℕ) (fs : List (List ℕ)) (o : List ℕ) → σ .frames ≡ s ∷ fs → read (set .own) s ≡ BD o
       → (step set m frameIn σ) .history .acceptedBd ≡ σ .history .acceptedBd ++ (o ∷ [])
-  -- Quiet: to the next control word no synch, NN(R), CLCW or lockout alert, and that of the limit only at a limit of 1
-  pub quiet : (s : List ℕ) (ws : List (List ℕ)) (lent : ℕ) → σ .words ≡ s ∷ ws → Calm (set .limit) ((m .answer (wordArrives s) lent (σ .sender)) .alert)
+  -- to the next control word no synch, NN(R), CLCW or lockout alert, and that of the limit only at a limit of 1
+  pub wordAlert : (s : List ℕ) (ws : List (List ℕ)) (lent : ℕ) → σ .words ≡ s ∷ ws → LimitOnly (set .limit) ((m .answer (wordArrives s) lent (σ .sender)) .alert)
   -- and to whatever event no alert but term, T1, LLIF and that of the limit
-  pub alerts : (e : SenderEvent) (lent : ℕ) → InSession (σ .words) e → Known (set .limit) ((m .answer e lent (σ .sender)) .alert)
-  -- the refusals of the session are 10 and 11 (sender) and 13 (receiver)
+  pub alerts : (e : SenderEvent) (lent : ℕ) → InSession (σ .words) e → KnownAlert (set .limit) ((m .answer e lent (σ .sender)) .alert)
+  -- the refusals of the session are 10 and 11 (sender), 11 and 13 (receiver)
   pub refusals : (e : SenderEvent) (lent : ℕ) → InSession (σ .words) e
       → ((m .answer e lent (σ .sender)) .refusal ≡ 0) ⊎ (((m .answer e lent (σ .sender)) .refusal ≡ 10) ⊎ ((m .answer e lent (σ .sender)) .refusal ≡ 11))
   pub frameRefusal : (s : List ℕ) (fs : List (List ℕ)) → σ .frames ≡ s ∷ fs → (m .answerReceiver (frameArrives s) (σ .receiver)) .refusal ≡ 0
@@ -146,6 +137,10 @@ pub record Stronger (set : Settings) (m : Ends) (σ : Linked m) (γ : Linked (ta
   pub releaseRefusal :
       (((m .answerReceiver releaseBuffer (σ .receiver)) .refusal ≡ 0) × (σ .history .released < length (σ .history .accepted)))
       ⊎ (((m .answerReceiver releaseBuffer (σ .receiver)) .refusal ≡ 13) × (σ .history .released ≡ length (σ .history .accepted)))
+  -- a control word is refused exactly where its room is not lent; then the words under way stay
+  pub wordRefusal : (lent : ℕ)
+      → (((m .word lent (σ .receiver)) .refusal ≡ 0) × (wordLength ≤ lent))
+      ⊎ (((m .word lent (σ .receiver)) .refusal ≡ 11) × (lent < wordLength) × ((step set m (wordMade lent) σ) .words ≡ σ .words))
 
 -- of the table machines: what is refused keeps the state (a refused frame is E9, which keeps it by table 7-9)
 pub record RefusedKeeps (own : Own) : Type 0 where

@@ -8,8 +8,8 @@ use Rattle.base.specs.Outcome.{Outcome, Outcome.done, Outcome.refused, Answer, 
 use Rattle.text.specs.Decimal.{Number, Number.is, Number.none}
 use Rattle.text.specs.declared.Decimal.{Decimal}
 use Rattle.text.specs.declared.Decimal.the-variants.{Is, None}
-use Rattle.text.specs.declared.Written.{Written}
-use Rattle.text.specs.declared.Written.the-variants.{Done, Room}
+use Rattle.text.specs.declared.NumberWritten.{NumberWritten}
+use Rattle.text.specs.declared.NumberWritten.the-variants.{Done, Room}
 
 -- a number that was read, or none
 abbrev pub numberTold : Decimal → Number
@@ -21,6 +21,6 @@ unfoldable pub written : List ℕ → ℕ → Outcome (Unit {0})
 written text room = must (leb (length text) room) (refused 11 0) (done text tt)
 
 -- what writing answers: the count of octets, or 11
-abbrev pub writtenAnswer : Written → Answer (Unit {0})
+abbrev pub writtenAnswer : NumberWritten → Answer (Unit {0})
 writtenAnswer (Done count) = done count tt
 writtenAnswer Room = refused 11 0

@@ -24,7 +24,7 @@ pub enum Decimal {
 }
 
 // The count of octets written, or document 01's refusal 11.
-pub enum Written {
+pub enum NumberWritten {
     Done(usize),
     Room,
 }
@@ -132,14 +132,14 @@ fn spell(n: u64, count: usize, out: &mut [u8])
 }
 
 // Writes a number's decimal text at the front of the output. A refusal changes nothing.
-pub fn write(n: u64, out: &mut [u8]) -> Written
+pub fn write(n: u64, out: &mut [u8]) -> NumberWritten
     ensures answer { λ r. ⌜ writtenAnswer r ≡ answer (written (decimal n) (length (now (out .entry)))) ⌝ }
     ensures memory { λ r. ⌜ now (out .exit) ≡ after (written (decimal n) (length (now (out .entry)))) (now (out .entry)) ⌝ }
 {
     let count = digits(n);
     if out.len() < count {
-        return Written::Room;
+        return NumberWritten::Room;
     }
     spell(n, count, out);
-    Written::Done(count)
+    NumberWritten::Done(count)
 }

@@ -5,7 +5,7 @@ use native.Mathlib.Omega.{arith}
 use lib.ListN.{length-take}
 use Rattle.base.specs.Outcome.{countOf}
 use Rattle.text.specs.Answers.{writtenAnswer}
-use Rattle.text.specs.declared.Written.{Written}
+use Rattle.text.specs.declared.NumberWritten.{NumberWritten}
 use Rattle.farm1.proofs.emit.Statement.{statement}
 use Rattle.farm1.proofs.emit.Tie as tie
 
@@ -20,7 +20,7 @@ returns c = search needs
 
 slice-aggregate-write-all : tie.Need-slice-aggregate-write-all
 slice-aggregate-write-all c =
-    let t = ap (λ (w : Written). countOf (writtenAnswer w)) (c .before .before .written .given .1) in
+    let t = ap (λ (w : NumberWritten). countOf (writtenAnswer w)) (c .before .before .written .given .1) in
     simp length-take (omega arith)
 
 write-all-requires : tie.Need-write-all-requires

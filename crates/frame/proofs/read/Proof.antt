@@ -1,4 +1,4 @@
--- A refusal is handed on; a frame that is not refused has our address, and its fields at their places.
+-- A refusal is handed on by its number; a frame that is not refused has our address, and its fields at their places.
 use borrow.Author.Needs.{needs}
 use mathlib.Core.Path.{sym, ap, ap₂, _∙_}
 use Prim.Native.Nat.{ℕ, _-_}
@@ -6,7 +6,7 @@ use native.Mathlib.Omega.{arith}
 use denote.Ref.{now}
 use Rattle.frame.specs.Frame.{commandHeld}
 use Rattle.frame.specs.declared.Kind.{Kind}
-use Rattle.frame.specs.declared.Reading.the-variants.{Frame, Refused}
+use Rattle.frame.specs.declared.FrameReading.the-variants.{Frame, Refused}
 use Rattle.frame.proofs.Accepted.{accepted, reading-frame, reading-refused}
 use Rattle.frame.proofs.read.Statement.{statement}
 use Rattle.frame.proofs.read.Tie as tie
@@ -18,7 +18,7 @@ returns : tie.Need-returns
 returns c =
     let a = c .before .before .before .args in
     let r = c .before .refusal in
-    ap Refused (r .ensures) ∙ sym (reading-refused (now (a .octets)) (a .spacecraft) (a .channel) (λ z. c .if1 .taken (r .ensures ∙ z)))
+    (ap Refused (r .ensures) ∙ sym (reading-refused (now (a .octets)) (a .spacecraft) (a .channel) (λ z. c .if1 .taken (r .ensures ∙ z))), r .ensures)
 
 total-requires : tie.Need-total-requires
 total-requires c κs =
@@ -47,9 +47,11 @@ returns-2 : tie.Need-returns-2
 returns-2 c =
     let a = c .before .before .before .before .before .args in
     let z = sym (c .before .before .before .refusal .ensures) ∙ c .before .before .if1 .left in
-    let y = accepted (now (a .octets)) (a .spacecraft) (a .channel) z in
-    ap₂ (λ (k : Kind) (n : ℕ). Frame (record { kind = k; spacecraft = a .spacecraft; channel = a .channel; total = n; field = n - 7 })) (c .kind-at .ensures) (c .before .total .ensures)
-    ∙ sym (reading-frame (now (a .octets)) (a .spacecraft) (a .channel) z)
+    let y = accepted (now (a .octets)) (a .spacecraft) (a .channel) z in (
+      ap₂ (λ (k : Kind) (n : ℕ). Frame (record { kind = k; spacecraft = a .spacecraft; channel = a .channel; total = n; field = n - 7 })) (c .kind-at .ensures) (c .before .total .ensures)
+          ∙ sym (reading-frame (now (a .octets)) (a .spacecraft) (a .channel) z),
+      sym z,
+    )
 
 pub read-spec : {M : Type 1} → statement M
 read-spec =

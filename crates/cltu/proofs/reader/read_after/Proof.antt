@@ -7,7 +7,7 @@ use denote.Ref.{now}
 use lib.ListN.{length}
 use Rattle.base.proofs.Tests.{told}
 use Rattle.cltu.specs.Answers.{readAnswer}
-use Rattle.cltu.specs.declared.reader.Reading.the-variants.{Done}
+use Rattle.cltu.specs.declared.reader.CltuReading.the-variants.{Done}
 use Rattle.cltu.proofs.Scan.{length-out, run-le}
 use Rattle.cltu.proofs.Outcomes.{after-end, after-none, after-room, after-done}
 use Rattle.cltu.proofs.reader.read_after.Statement.{statement}

@@ -6,7 +6,7 @@ use native.Mathlib.Omega.{arith}
 use denote.Ref.{now}
 use lib.ListN.{length}
 use Rattle.base.proofs.Tests.{told}
-use Rattle.cltu.specs.declared.writer.Written.the-variants.{Done}
+use Rattle.cltu.specs.declared.writer.CltuWritten.the-variants.{Done}
 use Rattle.cltu.specs.Answers.{writtenAnswer}
 use Rattle.cltu.specs.Cltu.{cltuOf}
 use Rattle.cltu.proofs.Places.{length-cltu}

@@ -5,7 +5,8 @@ use mathlib.Core.Logic.{⊎-elim}
 use Prim.Native.Nat.{_+_, _<_}
 use native.Mathlib.Omega.{arith}
 use Rattle.farm.specs.Receiver.{takes}
-use Rattle.farm.proofs.Told.{ad-unit, answer-of}
+use Rattle.farm.proofs.Told.{answer-of}
+use Rattle.farm.proofs.Units.{ad-unit}
 use Rattle.farm.proofs.Receiver.answer.Statement.{statement}
 use Rattle.farm.proofs.Receiver.answer.Tie as tie
 

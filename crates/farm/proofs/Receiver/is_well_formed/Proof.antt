@@ -19,7 +19,7 @@ enum-told-2 c = search needs
 returns : tie.Need-returns
 returns c =
     let n = c .before .before in
-    sym (setting-is (n .before .before .args .self) (n .new .result) (n .new .ensures) (c .enum-told2 .given .1))
+    sym (setting-is (n .before .before .args .self) (n .new .result) (n .new .ensures .0) (c .enum-told2 .given .1))
 
 flags-hold-requires : tie.Need-flags-hold-requires
 flags-hold-requires c κs = search needs
@@ -29,7 +29,7 @@ returns-2 c =
     let f = c .before in
     let n = f .before .before .before in
     let r = n .before .before .args .self in
-    let e = ready-is r (n .new .result) (n .new .ensures) _ (f .before .enum-told .given .1) in
+    let e = ready-is r (n .new .result) (n .new .ensures .0) _ (f .before .enum-told .given .1) in
     let h = sym (f .flags-hold .ensures) ∙ not-true _ (c .if1 .taken) in
     sym (e ∙ rw h)
 
@@ -38,7 +38,7 @@ returns-3 c =
     let f = c .before .before .before in
     let n = f .before .before .before in
     let r = n .before .before .args .self in
-    let e = ready-is r (n .new .result) (n .new .ensures) _ (f .before .enum-told .given .1) in
+    let e = ready-is r (n .new .result) (n .new .ensures .0) _ (f .before .enum-told .given .1) in
     let h = sym (f .flags-hold .ensures) ∙ not-false _ (c .before .before .if1 .left) in
     sym (e ∙ rw (h, le-ltb (r .variables .counter) 4 (omega arith)))
 
@@ -47,7 +47,7 @@ returns-4 c =
     let f = c .before .before .before .before .before in
     let n = f .before .before .before in
     let r = n .before .before .args .self in
-    let e = ready-is r (n .new .result) (n .new .ensures) _ (f .before .enum-told .given .1) in
+    let e = ready-is r (n .new .result) (n .new .ensures .0) _ (f .before .enum-told .given .1) in
     let h = sym (f .flags-hold .ensures) ∙ not-false _ (c .before .before .before .before .if1 .left) in
     sym (e ∙ rw (h, lt-ltb (r .variables .counter) 4 (omega arith), lt-leb (r .taken) (r .buffers) (omega arith)))
 
@@ -56,7 +56,7 @@ returns-5 c =
     let f = c .before .before .before .before .before .before .before in
     let n = f .before .before .before in
     let r = n .before .before .args .self in
-    let e = ready-is r (n .new .result) (n .new .ensures) _ (f .before .enum-told .given .1) in
+    let e = ready-is r (n .new .result) (n .new .ensures .0) _ (f .before .enum-told .given .1) in
     let h = sym (f .flags-hold .ensures) ∙ not-false _ (c .before .before .before .before .before .before .if1 .left) in
     sym (e ∙ rw (h, lt-ltb (r .variables .counter) 4 (omega arith), le-leb (r .taken) (r .buffers) (omega arith), c .before .if4 .taken))
 
@@ -65,7 +65,7 @@ returns-6 c =
     let f = c .before .before .before .before .before .before in
     let n = f .before .before .before in
     let r = n .before .before .args .self in
-    let e = ready-is r (n .new .result) (n .new .ensures) _ (f .before .enum-told .given .1) in
+    let e = ready-is r (n .new .result) (n .new .ensures .0) _ (f .before .enum-told .given .1) in
     let h = sym (f .flags-hold .ensures) ∙ not-false _ (c .before .before .before .before .before .if1 .left) in
     sym (e ∙ rw (h, lt-ltb (r .variables .counter) 4 (omega arith), le-leb (r .taken) (r .buffers) (omega arith), c .if4 .left))
 

@@ -1,4 +1,4 @@
--- None taken, or the answer of E10 with one taken less.
+-- None taken, or the answer of E10 with one taken less; by value and by number.
 use borrow.Author.Needs.{needs}
 use mathlib.Core.Path.{refl, ap}
 use Prim.Native.Nat.{_<_, _≤_}
@@ -15,7 +15,7 @@ returns : tie.Need-returns
 unfolding releaseOf
 returns c =
     let h : c .before .args .self .taken ≤ 0 = omega arith in
-    search tests
+    (search tests, search tests)
 
 sub-less : tie.Need-sub-less
 sub-less c = search needs
@@ -27,7 +27,7 @@ returns-2 : tie.Need-returns-2
 unfolding releaseOf
 returns-2 c =
     let h : 0 < c .before .before .args .self .taken = omega arith in
-    rw (lt-ltb 0 _ h) (ap Done (c .answer .ensures))
+    (rw (lt-ltb 0 _ h) (ap Done (c .answer .ensures)), search tests)
 
 pub release-spec : {M : Type 1} → statement M
 release-spec = tie.close (tie.spec returns sub-less answer-requires returns-2)

@@ -1,4 +1,4 @@
--- Each return is one case of `isState`: octets of another length are those of no receiver.
+-- Each return is one case of `isState`, by its value and by its number: octets of another length are those of no receiver.
 use borrow.Author.Needs.{needs}
 use mathlib.Core.Path.{_≡_, sym, ap, _∙_}
 use mathlib.Core.Bool.{true, false}
@@ -15,7 +15,8 @@ returns : tie.Need-returns
 unfolding restoredOf isState octetsOf
 returns c =
     let o = now (c .before .before .args .octets) in
-    rw (same-length-not o (octetsOf (receiverIn o)) (c .if1 .taken))
+    let k = same-length-not o (octetsOf (receiverIn o)) (c .if1 .taken) in
+    (rw k, rw k)
 
 are-kept-requires : tie.Need-are-kept-requires
 are-kept-requires c κs = search needs
@@ -25,7 +26,7 @@ unfolding restoredOf isState
 returns-2 c =
     let o = now (c .before .before .before .before .args .octets) in
     let k : same o (octetsOf (receiverIn o)) ≡ false = sym (c .before .are-kept .ensures) ∙ not-true _ (c .if2 .taken) in
-    rw k
+    (rw k, rw k)
 
 receiver-in-requires : tie.Need-receiver-in-requires
 receiver-in-requires c κs = search needs
@@ -41,7 +42,7 @@ returns-3 c =
     let o = now (a .before .before .before .before .args .octets) in
     let k : same o (octetsOf (receiverIn o)) ≡ true = sym (a .before .are-kept .ensures) ∙ not-false _ (a .if2 .left) in
     let w : wellFormed (receiverIn o) ≡ false = ap wellFormed (sym f) ∙ sym (c .before .is-well-formed .ensures) ∙ not-true _ (c .if3 .taken) in
-    rw (k, w)
+    (rw (k, w), rw (k, w))
 
 returns-4 : tie.Need-returns-4
 unfolding restoredOf isState
@@ -51,7 +52,7 @@ returns-4 c =
     let o = now (a .before .before .before .before .args .octets) in
     let k : same o (octetsOf (receiverIn o)) ≡ true = sym (a .before .are-kept .ensures) ∙ not-false _ (a .if2 .left) in
     let w : wellFormed (receiverIn o) ≡ true = ap wellFormed (sym f) ∙ sym (c .before .is-well-formed .ensures) ∙ not-false _ (c .if3 .left) in
-    rw (k, w) (ap Ready f)
+    (rw (k, w) (ap Ready f), rw (k, w))
 
 pub restore-spec : {M : Type 1} → statement M
 restore-spec =

@@ -9,7 +9,7 @@ use lib.ListN.{length, drop}
 use Rattle.base.proofs.Tests.{told}
 use Rattle.frame.specs.Answers.{writtenAnswer}
 use Rattle.frame.specs.Frame.{rawFrame}
-use Rattle.frame.specs.declared.writer.Written.the-variants.{Done}
+use Rattle.frame.specs.declared.writer.FrameWritten.the-variants.{Done}
 use Rattle.frame.proofs.Emitted.{length-frame, writing-empty, writing-long, writing-spacecraft, writing-channel, writing-room, writing-done}
 use Rattle.frame.proofs.writer.write.Statement.{statement}
 use Rattle.frame.proofs.writer.write.Tie as tie

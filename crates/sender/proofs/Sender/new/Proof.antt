@@ -7,8 +7,8 @@ use Rattle.sender.proofs.Starts.{start-setting, start-store, start-done
 use Rattle.sender.proofs.Sender.new.Statement.{statement}
 use Rattle.sender.proofs.Sender.new.Tie as tie
 
-within-limits-requires : tie.Need-within-limits-requires
-within-limits-requires c κs = search needs
+settings-hold-requires : tie.Need-settings-hold-requires
+settings-hold-requires c κs = search needs
 
 refused-start-requires : tie.Need-refused-start-requires
 refused-start-requires c κs = search needs
@@ -18,8 +18,8 @@ returns c =
     let t = c .before in
     let l = t .before in
     let a = l .before .before .args in
-    start-setting (a .settings) (a .vs) (a .nnr) (length (a .store .now)) (l .within-limits .result) (l .within-limits .ensures)
-    (c .refused-start .result) (not-true (l .within-limits .result) (t .if1 .taken)) (c .refused-start .ensures)
+    start-setting (a .settings) (a .vs) (a .nnr) (length (a .store .now)) (l .settings-hold .result) (l .settings-hold .ensures)
+    (c .refused-start .result) (not-true (l .settings-hold .result) (t .if1 .taken)) (c .refused-start .ensures)
 
 refused-start-requires-2 : tie.Need-refused-start-requires-2
 refused-start-requires-2 c κs = search needs
@@ -30,8 +30,8 @@ returns-2 c =
     let t = q .before in
     let l = t .before in
     let a = l .before .before .args in
-    start-store (a .settings) (a .vs) (a .nnr) (length (a .store .now)) (l .within-limits .result) (l .within-limits .ensures)
-    (c .refused-start2 .result) (not-false (l .within-limits .result) (t .if1 .left)) (omega (arith, q .if2 .taken)) (c .refused-start2 .ensures)
+    start-store (a .settings) (a .vs) (a .nnr) (length (a .store .now)) (l .settings-hold .result) (l .settings-hold .ensures)
+    (c .refused-start2 .result) (not-false (l .settings-hold .result) (t .if1 .left)) (omega (arith, q .if2 .taken)) (c .refused-start2 .ensures)
 
 start-requires : tie.Need-start-requires
 start-requires c κs = search needs
@@ -42,14 +42,14 @@ returns-3 c =
     let t = q .before in
     let l = t .before in
     let a = l .before .before .args in
-    start-done (a .settings) (a .vs) (a .nnr) (length (a .store .now)) (l .within-limits .result) (l .within-limits .ensures) (c .start .result)
-    (not-false (l .within-limits .result) (t .if1 .left)) (omega (arith, q .if2 .left)) (c .start .ensures)
+    start-done (a .settings) (a .vs) (a .nnr) (length (a .store .now)) (l .settings-hold .result) (l .settings-hold .ensures) (c .start .result)
+    (not-false (l .settings-hold .result) (t .if1 .left)) (omega (arith, q .if2 .left)) (c .start .ensures)
 
 pub new-spec : {M : Type 1} → statement M
 new-spec =
     tie.close
     (tie.spec
-    within-limits-requires
+    settings-hold-requires
     refused-start-requires
     returns
     refused-start-requires-2

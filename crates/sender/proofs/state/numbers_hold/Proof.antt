@@ -12,31 +12,31 @@ difference-requires c κs = search needs
 
 returns : tie.Need-returns
 returns c =
-    let d = c .before in
+    let d = c .before .before in
     let a = d .before .args in
     numbers-by (a .variables) (a .queues) (d .difference .result) false (d .difference .ensures) (search tests)
 
 returns-2 : tie.Need-returns-2
 returns-2 c =
-    let d = c .before .before .before in
+    let d = c .before .before .before .before in
     let a = d .before .args in
     numbers-by (a .variables) (a .queues) (d .difference .result) false (d .difference .ensures) (search tests)
 
 returns-3 : tie.Need-returns-3
 returns-3 c =
-    let d = c .before .before .before .before .before in
+    let d = c .before .before .before .before .before .before in
     let a = d .before .args in
     numbers-by (a .variables) (a .queues) (d .difference .result) false (d .difference .ensures) (search tests)
 
 returns-4 : tie.Need-returns-4
 returns-4 c =
-    let d = c .before .before .before .before .before .before .before in
+    let d = c .before .before .before .before .before .before .before .before in
     let a = d .before .args in
     numbers-by (a .variables) (a .queues) (d .difference .result) false (d .difference .ensures) (search tests)
 
 returns-5 : tie.Need-returns-5
 returns-5 c =
-    let d = c .before .before .before .before .before .before .before .before in
+    let d = c .before .before .before .before .before .before .before .before .before in
     let a = d .before .args in
     numbers-by (a .variables) (a .queues) (d .difference .result) (eqb (a .variables .«suspend_state») 0) (d .difference .ensures) (search tests)
 
