@@ -1,5 +1,6 @@
 //! The control word, CLCW (clause 6.3).
 
+use crate::layout::{flag, rf as radio};
 use crate::library;
 use crate::refusal::judged;
 use crate::{Refused, CLCW_OCTETS};
@@ -96,14 +97,14 @@ pub fn read(octets: &[u8], channel: u8) -> Result<Option<ReceivedWord>, Refused>
     Ok(Some(ReceivedWord {
         word: Clcw {
             channel,
-            lockout: flags & 4 != 0,
-            wait: flags & 2 != 0,
-            retransmit: flags & 1 != 0,
+            lockout: flags & flag::LOCKOUT != 0,
+            wait: flags & flag::WAIT != 0,
+            retransmit: flags & flag::RETRANSMIT != 0,
             counter,
             report,
         },
         status,
-        no_rf: rf & 2 != 0,
-        no_bit_lock: rf & 1 != 0,
+        no_rf: rf & radio::NO_RF != 0,
+        no_bit_lock: rf & radio::NO_BIT_LOCK != 0,
     }))
 }

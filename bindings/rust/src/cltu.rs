@@ -2,10 +2,23 @@
 
 use crate::library;
 use crate::refusal::judged;
-use crate::{Refusal, Refused, LARGEST_CLTU, LARGEST_CLTU_INPUT};
+use crate::{
+    Refusal, Refused, CODEBLOCK_INFORMATION_OCTETS, CODEBLOCK_OCTETS, LARGEST_CLTU,
+    LARGEST_CLTU_INPUT, LARGEST_DECODED,
+};
 
-/// What the longest input decodes to: 510 codeblocks of seven octets.
-const LARGEST_DECODED: usize = 3570;
+/// The octets of the CLTU of a frame of so many octets: start sequence, codeblocks, tail.
+///
+/// ```
+/// use pondreszi::{cltu, LARGEST_CLTU, LARGEST_FRAME};
+/// assert_eq!(cltu::octets(LARGEST_FRAME), LARGEST_CLTU);
+/// ```
+pub const fn octets(frame: usize) -> usize {
+    START_OCTETS + CODEBLOCK_OCTETS * frame.div_ceil(CODEBLOCK_INFORMATION_OCTETS) + TAIL_OCTETS
+}
+
+const START_OCTETS: usize = 2;
+const TAIL_OCTETS: usize = 8;
 
 /// Writes the CLTU of a frame of 8 to 256 octets.
 ///

@@ -4,11 +4,9 @@
 //! these functions are for units without them, and for tests.
 
 use crate::library;
+use crate::numbered::numbered;
 use crate::refusal::judged;
-use crate::{Refused, LARGEST_FRAME};
-
-/// The octets before the data field.
-const HEADER_OCTETS: usize = 5;
+use crate::{Refused, FRAME_HEADER_OCTETS, LARGEST_FRAME};
 
 /// Writes a type-AD frame with its N(S).
 ///
@@ -89,23 +87,18 @@ fn written(write: impl FnOnce(*mut u8, usize, *mut u64) -> u8) -> Result<Vec<u8>
     Ok(output[..count as usize].to_vec())
 }
 
-/// The type of a frame, and what its header or its command carries.
-#[derive(Clone, Copy, PartialEq, Eq, Debug)]
-pub enum Kind {
-    /// A unit in sequence, with its N(S).
-    Ad {
-        /// N(S).
-        number: u8,
-    },
-    /// A unit out of sequence.
-    Bd,
-    /// The command Unlock.
-    Unlock,
-    /// The command Set V(R), with its value.
-    SetVr {
-        /// V(R) is to become this.
-        value: u8,
-    },
+numbered! {
+    /// The type of a frame, and of a type-BC frame its command.
+    Kind {
+        /// A unit in sequence.
+        Ad = 0,
+        /// A unit out of sequence.
+        Bd = 1,
+        /// The command Unlock.
+        Unlock = 2,
+        /// The command Set V(R).
+        SetVr = 3,
+    }
 }
 
 /// A frame that was read.
@@ -113,6 +106,8 @@ pub enum Kind {
 pub struct Frame<'a> {
     /// Its type.
     pub kind: Kind,
+    /// N(S) of an AD frame, the value of Set V(R), otherwise 0.
+    pub value: u8,
     /// Its octets, header and FECF included, fill not.
     pub total: usize,
     /// Its data field, a part of the caller's octets.
@@ -127,7 +122,7 @@ pub struct Frame<'a> {
 ///
 /// let mut octets = frame::write_ad(42, 3, 17, b"unit")?;
 /// let read = frame::read(&octets, 42, 3)?;
-/// assert_eq!(read.kind, Kind::Ad { number: 17 });
+/// assert_eq!((read.kind, read.value), (Kind::Ad, 17));
 /// assert_eq!(read.data, b"unit");
 /// assert_eq!(frame::read(&octets, 42, 4).unwrap_err().refusal, Refusal::Address);
 /// octets[5] ^= 1;
@@ -149,16 +144,10 @@ pub fn read(octets: &[u8], spacecraft: u16, channel: u8) -> Result<Frame<'_>, Re
         )
     };
     judged(number)?;
-    let kind = match kind {
-        0 => Kind::Ad { number: value },
-        1 => Kind::Bd,
-        2 => Kind::Unlock,
-        3 => Kind::SetVr { value },
-        _ => unreachable!("the library tells kinds 0 to 3"),
-    };
     Ok(Frame {
-        kind,
+        kind: Kind::from_number(kind).expect("a frame has a kind"),
+        value,
         total: usize::from(total),
-        data: &octets[HEADER_OCTETS..][..usize::from(field)],
+        data: &octets[FRAME_HEADER_OCTETS..][..usize::from(field)],
     })
 }

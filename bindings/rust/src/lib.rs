@@ -43,38 +43,18 @@ pub mod clcw;
 pub mod cltu;
 pub mod coding;
 pub mod frame;
+pub mod layout;
 mod library;
+mod limits;
+mod numbered;
 mod receiver;
 mod refusal;
 mod sender;
 
+pub use limits::*;
 pub use receiver::{Received, Receiver, ReceiverEvent, ReceiverSettings, ReceiverState, Unit};
 pub use refusal::{Refusal, Refused};
 pub use sender::{
     Alert, Answer, Directive, LowerLayer, RefusedEvent, Response, Run, Sender, SenderSettings,
     SenderState,
 };
-
-/// The octets of the largest transfer frame, with its FECF.
-pub const LARGEST_FRAME: usize = 256;
-
-/// The octets of the largest unit (FDU).
-pub const LARGEST_UNIT: usize = 249;
-
-/// The octets of the largest CLTU.
-pub const LARGEST_CLTU: usize = 306;
-
-/// The octets that [`cltu::read`] takes at the most.
-pub const LARGEST_CLTU_INPUT: usize = 4096;
-
-/// The octets of a control word.
-pub const CLCW_OCTETS: usize = 4;
-
-/// The octets of the sender's store: 32 units of 249 octets sent and one waiting.
-pub const STORE_OCTETS: usize = 8217;
-
-/// The octets of a sender's state.
-pub const SENDER_STATE_OCTETS: usize = 88;
-
-/// The octets of a receiver's state.
-pub const RECEIVER_STATE_OCTETS: usize = 12;

@@ -1,32 +1,14 @@
 use std::error::Error;
 use std::fmt;
 
+use crate::layout::answer;
+use crate::layout::sender::{FLAGS, MARKED, NNR, SENT, STATE, TIMER, VS};
+use crate::layout::sender_flag::UNIT_WAITS;
+use crate::layout::NONE;
 use crate::library;
+use crate::numbered::numbered;
 use crate::refusal::judged;
-use crate::{Refusal, Refused, LARGEST_FRAME, SENDER_STATE_OCTETS, STORE_OCTETS};
-
-/// Where the parts of a state stand.
-const STATE: usize = 2;
-const VS: usize = 11;
-const NNR: usize = 12;
-const TIMER: usize = 13;
-const FLAGS: usize = 16;
-const SENT: usize = 18;
-const MARKED: usize = 19;
-
-/// The flag of a unit that waits.
-const UNIT_WAITS: u8 = 8;
-
-/// The octets of an answer, and where its parts stand; its state too is octet 2.
-const ANSWER_OCTETS: usize = 17;
-const EVENT: usize = 1;
-const FRAME: usize = 3;
-const ABORT: usize = 5;
-const ALERT: usize = 6;
-const RESPONSES: usize = 8;
-const FIRST_RESPONSE: usize = 9;
-const CONFIRMED: usize = 13;
-const DENIED: usize = 15;
+use crate::{Refusal, Refused, ANSWER_OCTETS, LARGEST_FRAME, SENDER_STATE_OCTETS, STORE_OCTETS};
 
 /// What a sender starts with.
 #[derive(Clone, Copy, PartialEq, Eq, Debug)]
@@ -47,34 +29,21 @@ pub struct SenderSettings {
     pub nnr: u8,
 }
 
-/// The states of table 7-8.
-#[derive(Clone, Copy, PartialEq, Eq, Debug)]
-pub enum SenderState {
-    /// S1.
-    Active,
-    /// S2.
-    RetransmitWithoutWait,
-    /// S3.
-    RetransmitWithWait,
-    /// S4: a control word is awaited.
-    InitialisingWithoutBc,
-    /// S5: Unlock or Set V(R) was sent.
-    InitialisingWithBc,
-    /// S6: no AD service; after a start, an alert or Terminate.
-    Initial,
-}
-
-impl SenderState {
-    fn from_number(number: u8) -> SenderState {
-        match number {
-            1 => SenderState::Active,
-            2 => SenderState::RetransmitWithoutWait,
-            3 => SenderState::RetransmitWithWait,
-            4 => SenderState::InitialisingWithoutBc,
-            5 => SenderState::InitialisingWithBc,
-            // 6, or 0 in an answer that is not written.
-            _ => SenderState::Initial,
-        }
+numbered! {
+    /// The states of table 7-8.
+    SenderState {
+        /// S1.
+        Active = 1,
+        /// S2.
+        RetransmitWithoutWait = 2,
+        /// S3.
+        RetransmitWithWait = 3,
+        /// S4: a control word is awaited.
+        InitialisingWithoutBc = 4,
+        /// S5: Unlock or Set V(R) was sent.
+        InitialisingWithBc = 5,
+        /// S6: no AD service; after a start, an alert or Terminate.
+        Initial = 6,
     }
 }
 
@@ -124,99 +93,68 @@ impl Directive {
     }
 }
 
-/// What the lower layer says to a frame handed down. Until its accept, no further frame of
-/// that type comes.
-#[derive(Clone, Copy, PartialEq, Eq, Debug)]
-#[repr(u8)]
-pub enum LowerLayer {
-    /// It took the AD frame.
-    AdAccept = 1,
-    /// It did not: alert LLIF.
-    AdReject = 2,
-    /// It took the BC frame.
-    BcAccept = 3,
-    /// It did not: alert LLIF.
-    BcReject = 4,
-    /// It took the BD frame.
-    BdAccept = 5,
-    /// It did not: alert LLIF.
-    BdReject = 6,
-}
-
-/// The responses of table 7-8 to requests and directives. What becomes of an AD unit later
-/// is told by the runs.
-#[derive(Clone, Copy, PartialEq, Eq, Debug)]
-pub enum Response {
-    /// The AD unit got its number and was handed down.
-    AcceptAd,
-    /// The AD unit was not taken, or was waiting and is dropped.
-    RejectAd,
-    /// The lower layer took the BD frame.
-    AcceptBd,
-    /// BD_Out_Flag is Not_Ready.
-    RejectBd,
-    /// The directive is begun.
-    AcceptDirective,
-    /// The directive is not for this state, or invalid.
-    RejectDirective,
-    /// The directive is done: positive confirm.
-    ConfirmDirective,
-    /// The directive failed: negative confirm.
-    DenyDirective,
-}
-
-impl Response {
-    fn from_number(number: u8) -> Response {
-        match number {
-            1 => Response::AcceptAd,
-            2 => Response::RejectAd,
-            3 => Response::AcceptBd,
-            4 => Response::RejectBd,
-            5 => Response::AcceptDirective,
-            6 => Response::RejectDirective,
-            7 => Response::ConfirmDirective,
-            8 => Response::DenyDirective,
-            _ => unreachable!("the library tells responses 1 to 8"),
-        }
+numbered! {
+    /// What the lower layer says to a frame handed down. Until its accept, no further frame of
+    /// that type comes.
+    LowerLayer {
+        /// It took the AD frame.
+        AdAccept = 1,
+        /// It did not: alert LLIF.
+        AdReject = 2,
+        /// It took the BC frame.
+        BcAccept = 3,
+        /// It did not: alert LLIF.
+        BcReject = 4,
+        /// It took the BD frame.
+        BdAccept = 5,
+        /// It did not: alert LLIF.
+        BdReject = 6,
     }
 }
 
-/// Why the AD service ended (table 7-4). The units outstanding are denied, a unit that waits
-/// is rejected, the timer stops, and the sender is Initial.
-#[derive(Clone, Copy, PartialEq, Eq, Debug)]
-pub enum Alert {
-    /// Report value and flags contradict the state.
-    Synch,
-    /// An invalid control word, or flags that cannot stand together.
-    Clcw,
-    /// At a transmission limit of 1, a control word asked for retransmission.
-    Limit,
-    /// NN(R): a report value that cannot be.
-    Nnr,
-    /// The receiver is locked out.
-    Lockout,
-    /// The timer expired at the transmission limit, or while a control word was awaited.
-    T1,
-    /// Terminate was asked.
-    Term,
-    /// The lower layer rejected a frame.
-    Llif,
+numbered! {
+    /// The responses of table 7-8 to requests and directives. What becomes of an AD unit later
+    /// is told by the runs.
+    Response {
+        /// The AD unit got its number and was handed down.
+        AcceptAd = 1,
+        /// The AD unit was not taken, or was waiting and is dropped.
+        RejectAd = 2,
+        /// The lower layer took the BD frame.
+        AcceptBd = 3,
+        /// BD_Out_Flag is Not_Ready.
+        RejectBd = 4,
+        /// The directive is begun.
+        AcceptDirective = 5,
+        /// The directive is not for this state, or invalid.
+        RejectDirective = 6,
+        /// The directive is done: positive confirm.
+        ConfirmDirective = 7,
+        /// The directive failed: negative confirm.
+        DenyDirective = 8,
+    }
 }
 
-impl Alert {
-    fn from_number(number: u8) -> Option<Alert> {
-        match number {
-            0 => None,
-            1 => Some(Alert::Synch),
-            2 => Some(Alert::Clcw),
-            3 => Some(Alert::Limit),
-            4 => Some(Alert::Nnr),
-            5 => Some(Alert::Lockout),
-            6 => Some(Alert::T1),
-            7 => Some(Alert::Term),
-            8 => Some(Alert::Llif),
-            _ => unreachable!("the library tells alerts 0 to 8"),
-        }
+numbered! {
+    /// Why the AD service ended (table 7-4). The units outstanding are denied, a unit that waits
+    /// is rejected, the timer stops, and the sender is Initial.
+    Alert {
+        /// Report value and flags contradict the state.
+        Synch = 1,
+        /// An invalid control word, or flags that cannot stand together.
+        Clcw = 2,
+        /// At a transmission limit of 1, a control word asked for retransmission.
+        Limit = 3,
+        /// NN(R): a report value that cannot be.
+        Nnr = 4,
+        /// The receiver is locked out.
+        Lockout = 5,
+        /// The timer expired at the transmission limit, or while a control word was awaited.
+        T1 = 6,
+        /// Terminate was asked.
+        Term = 7,
+        /// The lower layer rejected a frame.
+        Llif = 8,
     }
 }
 
@@ -264,25 +202,32 @@ pub struct Answer {
 
 impl Answer {
     fn of(octets: &[u8; ANSWER_OCTETS], output: &[u8]) -> Answer {
-        let down = usize::from(u16::from_be_bytes([octets[FRAME], octets[FRAME + 1]]));
-        let responses = &octets[FIRST_RESPONSE..][..usize::from(octets[RESPONSES])];
+        let down = [octets[answer::FRAME], octets[answer::FRAME + 1]];
+        let down = usize::from(u16::from_be_bytes(down));
+        let count = usize::from(octets[answer::RESPONSES]);
+        let responses = octets[answer::FIRST_RESPONSE..][..count].iter();
+        let response = |number: &u8| Response::from_number(*number).expect("a response");
         Answer {
-            event: octets[EVENT],
-            state: SenderState::from_number(octets[STATE]),
+            event: octets[answer::EVENT],
+            state: match octets[answer::STATE] {
+                // In an answer that is not written.
+                NONE => SenderState::Initial,
+                number => SenderState::from_number(number).expect("a state"),
+            },
             frame: (down > 0).then(|| output[..down].to_vec()),
-            abort: octets[ABORT] != 0,
-            responses: responses
-                .iter()
-                .map(|r| Response::from_number(*r))
-                .collect(),
-            alert: Alert::from_number(octets[ALERT]),
+            abort: octets[answer::ABORT] != 0,
+            responses: responses.map(response).collect(),
+            alert: match octets[answer::ALERT] {
+                NONE => None,
+                number => Some(Alert::from_number(number).expect("an alert")),
+            },
             confirmed: Run {
-                first: octets[CONFIRMED],
-                count: octets[CONFIRMED + 1],
+                first: octets[answer::CONFIRMED_FIRST],
+                count: octets[answer::CONFIRMED],
             },
             denied: Run {
-                first: octets[DENIED],
-                count: octets[DENIED + 1],
+                first: octets[answer::DENIED_FIRST],
+                count: octets[answer::DENIED],
             },
         }
     }
@@ -585,7 +530,7 @@ impl Sender {
             library::sender_lower_layer(
                 lent.state,
                 SENDER_STATE_OCTETS,
-                said as u8,
+                said.number(),
                 lent.store,
                 lent.store_len,
                 lent.output,
@@ -659,7 +604,7 @@ impl Sender {
 
     /// The state of table 7-8.
     pub fn state(&self) -> SenderState {
-        SenderState::from_number(self.state[STATE])
+        SenderState::from_number(self.state[STATE]).expect("a sender has a state")
     }
 
     /// V(S), the number that the next AD unit gets.

@@ -117,9 +117,9 @@ impl Link {
             let kind = frame::read(&frame, SPACECRAFT, CHANNEL).unwrap().kind;
             self.carry(&frame);
             let accept = match kind {
-                Kind::Ad { .. } => LowerLayer::AdAccept,
+                Kind::Ad => LowerLayer::AdAccept,
                 Kind::Bd => LowerLayer::BdAccept,
-                Kind::Unlock | Kind::SetVr { .. } => LowerLayer::BcAccept,
+                Kind::Unlock | Kind::SetVr => LowerLayer::BcAccept,
             };
             answer = self.sender.lower_layer(accept).unwrap();
         }
