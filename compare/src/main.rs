@@ -26,6 +26,7 @@
 mod cases;
 mod check;
 mod ends;
+mod exchange;
 mod inputs;
 mod lending;
 mod library;
@@ -37,6 +38,7 @@ mod settings;
 use cases::OPERATIONS;
 use check::Tally;
 use ends::Mode;
+use exchange::Part;
 use independent::fault::FAULTS;
 use lending::LENDING_FAULTS;
 use random::Random;
@@ -57,6 +59,7 @@ fn main() -> ExitCode {
     let words: Vec<String> = std::env::args().skip(1).collect();
     if words == ["--faults"] {
         print_names(FAULTS.iter().map(|fault| fault.0));
+        print_names(exchange::names(Part::Operations));
         return ExitCode::from(0);
     }
     if words == ["--lending-faults"] {

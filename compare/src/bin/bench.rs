@@ -14,7 +14,7 @@ mod random;
 
 /// Lends memory as it is, in the place of ../lending.rs, which would be measured too.
 mod lending {
-    pub struct Lent<'a, T: ?Sized>(&'a mut T);
+    pub struct Lent<'a, T: ?Sized = [u8]>(&'a mut T);
 
     pub fn lend(octets: &mut [u8]) -> Lent<'_, [u8]> {
         Lent(octets)
@@ -35,9 +35,16 @@ mod lending {
     }
 
     impl<T> Lent<'_, T> {
-        pub fn number(&mut self) -> *mut T {
-            self.0
+        pub fn number(&self) -> *mut T {
+            std::ptr::from_ref::<T>(self.0).cast_mut()
         }
+    }
+}
+
+/// Exchanges nothing, in the place of ../exchange.rs.
+mod exchange {
+    pub fn exchange<T, const N: usize>(_: &str, _: [&str; N], arguments: [T; N]) -> [T; N] {
+        arguments
     }
 }
 

@@ -8,6 +8,7 @@ mod sender_end;
 mod session;
 
 use crate::check::Tally;
+use crate::exchange::{self, Part};
 use crate::octets::LENGTHS;
 use crate::random::Random;
 use crate::settings::{self, print_names, Settings};
@@ -39,6 +40,11 @@ pub fn main(mode: Mode, words: &[String]) -> ExitCode {
     let faults = faults(&mode);
     if words == ["--faults"] {
         print_names(faults.iter().map(|fault| fault.0));
+        match mode {
+            Mode::Sender => print_names(exchange::names(Part::Sender)),
+            Mode::Receiver => print_names(exchange::names(Part::Receiver)),
+            Mode::Session => (),
+        }
         return ExitCode::from(0);
     }
     let Some(settings) = settings::read(words, EVENTS, &faults, |_, _| None) else {
