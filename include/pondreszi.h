@@ -8,6 +8,8 @@
  *                ^                                                        |
  *                +---------------- control word <---- receiver_word ------+
  *
+ * Every name begins with pondreszi_ or PONDRESZI_; the drawing leaves it out.
+ *
  * Every function here is proved: for any octets it gives exactly the answer that the standard's tables 7-8 and 7-9 and document 01
  * define, or one of document 01's refusals.
  *
@@ -16,8 +18,10 @@
  *   - The library keeps nothing between calls and allocates nothing. All memory is lent by the caller for the call.
  *   - Octets cross as a pointer and a length. No pointer may be null. A length of 0 takes any pointer that is not null.
  *   - Buffers and numbers lent to one call must not overlap.
- *   - The number returned is 0 for done, otherwise a refusal (enum pondreszi_refusal). Only codeblock_error_control, codeblock_is_good,
- *     randomizer_octet and fecf refuse nothing: they return what they compute.
+ *   - Numbers cross as 32 bits, so that none is cut on the way: a value outside its limit is refused with 12, however large, and on
+ *     reading an own address beyond its limits matches no frame or word (7). Only the place of pondreszi_randomizer_octet has 64 bits.
+ *   - The number returned is 0 for done, otherwise a refusal (enum pondreszi_refusal). Only pondreszi_codeblock_error_control,
+ *     pondreszi_codeblock_is_good, pondreszi_randomizer_octet and pondreszi_fecf refuse nothing: they return what they compute.
  *   - A refusal changes no octet of any buffer of data (states, frames, units, store, output). The numbers that a function tells through
  *     pointers are always written, and are 0 where they mean nothing. The answer of a sender's event is written where the event was
  *     judged, refused or not.
@@ -64,6 +68,7 @@ extern "C" {
 #define PONDRESZI_LARGEST_SPACECRAFT 1023
 #define PONDRESZI_LARGEST_CHANNEL 63
 #define PONDRESZI_LARGEST_COUNTER 3 /* FARM-B counter */
+#define PONDRESZI_LARGEST_NUMBER 255 /* N(S), V(S), NN(R), V(R), report value */
 
 #define PONDRESZI_SMALLEST_WINDOW 2 /* FARM_Sliding_Window_Width W: even; PW = NW = W / 2 */
 #define PONDRESZI_LARGEST_WINDOW 254
@@ -79,7 +84,7 @@ extern "C" {
 
 #define PONDRESZI_STORE_OCTETS 8217 /* the sender's store: 32 units of 249 octets sent and one waiting; keep nothing else in it */
 #define PONDRESZI_SENDER_STATE_OCTETS 88
-#define PONDRESZI_ANSWER_OCTETS 17
+#define PONDRESZI_ANSWER_OCTETS 18
 #define PONDRESZI_RECEIVER_STATE_OCTETS 12
 
 /* Refusals (document 01). -------------------------------------------------------------------------------------------------------- */
@@ -107,23 +112,23 @@ enum pondreszi_refusal {
  * The error control octet of a codeblock: seven parity bits, each complemented, and the filler bit zero. A codeblock has seven octets of
  * information; for any other count the answer is the parity of those octets.
  */
-uint8_t codeblock_error_control(const uint8_t *information, size_t information_len);
+uint8_t pondreszi_codeblock_error_control(const uint8_t *information, size_t information_len);
 
 /* 1 where the octets are a good codeblock: eight of them, the last the error control octet of the first seven. Otherwise 0. */
-uint8_t codeblock_is_good(const uint8_t *block, size_t block_len);
+uint8_t pondreszi_codeblock_is_good(const uint8_t *block, size_t block_len);
 
 /* The octet of the random sequence at a place, 0 for the first: FF 39 9E 5A 68 ... */
-uint8_t randomizer_octet(uint64_t place);
+uint8_t pondreszi_randomizer_octet(uint64_t place);
 
 /*
  * Writes the CLTU of a frame of 8 to 256 octets: PONDRESZI_CLTU_OCTETS(frame_len) octets, told in count.
  * Refusals: 10 frame length, 11 output too short.
  */
-uint8_t cltu_write(const uint8_t *frame, size_t frame_len, uint8_t *output, size_t output_len, uint64_t *count);
+uint8_t pondreszi_cltu_write(const uint8_t *frame, size_t frame_len, uint8_t *output, size_t output_len, uint64_t *count);
 
 /*
  * Reads the first CLTU in up to 4,096 octets, hunting for its start sequence at octet boundaries. The decoded octets, fill included, go
- * to the front of the output: count of them. They can be handed to frame_read or receiver_frame as they are.
+ * to the front of the output: count of them. They can be handed to pondreszi_frame_read or pondreszi_receiver_frame as they are.
  *
  * place: where reading ended. Done: the offset of the codeblock that ended it (the tail); go on behind it for the next CLTU. Refusal 1:
  * the input's length; 2: the offset of the bad codeblock; 3: the offset where the next codeblock would begin. Otherwise 0.
@@ -132,30 +137,33 @@ uint8_t cltu_write(const uint8_t *frame, size_t frame_len, uint8_t *output, size
  * After refusal 2 noise may have held a false start sequence: call again with the octets from place on.
  * Refusals: 10 input over 4,096 octets, 1, 2, 3, 11 output too short.
  */
-uint8_t cltu_read(const uint8_t *input, size_t input_len, uint8_t *output, size_t output_len, uint64_t *count, uint64_t *place,
-                  uint64_t *corrected);
+uint8_t pondreszi_cltu_read(const uint8_t *input, size_t input_len, uint8_t *output, size_t output_len, uint64_t *count,
+                            uint64_t *place, uint64_t *corrected);
 
 /* Transfer frames (clauses 6.2 and 6.4 to 6.8). ---------------------------------------------------------------------------------- */
 
 /* The frame error control field of the octets before it. */
-uint16_t fecf(const uint8_t *message, size_t len);
+uint16_t pondreszi_fecf(const uint8_t *message, size_t len);
 
 /*
  * Write a frame; count tells its octets, 7 more than the data field's. The sender writes its own frames: these are for tests, and for
- * units without FOP-1. Refusals: 10 unit length, 12 spacecraft or channel, 11 output too short.
+ * units without FOP-1. Refusals: 10 unit length, 12 spacecraft, channel, number or value, 11 output too short.
  */
-uint8_t frame_write_ad(uint16_t spacecraft, uint8_t channel, uint8_t number, const uint8_t *unit, size_t unit_len, uint8_t *output,
-                       size_t output_len, uint64_t *count);
-uint8_t frame_write_bd(uint16_t spacecraft, uint8_t channel, const uint8_t *unit, size_t unit_len, uint8_t *output, size_t output_len,
-                       uint64_t *count);
-uint8_t frame_write_unlock(uint16_t spacecraft, uint8_t channel, uint8_t *output, size_t output_len, uint64_t *count);
-uint8_t frame_write_set_vr(uint16_t spacecraft, uint8_t channel, uint8_t value, uint8_t *output, size_t output_len, uint64_t *count);
+uint8_t pondreszi_frame_write_ad(uint32_t spacecraft, uint32_t channel, uint32_t number, const uint8_t *unit, size_t unit_len,
+                                 uint8_t *output, size_t output_len, uint64_t *count);
+uint8_t pondreszi_frame_write_bd(uint32_t spacecraft, uint32_t channel, const uint8_t *unit, size_t unit_len, uint8_t *output,
+                                 size_t output_len, uint64_t *count);
+uint8_t pondreszi_frame_write_unlock(uint32_t spacecraft, uint32_t channel, uint8_t *output, size_t output_len, uint64_t *count);
+uint8_t pondreszi_frame_write_set_vr(uint32_t spacecraft, uint32_t channel, uint32_t value, uint8_t *output, size_t output_len,
+                                     uint64_t *count);
 
+/* The kind of a frame that was read, or that the sender hands down (octet 17 of its answer). */
 enum pondreszi_frame_kind {
-    PONDRESZI_FRAME_AD = 0,
-    PONDRESZI_FRAME_BD = 1,
-    PONDRESZI_FRAME_UNLOCK = 2,
-    PONDRESZI_FRAME_SET_VR = 3
+    PONDRESZI_FRAME_NONE = 0,
+    PONDRESZI_FRAME_AD = 1,
+    PONDRESZI_FRAME_BD = 2,
+    PONDRESZI_FRAME_UNLOCK = 3, /* type BC, as Set V(R) */
+    PONDRESZI_FRAME_SET_VR = 4
 };
 
 /*
@@ -165,38 +173,38 @@ enum pondreszi_frame_kind {
  * field: the octets of its data field, which is octets[5 .. 5 + field]. All are 0 after a refusal.
  * Refusals, in this order: 4, 10, 4, 5, 8, 6, 7, 9.
  */
-uint8_t frame_read(const uint8_t *octets, size_t len, uint16_t spacecraft, uint8_t channel, uint8_t *kind, uint8_t *value,
-                   uint16_t *total, uint16_t *field);
+uint8_t pondreszi_frame_read(const uint8_t *octets, size_t len, uint32_t spacecraft, uint32_t channel, uint8_t *kind, uint8_t *value,
+                             uint16_t *total, uint16_t *field);
 
 /* Control words (clause 6.3). ---------------------------------------------------------------------------------------------------- */
 
-/* The three flags, as clcw_read tells them and as octet 10 of the receiver's state holds them. */
+/* The three flags, as pondreszi_clcw_read tells them and as octet 10 of the receiver's state holds them. */
 enum pondreszi_flag {
     PONDRESZI_FLAG_RETRANSMIT = 1,
     PONDRESZI_FLAG_WAIT = 2,
     PONDRESZI_FLAG_LOCKOUT = 4
 };
 
-/* What clcw_read tells of the radio. */
+/* What pondreszi_clcw_read tells of the radio. */
 enum pondreszi_rf {
     PONDRESZI_RF_NO_BIT_LOCK = 1,
     PONDRESZI_RF_NO_RF = 2
 };
 
 /*
- * Writes a control word of four octets. A flag is set where its number is not 0. counter: FARM-B, 0 to 3; report: V(R).
- * The receiver writes its own words (receiver_word). Refusals: 12 channel or counter, 11 output too short.
+ * Writes a control word of four octets. A flag is set where its number is not 0. counter: FARM-B, 0 to 3; report: V(R), 0 to 255.
+ * The receiver writes its own words (pondreszi_receiver_word). Refusals: 12 channel, counter or report, 11 output too short.
  */
-uint8_t clcw_write(uint8_t channel, uint8_t lockout, uint8_t wait, uint8_t retransmit, uint8_t counter, uint8_t report,
-                   uint8_t *output, size_t output_len, uint64_t *count);
+uint8_t pondreszi_clcw_write(uint32_t channel, uint32_t lockout, uint32_t wait, uint32_t retransmit, uint32_t counter, uint32_t report,
+                             uint8_t *output, size_t output_len, uint64_t *count);
 
 /*
  * Reads a control word. valid: 1, or 0 where the four octets are no valid COP-1 word, which is no refusal (then all else is 0).
  * status: 0 to 7; rf: enum pondreszi_rf, added; flags: enum pondreszi_flag, added.
  * Refusals: 10 not four octets, 7 another channel's word.
  */
-uint8_t clcw_read(const uint8_t *octets, size_t len, uint8_t channel, uint8_t *valid, uint8_t *status, uint8_t *rf, uint8_t *flags,
-                  uint8_t *counter, uint8_t *report);
+uint8_t pondreszi_clcw_read(const uint8_t *octets, size_t len, uint32_t channel, uint8_t *valid, uint8_t *status, uint8_t *rf,
+                            uint8_t *flags, uint8_t *counter, uint8_t *report);
 
 /* The receiver: FARM-1 (table 7-9). ---------------------------------------------------------------------------------------------- */
 
@@ -208,7 +216,7 @@ uint8_t clcw_read(const uint8_t *octets, size_t len, uint8_t channel, uint8_t *v
  *   2 enum pondreszi_farm_state     7 buffers            11 FARM-B counter
  *   3-4 spacecraft, high octet first  8 buffers taken
  *
- * Every call but receiver_new wants exactly 12 octets of a state, otherwise 12.
+ * Every call but pondreszi_receiver_new wants exactly 12 octets of a state, otherwise 12.
  */
 enum pondreszi_receiver_octet {
     PONDRESZI_RECEIVER_STATE = 2,
@@ -246,7 +254,7 @@ enum pondreszi_farm_event {
 /* The unit that a frame brought. */
 enum pondreszi_unit {
     PONDRESZI_UNIT_NONE = 0,
-    PONDRESZI_UNIT_AD = 1, /* the next in sequence; it holds a buffer until receiver_release */
+    PONDRESZI_UNIT_AD = 1, /* the next in sequence; it holds a buffer until pondreszi_receiver_release */
     PONDRESZI_UNIT_BD = 2  /* out of sequence, in a buffer of its own that the next one overwrites */
 };
 
@@ -254,23 +262,23 @@ enum pondreszi_unit {
  * A receiver at its start: Open, no flags, no buffer taken. The state's first 12 octets are written.
  * Refusals: 12 a value outside its limit, 11 the state's buffer is shorter than 12 octets.
  */
-uint8_t receiver_new(uint16_t spacecraft, uint8_t channel, uint8_t window, uint8_t vr, uint8_t buffers, uint8_t *state,
-                     size_t state_len);
+uint8_t pondreszi_receiver_new(uint32_t spacecraft, uint32_t channel, uint32_t window, uint32_t vr, uint32_t buffers, uint8_t *state,
+                               size_t state_len);
 
 /*
- * A frame arrives, as cltu_read gives it. The unit accepted, if any, is frame[first .. first + count], a part of the caller's frame and
- * no copy. AD units are accepted in order, none twice: apply them in the order of acceptance.
+ * A frame arrives, as pondreszi_cltu_read gives it. The unit accepted, if any, is frame[first .. first + count], a part of the caller's
+ * frame and no copy. AD units are accepted in order, none twice: apply them in the order of acceptance.
  * Returns the frame's refusal, which is event 9 and no fault of the caller; 12 where the octets are no state (event, unit, first and
  * count are then 0 and nothing changes).
  */
-uint8_t receiver_frame(uint8_t *state, size_t state_len, const uint8_t *frame, size_t frame_len, uint8_t *event, uint8_t *unit,
-                       uint64_t *first, uint64_t *count);
+uint8_t pondreszi_receiver_frame(uint8_t *state, size_t state_len, const uint8_t *frame, size_t frame_len, uint8_t *event,
+                                 uint8_t *unit, uint64_t *first, uint64_t *count);
 
 /* The application is done with an AD unit: its buffer is free again, event 10. Refusals: 13 none is taken, 12 no state. */
-uint8_t receiver_release(uint8_t *state, size_t state_len, uint8_t *event);
+uint8_t pondreszi_receiver_release(uint8_t *state, size_t state_len, uint8_t *event);
 
 /* The control word to send down, four octets. Refusals: 12 no state, 11 output too short. */
-uint8_t receiver_word(const uint8_t *state, size_t state_len, uint8_t *output, size_t output_len, uint64_t *count);
+uint8_t pondreszi_receiver_word(const uint8_t *state, size_t state_len, uint8_t *output, size_t output_len, uint64_t *count);
 
 /* The sender: FOP-1 (table 7-8). ------------------------------------------------------------------------------------------------- */
 
@@ -285,7 +293,7 @@ uint8_t receiver_word(const uint8_t *state, size_t state_len, uint8_t *output, s
  *   6 Transmission_Limit               0 stopped          21 the value of Set V(R)
  *   7 Timeout_Type, 0 for now    15 Transmission_Count    22-87 the lengths of the 33 places of the store, two octets each
  *
- * Every call but sender_new wants exactly 88 octets of a state, otherwise 12.
+ * Every call but pondreszi_sender_new wants exactly 88 octets of a state, otherwise 12.
  *
  * The store, at least 8,217 octets, holds the units at a stride of 249 octets: those on the sent queue, the oldest first, and directly
  * behind them the unit that waits. It is part of the state: lend the same one at every call, write nothing into its first 8,217 octets,
@@ -330,16 +338,18 @@ enum pondreszi_sender_flag {
 };
 
 /*
- * The answer to an event, the first 17 octets of the answer's buffer.
+ * The answer to an event, the first 18 octets of the answer's buffer.
  *
  *   0 refusal, as returned                                        7 suspended, 0 for now
  *   1 event: the row of table 7-8, 1 to 46 or 101 to 104; 0 none  8 count of responses, 0 to 4
  *   2 state, enum pondreszi_fop_state                             9-12 responses in their order, then 0
  *   3-4 octets of the frame handed down, at the front of the      13 confirmed: number of the first unit, 14 their count
  *       output, high octet first; 0 where there is none           15 denied: number of the first unit, 16 their count
- *   5 abort: 1 where the lower layer is to drop AD and BC frames it still holds
+ *   5 abort: 1 where the lower layer is to drop AD and BC         17 kind of the frame handed down, enum pondreszi_frame_kind
+ *     frames it still holds
  *   6 enum pondreszi_alert
  *
+ * The kind tells which accept or reject of the lower layer answers the frame: that of AD, of BD, or of BC for Unlock and Set V(R).
  * A confirmed unit was accepted on board. Of a denied one this is not known: see docs/OPERATIONS.md for what to do after an alert.
  */
 enum pondreszi_answer_octet {
@@ -355,7 +365,8 @@ enum pondreszi_answer_octet {
     PONDRESZI_ANSWER_CONFIRMED_FIRST = 13,
     PONDRESZI_ANSWER_CONFIRMED = 14,
     PONDRESZI_ANSWER_DENIED_FIRST = 15,
-    PONDRESZI_ANSWER_DENIED = 16
+    PONDRESZI_ANSWER_DENIED = 16,
+    PONDRESZI_ANSWER_KIND = 17
 };
 
 #define PONDRESZI_LARGEST_RESPONSES 4
@@ -420,15 +431,17 @@ enum pondreszi_lower_layer {
 /*
  * A sender at its start: Initial, queues empty, flags Ready, timer stopped. The state's first 88 octets are written; of the store only
  * the length matters. V(S) will be the number of the first AD unit; give NN(R) the same. Initiate before the first AD unit.
+ * timeout_type: 0 only, for now.
  * Refusals: 12 a value outside its limit or V(S) - NN(R) over 32; 11 store under 8,217 octets, or state's buffer under 88.
  */
-uint8_t sender_new(uint8_t k, uint16_t t1_initial, uint8_t transmission_limit, uint16_t spacecraft, uint8_t channel, uint8_t vs,
-                   uint8_t nnr, const uint8_t *store, size_t store_len, uint8_t *state, size_t state_len);
+uint8_t pondreszi_sender_new(uint32_t k, uint32_t t1_initial, uint32_t transmission_limit, uint32_t timeout_type, uint32_t spacecraft,
+                             uint32_t channel, uint32_t vs, uint32_t nnr, const uint8_t *store, size_t store_len, uint8_t *state,
+                             size_t state_len);
 
 /*
  * The events. All of them judge in the same way:
  *
- *   - 12 where the octets are no state, 11 where the answer's buffer is shorter than 17 octets: no buffer changes, the answer neither.
+ *   - 12 where the octets are no state, 11 where the answer's buffer is shorter than 18 octets: no buffer changes, the answer neither.
  *   - Then the event's refusal: 10 (unit length; word not of four octets), 12 (invalid directive), 7 (another channel's word), 11 (store
  *     under 8,217 octets, or output shorter than the frame to be handed down). State, store and output stay as they were; the answer is
  *     written, with the refusal and the state. A tick refused with 11 does not count.
@@ -439,31 +452,31 @@ uint8_t sender_new(uint8_t k, uint16_t t1_initial, uint8_t transmission_limit, u
  */
 
 /* A unit of 1 to 249 octets for the AD service: in sequence, sent again until confirmed. One unit can wait; a further is rejected. */
-uint8_t sender_request_ad(uint8_t *state, size_t state_len, const uint8_t *unit, size_t unit_len, uint8_t *store, size_t store_len,
-                          uint8_t *output, size_t output_len, uint8_t *answer, size_t answer_len);
+uint8_t pondreszi_sender_request_ad(uint8_t *state, size_t state_len, const uint8_t *unit, size_t unit_len, uint8_t *store,
+                                    size_t store_len, uint8_t *output, size_t output_len, uint8_t *answer, size_t answer_len);
 
 /* A unit of 1 to 249 octets for the BD service: sent once, in any state, never confirmed. */
-uint8_t sender_request_bd(uint8_t *state, size_t state_len, const uint8_t *unit, size_t unit_len, uint8_t *store, size_t store_len,
-                          uint8_t *output, size_t output_len, uint8_t *answer, size_t answer_len);
+uint8_t pondreszi_sender_request_bd(uint8_t *state, size_t state_len, const uint8_t *unit, size_t unit_len, uint8_t *store,
+                                    size_t store_len, uint8_t *output, size_t output_len, uint8_t *answer, size_t answer_len);
 
 /*
  * A directive by its number (enum pondreszi_directive) and value. Any other number, or a value outside its limit, is the invalid
  * directive: 12, and the answer has event 40 and the reject.
  */
-uint8_t sender_directive(uint8_t *state, size_t state_len, uint32_t number, uint32_t value, uint8_t *store, size_t store_len,
-                         uint8_t *output, size_t output_len, uint8_t *answer, size_t answer_len);
+uint8_t pondreszi_sender_directive(uint8_t *state, size_t state_len, uint32_t number, uint32_t value, uint8_t *store, size_t store_len,
+                                   uint8_t *output, size_t output_len, uint8_t *answer, size_t answer_len);
 
 /* A tick of the clock that T1 is counted in: a running timer falls by one, and the tick that makes it 0 is its expiry. */
-uint8_t sender_tick(uint8_t *state, size_t state_len, uint8_t *store, size_t store_len, uint8_t *output, size_t output_len,
-                    uint8_t *answer, size_t answer_len);
+uint8_t pondreszi_sender_tick(uint8_t *state, size_t state_len, uint8_t *store, size_t store_len, uint8_t *output, size_t output_len,
+                              uint8_t *answer, size_t answer_len);
 
 /* The lower layer's accept or reject (enum pondreszi_lower_layer). Any other number is 12, and no buffer changes, the answer neither. */
-uint8_t sender_lower_layer(uint8_t *state, size_t state_len, uint8_t number, uint8_t *store, size_t store_len, uint8_t *output,
-                           size_t output_len, uint8_t *answer, size_t answer_len);
+uint8_t pondreszi_sender_lower_layer(uint8_t *state, size_t state_len, uint32_t number, uint8_t *store, size_t store_len,
+                                     uint8_t *output, size_t output_len, uint8_t *answer, size_t answer_len);
 
 /* A control word from the receiver, any octets. Invalid ones are an event (15), since they end the AD service. */
-uint8_t sender_control_word(uint8_t *state, size_t state_len, const uint8_t *word, size_t word_len, uint8_t *store, size_t store_len,
-                            uint8_t *output, size_t output_len, uint8_t *answer, size_t answer_len);
+uint8_t pondreszi_sender_control_word(uint8_t *state, size_t state_len, const uint8_t *word, size_t word_len, uint8_t *store,
+                                      size_t store_len, uint8_t *output, size_t output_len, uint8_t *answer, size_t answer_len);
 
 #ifdef __cplusplus
 }

@@ -24,12 +24,12 @@ abbrev pub correctedOf : Answer Found → ℕ
 correctedOf (done count found) = found .corrected
 correctedOf (refused number place) = 0
 
--- table 6-3: the kind of a frame by number: 0 AD, 1 BD, 2 Unlock, 3 Set V(R)
+-- table 6-3 and clause 7.8: the kind of a frame by number, as octet 17 of the sender's answer: 1 AD, 2 BD, 3 Unlock, 4 Set V(R); 0 is none
 abbrev pub kindNumber : Kind → ℕ
-kindNumber (Ad number) = 0
-kindNumber Bd = 1
-kindNumber Unlock = 2
-kindNumber (SetVr value) = 3
+kindNumber (Ad number) = 1
+kindNumber Bd = 2
+kindNumber Unlock = 3
+kindNumber (SetVr value) = 4
 
 -- what a frame carries: N(S), or the value of Set V(R)
 abbrev pub kindValue : Kind → ℕ

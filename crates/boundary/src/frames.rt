@@ -105,10 +105,10 @@ fn kind_number(kind: Kind) -> u8
     ensures { λ r. ⌜ r ≡ kindNumber kind ⌝ }
 {
     match kind {
-        Kind::Ad(_) => 0,
-        Kind::Bd => 1,
-        Kind::Unlock => 2,
-        Kind::SetVr(_) => 3,
+        Kind::Ad(_) => 1,
+        Kind::Bd => 2,
+        Kind::Unlock => 3,
+        Kind::SetVr(_) => 4,
     }
 }
 

@@ -8,6 +8,8 @@ use Rattle.base.specs.Choice.{pick}
 use Rattle.base.specs.Outcome.{Outcome, Answer.done, Answer.refused, answer, after}
 use Rattle.base.specs.Outcome as outcome
 use Rattle.fop_actions.specs.declared.Alert.the-variants as alert
+use Rattle.fop_actions.specs.declared.Handed.{Handed}
+use Rattle.fop_actions.specs.declared.Handed.the-variants as handed
 use Rattle.fop_actions.specs.declared.Response.the-variants.{RejectDirective}
 use Rattle.fop_actions.specs.declared.Responses.{Responses}
 use Rattle.fop_actions.specs.declared.Run.{Run}
@@ -17,6 +19,8 @@ use Rattle.fop_actions.specs.Actions.{responseNumber, responsesWith}
 use Rattle.fop_actions.specs.Limits.{largestResponses}
 use Rattle.fop_actions.specs.Start.{senderOf}
 use Rattle.sender.specs.declared.Answer.{Answer}
+use Rattle.sender.specs.declared.FrameKind.{FrameKind}
+use Rattle.sender.specs.declared.FrameKind.the-variants as kind
 
 -- no response
 abbrev pub noResponses : Responses
@@ -34,6 +38,14 @@ refusedEvent number = pick (eqb number 12) 40 0
 abbrev pub emptyRun : Run
 emptyRun = record { number = 0; count = 0 }
 
+-- table 6-3 and clause 7.8: the kind of the frame handed down
+abbrev pub kindHanded : Handed → FrameKind
+kindHanded handed.None = kind.None
+kindHanded (handed.Ad n i) = kind.Ad
+kindHanded handed.Bd = kind.Bd
+kindHanded handed.Unlock = kind.Unlock
+kindHanded (handed.SetVr n) = kind.SetVr
+
 -- an event that is not refused: the event's number, the count of octets handed down, and what the work tells
 unfoldable pub answered : ℕ → ℕ → Work → Answer
 answered event down w = record {
@@ -47,6 +59,7 @@ answered event down w = record {
   responses = w .told .responses;
   confirmed = w .told .confirmed;
   denied = w .told .denied;
+  kind = kindHanded (w .told .handed);
   next = record { fop = senderOf w };
 }
 
@@ -63,6 +76,7 @@ refusing number s = record {
   responses = refusedResponses number;
   confirmed = emptyRun;
   denied = emptyRun;
+  kind = kind.None;
   next = record { fop = s };
 }
 

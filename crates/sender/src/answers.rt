@@ -1,7 +1,9 @@
 // What the sender answers: an event done, and a refusal.
 use crate::Answer;
+use crate::FrameKind;
 use crate::Sender;
 use fop_actions::Alert;
+use fop_actions::Handed;
 use fop_actions::LARGEST_RESPONSES;
 use fop_actions::Responses;
 use fop_actions::Run;
@@ -10,7 +12,23 @@ use fop_actions::start::sender_of;
 use frame::writer::Written;
 ghost use mathlib.Core.Path.{_≡_};
 ghost use Rattle.frame.specs.Answers.{writtenAnswer};
-ghost use Rattle.sender.specs.Answers.{answered, refusing, concluded, refusedResponses, refusedEvent};
+ghost use Rattle.sender.specs.Answers.{kindHanded, answered, refusing, concluded, refusedResponses, refusedEvent};
+
+// The kind of the frame handed down.
+fn kind_handed(handed: Handed) -> FrameKind
+    ensures { λ r. ⌜ r ≡ kindHanded handed ⌝ }
+{
+    match handed {
+        Handed::None => FrameKind::None,
+        Handed::Ad {
+            number: _,
+            place: _,
+        } => FrameKind::Ad,
+        Handed::Bd => FrameKind::Bd,
+        Handed::Unlock => FrameKind::Unlock,
+        Handed::SetVr(_) => FrameKind::SetVr,
+    }
+}
 
 // An event that is not refused.
 fn answered(event: u8, down: usize, work: Work) -> Answer
@@ -25,6 +43,8 @@ fn answered(event: u8, down: usize, work: Work) -> Answer
     let responses = told.responses;
     let confirmed = told.confirmed;
     let denied = told.denied;
+    let handed = told.handed;
+    let kind = kind_handed(handed);
     Answer {
         refusal: 0,
         event: event,
@@ -36,6 +56,7 @@ fn answered(event: u8, down: usize, work: Work) -> Answer
         responses: responses,
         confirmed: confirmed,
         denied: denied,
+        kind: kind,
         next: next,
     }
 }
@@ -90,6 +111,7 @@ pub fn refused(sender: fop_actions::Sender, number: u8) -> Answer
         responses: responses,
         confirmed: none,
         denied: none,
+        kind: FrameKind::None,
         next: next,
     }
 }

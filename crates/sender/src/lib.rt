@@ -69,9 +69,19 @@ pub struct Start {
     pub sender: Sender,
 }
 
+// The kind of the frame handed down (table 6-3, clause 7.8), which tells whose accept or reject the lower layer's answer to it is.
+pub enum FrameKind {
+    None,
+    Ad,
+    Bd,
+    Unlock,
+    SetVr,
+}
+
 // The answer to an event: document 01's refusal (0 for done); the event's number in table 7-8 (0 where it is none); the next state; the count
 // of octets of the frame handed down, at the front of the output (0 where there is none); whether the lower layer is asked to abort; the
-// alert; a Suspend notification, which is never given for now; the responses in their order; the units confirmed and denied; the next sender.
+// alert; a Suspend notification, which is never given for now; the responses in their order; the units confirmed and denied; the kind of the
+// frame handed down; the next sender.
 pub struct Answer {
     pub refusal: u8,
     pub event: u8,
@@ -83,6 +93,7 @@ pub struct Answer {
     pub responses: Responses,
     pub confirmed: Run,
     pub denied: Run,
+    pub kind: FrameKind,
     pub next: Sender,
 }
 

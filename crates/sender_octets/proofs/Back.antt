@@ -28,7 +28,7 @@ use Rattle.sender_octets.proofs.Parts.{settings-by, variables-by, queue
 pub record Sized (s : State) : Type 0 where
   pub lengths : length (s .queues .lengths) ≡ places
 
-state-back : (x : FopState) → stateNumbered (stateNumber x) ≡ x
+pub state-back : (x : FopState) → stateNumbered (stateNumber x) ≡ x
 state-back state.S1 = refl
 state-back state.S2 = refl
 state-back state.S3 = refl

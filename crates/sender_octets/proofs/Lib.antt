@@ -2,3 +2,4 @@ pub mod Pairs
 pub mod Parts
 pub mod Judged
 pub mod Back
+pub mod Answered

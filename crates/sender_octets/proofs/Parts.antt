@@ -14,7 +14,7 @@ use Rattle.fop_actions.specs.declared.Control.{Control}
 use Rattle.fop_actions.specs.declared.Sender.{Sender as State}
 use Rattle.sender.specs.declared.Answer.{Answer}
 use Rattle.sender_octets.specs.Kept.{octetsOf, stateIn, stateNumber, stateNumbered, controlNumber, controlValue, controlNumbered, flagsOf, pairs, pairAt, pairsFrom}
-use Rattle.sender_octets.specs.Answer.{octetsOfAnswer, alertNumber}
+use Rattle.sender_octets.specs.Answer.{octetsOfAnswer, alertNumber, kindNumber}
 
 -- the octets before the lengths, with the state's number, the flags and the type-BC frame given
 abbrev pub numbersWith : State → ℕ → ℕ → ℕ → ℕ → List ℕ
@@ -33,18 +33,21 @@ numbers-by s {number} {flags} {control} {value} en ef ec ev =
     ∙ ap (λ (n : ℕ). numbersWith s (stateNumber (s .state)) n control value ++ pairs (s .queues .lengths)) ef
     ∙ ap₂ (λ (n m : ℕ). numbersWith s (stateNumber (s .state)) (flagsOf s) n m ++ pairs (s .queues .lengths)) ec ev
 
--- the octets of an answer, with the state's number, the alert's and the bits given
-abbrev pub answerWith : Answer → ℕ → ℕ → ℕ → ℕ → List ℕ
-answerWith a state abort alert suspended =
+-- the octets of an answer, with the state's number, the alert's, the kind's and the bits given
+abbrev pub answerWith : Answer → ℕ → ℕ → ℕ → ℕ → ℕ → List ℕ
+answerWith a state abort alert suspended kind =
     a .refusal ∷ a .event ∷ state ∷ a .down / 256 % 256 ∷ a .down % 256 ∷ abort ∷ alert ∷ suspended
     ∷ a .responses .count ∷ getD (a .responses .numbers) 0 0 ∷ getD (a .responses .numbers) 1 0 ∷ getD (a .responses .numbers) 2 0 ∷ getD (a .responses .numbers) 3 0
-    ∷ a .confirmed .number ∷ a .confirmed .count ∷ a .denied .number ∷ a .denied .count ∷ []
+    ∷ a .confirmed .number ∷ a .confirmed .count ∷ a .denied .number ∷ a .denied .count ∷ kind ∷ []
 
-pub answer-by : (a : Answer) {state abort alert suspended : ℕ} → state ≡ stateNumber (a .state) → abort ≡ bitOf (a .abort)
-    → alert ≡ alertNumber (a .alert) → suspended ≡ bitOf (a .suspended) → answerWith a state abort alert suspended ≡ octetsOfAnswer a
+pub answer-by : (a : Answer) {state abort alert suspended kind : ℕ} → state ≡ stateNumber (a .state) → abort ≡ bitOf (a .abort)
+    → alert ≡ alertNumber (a .alert) → suspended ≡ bitOf (a .suspended) → kind ≡ kindNumber (a .kind)
+    → answerWith a state abort alert suspended kind ≡ octetsOfAnswer a
 unfolding octetsOfAnswer
-answer-by a {state} {abort} {alert} {suspended} es eb el eu =
-    ap₂ (λ (n m : ℕ). answerWith a n m alert suspended) es eb ∙ ap₂ (λ (n m : ℕ). answerWith a (stateNumber (a .state)) (bitOf (a .abort)) n m) el eu
+answer-by a {state} {abort} {alert} {suspended} {kind} es eb el eu ek =
+    ap₂ (λ (n m : ℕ). answerWith a n m alert suspended kind) es eb
+    ∙ ap₂ (λ (n m : ℕ). answerWith a (stateNumber (a .state)) (bitOf (a .abort)) n m kind) el eu
+    ∙ ap (answerWith a (stateNumber (a .state)) (bitOf (a .abort)) (alertNumber (a .alert)) (bitOf (a .suspended))) ek
 
 module _ (o : List ℕ) where
   abbrev pub settingsWith : ℕ → ℕ → Settings

@@ -9,13 +9,14 @@ use crate::writer::state_number;
 use crate::writer::truth;
 use fop_actions::Alert;
 use sender::Answer;
+use sender::FrameKind;
 use sender::Sender;
 use sender::Start;
 use sender::refused_state;
 use text::same;
 ghost use mathlib.Core.Path.{_≡_};
 ghost use Rattle.sender_octets.specs.Kept.{octetsOf, senderIn};
-ghost use Rattle.sender_octets.specs.Answer.{alertNumber, octetsOfAnswer};
+ghost use Rattle.sender_octets.specs.Answer.{alertNumber, kindNumber, octetsOfAnswer};
 
 // The octets of a state: 22 of numbers and flags, two for each length.
 pub const STATE_OCTETS: usize = 88;
@@ -24,7 +25,7 @@ pub const STATE_OCTETS: usize = 88;
 const NUMBERS: usize = 22;
 
 // The octets of an answer.
-pub const ANSWER_OCTETS: usize = 17;
+pub const ANSWER_OCTETS: usize = 18;
 
 // A state as octets.
 pub fn octets_of(state: fop_actions::Sender) -> [u8; STATE_OCTETS]
@@ -67,6 +68,19 @@ fn alert_number(alert: Alert) -> u8
     }
 }
 
+// The kind of the frame handed down by its number.
+fn kind_number(kind: FrameKind) -> u8
+    ensures { λ r. ⌜ r ≡ kindNumber kind ⌝ }
+{
+    match kind {
+        FrameKind::None => 0,
+        FrameKind::Ad => 1,
+        FrameKind::Bd => 2,
+        FrameKind::Unlock => 3,
+        FrameKind::SetVr => 4,
+    }
+}
+
 // An answer as octets.
 pub fn octets_of_answer(answer: Answer) -> [u8; ANSWER_OCTETS]
     ensures { λ r. ⌜ r ≡ octetsOfAnswer answer ⌝ }
@@ -79,6 +93,8 @@ pub fn octets_of_answer(answer: Answer) -> [u8; ANSWER_OCTETS]
     let alert = answer.alert;
     let alert = alert_number(alert);
     let suspended = truth(answer.suspended);
+    let kind = answer.kind;
+    let kind = kind_number(kind);
     [
         answer.refusal,
         answer.event,
@@ -97,5 +113,6 @@ pub fn octets_of_answer(answer: Answer) -> [u8; ANSWER_OCTETS]
         answer.confirmed.count,
         answer.denied.number,
         answer.denied.count,
+        kind,
     ]
 }

@@ -16,31 +16,35 @@ alert-number-requires c κs = search needs
 truth-requires-2 : tie.Need-truth-requires-2
 truth-requires-2 c κs = search needs
 
-cast-t12 : tie.Need-cast-t12
-cast-t12 c = search needs
+kind-number-requires : tie.Need-kind-number-requires
+kind-number-requires c κs = search needs
 
 cast-t14 : tie.Need-cast-t14
 cast-t14 c = search needs
 
-array-read-t17 : tie.Need-array-read-t17
-array-read-t17 c = search needs
+cast-t16 : tie.Need-cast-t16
+cast-t16 c = search needs
 
-array-read-t20 : tie.Need-array-read-t20
-array-read-t20 c = search needs
+array-read-t19 : tie.Need-array-read-t19
+array-read-t19 c = search needs
 
-array-read-t23 : tie.Need-array-read-t23
-array-read-t23 c = search needs
+array-read-t22 : tie.Need-array-read-t22
+array-read-t22 c = search needs
 
-array-read-t26 : tie.Need-array-read-t26
-array-read-t26 c = search needs
+array-read-t25 : tie.Need-array-read-t25
+array-read-t25 c = search needs
+
+array-read-t28 : tie.Need-array-read-t28
+array-read-t28 c = search needs
 
 returns : tie.Need-returns
 returns c =
-    let l = c .before in
+    let u = c .before in
+    let l = u .before in
     let b = l .before in
     let n = b .before in
     let a = n .before .before .args .answer in
-    answer-by a (n .state-number .ensures) (b .truth .ensures .0) (l .alert-number .ensures) (c .truth2 .ensures .0)
+    answer-by a (n .state-number .ensures) (b .truth .ensures .0) (l .alert-number .ensures) (u .truth2 .ensures .0) (c .kind-number .ensures)
 
 pub octets-of-answer-spec : {M : Type 1} → statement M
 octets-of-answer-spec =
@@ -50,10 +54,11 @@ octets-of-answer-spec =
     truth-requires
     alert-number-requires
     truth-requires-2
-    cast-t12
+    kind-number-requires
     cast-t14
-    array-read-t17
-    array-read-t20
-    array-read-t23
-    array-read-t26
+    cast-t16
+    array-read-t19
+    array-read-t22
+    array-read-t25
+    array-read-t28
     returns)
