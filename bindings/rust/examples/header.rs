@@ -51,6 +51,7 @@ fn limits() -> Values {
     values! {
         "LARGEST_SPACECRAFT" = LARGEST_SPACECRAFT,
         "LARGEST_CHANNEL" = LARGEST_CHANNEL,
+        "LARGEST_NUMBER" = LARGEST_NUMBER,
         "LARGEST_COUNTER" = LARGEST_COUNTER,
         "SMALLEST_WINDOW" = SMALLEST_WINDOW,
         "LARGEST_WINDOW" = LARGEST_WINDOW,
@@ -86,6 +87,7 @@ fn refusals() -> Values {
 
 fn frames_and_words() -> Values {
     values! {
+        "FRAME_NONE" = NONE,
         "FRAME_AD" = Kind::Ad.number(),
         "FRAME_BD" = Kind::Bd.number(),
         "FRAME_UNLOCK" = Kind::Unlock.number(),
@@ -162,6 +164,7 @@ fn places() -> Values {
         "ANSWER_CONFIRMED" = answer::CONFIRMED,
         "ANSWER_DENIED_FIRST" = answer::DENIED_FIRST,
         "ANSWER_DENIED" = answer::DENIED,
+        "ANSWER_KIND" = answer::KIND,
     }
 }
 

@@ -41,7 +41,7 @@ pub fn write(frame: &[u8]) -> Result<Vec<u8>, Refused> {
 pub fn write_into(frame: &[u8], output: &mut [u8]) -> Result<usize, Refused> {
     let mut count = 0;
     let number = unsafe {
-        library::cltu_write(
+        library::pondreszi_cltu_write(
             frame.as_ptr(),
             frame.len(),
             output.as_mut_ptr(),
@@ -116,7 +116,7 @@ pub fn read(input: &[u8]) -> Result<Decoded, Refused> {
 pub fn read_into(input: &[u8], output: &mut [u8]) -> Result<DecodedInto, Refused> {
     let (mut count, mut place, mut corrected) = (0, 0, 0);
     let number = unsafe {
-        library::cltu_read(
+        library::pondreszi_cltu_read(
             input.as_ptr(),
             input.len(),
             output.as_mut_ptr(),

@@ -6,7 +6,7 @@
 use crate::library;
 use crate::numbered::numbered;
 use crate::refusal::judged;
-use crate::{Refused, FRAME_HEADER_OCTETS, LARGEST_FRAME};
+use crate::{LowerLayer, Refused, FRAME_HEADER_OCTETS, LARGEST_FRAME};
 
 /// Writes a type-AD frame with its N(S).
 ///
@@ -17,10 +17,10 @@ use crate::{Refused, FRAME_HEADER_OCTETS, LARGEST_FRAME};
 /// ```
 pub fn write_ad(spacecraft: u16, channel: u8, number: u8, unit: &[u8]) -> Result<Vec<u8>, Refused> {
     written(|output, room, count| unsafe {
-        library::frame_write_ad(
-            spacecraft,
-            channel,
-            number,
+        library::pondreszi_frame_write_ad(
+            spacecraft.into(),
+            channel.into(),
+            number.into(),
             unit.as_ptr(),
             unit.len(),
             output,
@@ -41,9 +41,9 @@ pub fn write_ad(spacecraft: u16, channel: u8, number: u8, unit: &[u8]) -> Result
 /// ```
 pub fn write_bd(spacecraft: u16, channel: u8, unit: &[u8]) -> Result<Vec<u8>, Refused> {
     written(|output, room, count| unsafe {
-        library::frame_write_bd(
-            spacecraft,
-            channel,
+        library::pondreszi_frame_write_bd(
+            spacecraft.into(),
+            channel.into(),
             unit.as_ptr(),
             unit.len(),
             output,
@@ -62,7 +62,13 @@ pub fn write_bd(spacecraft: u16, channel: u8, unit: &[u8]) -> Result<Vec<u8>, Re
 /// ```
 pub fn write_unlock(spacecraft: u16, channel: u8) -> Result<Vec<u8>, Refused> {
     written(|output, room, count| unsafe {
-        library::frame_write_unlock(spacecraft, channel, output, room, count)
+        library::pondreszi_frame_write_unlock(
+            spacecraft.into(),
+            channel.into(),
+            output,
+            room,
+            count,
+        )
     })
 }
 
@@ -75,7 +81,14 @@ pub fn write_unlock(spacecraft: u16, channel: u8) -> Result<Vec<u8>, Refused> {
 /// ```
 pub fn write_set_vr(spacecraft: u16, channel: u8, value: u8) -> Result<Vec<u8>, Refused> {
     written(|output, room, count| unsafe {
-        library::frame_write_set_vr(spacecraft, channel, value, output, room, count)
+        library::pondreszi_frame_write_set_vr(
+            spacecraft.into(),
+            channel.into(),
+            value.into(),
+            output,
+            room,
+            count,
+        )
     })
 }
 
@@ -91,13 +104,39 @@ numbered! {
     /// The type of a frame, and of a type-BC frame its command.
     Kind {
         /// A unit in sequence.
-        Ad = 0,
+        Ad = 1,
         /// A unit out of sequence.
-        Bd = 1,
+        Bd = 2,
         /// The command Unlock.
-        Unlock = 2,
+        Unlock = 3,
         /// The command Set V(R).
-        SetVr = 3,
+        SetVr = 4,
+    }
+}
+
+impl Kind {
+    /// What the lower layer says when it takes a frame of this kind.
+    ///
+    /// ```
+    /// use pondreszi::frame::Kind;
+    /// use pondreszi::LowerLayer;
+    /// assert_eq!(Kind::Unlock.accept(), LowerLayer::BcAccept);
+    /// ```
+    pub fn accept(self) -> LowerLayer {
+        match self {
+            Kind::Ad => LowerLayer::AdAccept,
+            Kind::Bd => LowerLayer::BdAccept,
+            Kind::Unlock | Kind::SetVr => LowerLayer::BcAccept,
+        }
+    }
+
+    /// What the lower layer says when it does not.
+    pub fn reject(self) -> LowerLayer {
+        match self {
+            Kind::Ad => LowerLayer::AdReject,
+            Kind::Bd => LowerLayer::BdReject,
+            Kind::Unlock | Kind::SetVr => LowerLayer::BcReject,
+        }
     }
 }
 
@@ -132,11 +171,11 @@ pub struct Frame<'a> {
 pub fn read(octets: &[u8], spacecraft: u16, channel: u8) -> Result<Frame<'_>, Refused> {
     let (mut kind, mut value, mut total, mut field) = (0, 0, 0, 0);
     let number = unsafe {
-        library::frame_read(
+        library::pondreszi_frame_read(
             octets.as_ptr(),
             octets.len(),
-            spacecraft,
-            channel,
+            spacecraft.into(),
+            channel.into(),
             &mut kind,
             &mut value,
             &mut total,

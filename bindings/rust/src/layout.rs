@@ -2,7 +2,8 @@
 //! reset and may send down as telemetry, and of an answer. Numbers of two octets have the
 //! high octet first.
 
-/// What the library tells where there is none: no refusal, event, unit, response or alert.
+/// What the library tells where there is none: no refusal, event, unit, response, alert or
+/// frame.
 pub const NONE: u8 = 0;
 
 /// The octets of [`crate::Receiver::octets`].
@@ -127,4 +128,6 @@ pub mod answer {
     pub const DENIED_FIRST: usize = 15;
     /// The count of units denied.
     pub const DENIED: usize = 16;
+    /// [`crate::frame::Kind`] of the frame handed down.
+    pub const KIND: usize = 17;
 }

@@ -9,7 +9,7 @@
 //! One unit, there and back:
 //!
 //! ```
-//! use pondreszi::{cltu, Directive, LowerLayer, Receiver, ReceiverSettings};
+//! use pondreszi::{cltu, Directive, Receiver, ReceiverSettings};
 //! use pondreszi::{Sender, SenderSettings, Unit};
 //!
 //! # fn main() -> Result<(), Box<dyn std::error::Error>> {
@@ -17,16 +17,16 @@
 //!     spacecraft: 42, channel: 3, window: 20, vr: 0, buffers: 4,
 //! })?;
 //! let mut sender = Sender::new(SenderSettings {
-//!     k: 10, t1_initial: 50, transmission_limit: 3,
+//!     k: 10, t1_initial: 50, transmission_limit: 3, timeout_type: 0,
 //!     spacecraft: 42, channel: 3, vs: 0, nnr: 0,
 //! })?;
 //! sender.directive(Directive::InitiateWithoutCheck)?;
 //!
 //! let answer = sender.request_ad(b"CERT 0042 expires 2027-03-01")?;
 //! let handed_down = answer.frame.expect("the window is open");
-//! sender.lower_layer(LowerLayer::AdAccept)?;
+//! sender.lower_layer(handed_down.kind.accept())?;
 //!
-//! let decoded = cltu::read(&cltu::write(&handed_down)?)?;
+//! let decoded = cltu::read(&cltu::write(&handed_down.octets)?)?;
 //! let received = receiver.frame(&decoded.octets)?;
 //! assert_eq!(received.unit, Some(Unit::Ad(b"CERT 0042 expires 2027-03-01")));
 //! receiver.release()?;
@@ -55,6 +55,6 @@ pub use limits::*;
 pub use receiver::{Received, Receiver, ReceiverEvent, ReceiverSettings, ReceiverState, Unit};
 pub use refusal::{Refusal, Refused};
 pub use sender::{
-    Alert, Answer, Directive, LowerLayer, RefusedEvent, Response, Run, Sender, SenderSettings,
-    SenderState,
+    Alert, Answer, Directive, HandedDown, LowerLayer, RefusedEvent, Response, Run, Sender,
+    SenderSettings, SenderState,
 };

@@ -48,6 +48,9 @@ pub const LARGEST_SPACECRAFT: u16 = 1023;
 /// The largest virtual channel; the smallest is 0.
 pub const LARGEST_CHANNEL: u8 = 63;
 
+/// The largest sequence number: N(S), V(S), V(R), NN(R) and N(R); the smallest is 0.
+pub const LARGEST_NUMBER: u8 = 255;
+
 /// The largest FARM-B counter; the smallest is 0.
 pub const LARGEST_COUNTER: u8 = 3;
 
@@ -88,7 +91,7 @@ pub const STORE_OCTETS: usize = 8217;
 pub const SENDER_STATE_OCTETS: usize = 88;
 
 /// The octets of the answer to a sender's event.
-pub const ANSWER_OCTETS: usize = 17;
+pub const ANSWER_OCTETS: usize = 18;
 
 /// The octets of a receiver's state.
 pub const RECEIVER_STATE_OCTETS: usize = 12;

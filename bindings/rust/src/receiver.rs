@@ -108,12 +108,12 @@ impl Receiver {
     pub fn new(settings: ReceiverSettings) -> Result<Receiver, Refused> {
         let mut state = [0; RECEIVER_STATE_OCTETS];
         let number = unsafe {
-            library::receiver_new(
-                settings.spacecraft,
-                settings.channel,
-                settings.window,
-                settings.vr,
-                settings.buffers,
+            library::pondreszi_receiver_new(
+                settings.spacecraft.into(),
+                settings.channel.into(),
+                settings.window.into(),
+                settings.vr.into(),
+                settings.buffers.into(),
                 state.as_mut_ptr(),
                 state.len(),
             )
@@ -171,7 +171,7 @@ impl Receiver {
     pub fn frame<'a>(&mut self, frame: &'a [u8]) -> Result<Received<'a>, Refused> {
         let (mut event, mut unit, mut first, mut count) = (0, 0, 0, 0);
         let number = unsafe {
-            library::receiver_frame(
+            library::pondreszi_receiver_frame(
                 self.state.as_mut_ptr(),
                 self.state.len(),
                 frame.as_ptr(),
@@ -211,7 +211,11 @@ impl Receiver {
     pub fn release(&mut self) -> Result<(), Refused> {
         let mut event = 0;
         let number = unsafe {
-            library::receiver_release(self.state.as_mut_ptr(), self.state.len(), &mut event)
+            library::pondreszi_receiver_release(
+                self.state.as_mut_ptr(),
+                self.state.len(),
+                &mut event,
+            )
         };
         judged(number)?;
         Ok(())
@@ -252,7 +256,7 @@ fn written_word(state: &[u8]) -> Result<[u8; CLCW_OCTETS], Refused> {
     let mut output = [0; CLCW_OCTETS];
     let mut count = 0;
     let number = unsafe {
-        library::receiver_word(
+        library::pondreszi_receiver_word(
             state.as_ptr(),
             state.len(),
             output.as_mut_ptr(),

@@ -1,6 +1,7 @@
 use std::error::Error;
 use std::fmt;
 
+use crate::frame::Kind;
 use crate::layout::answer;
 use crate::layout::sender::{FLAGS, MARKED, NNR, SENT, STATE, TIMER, VS};
 use crate::layout::sender_flag::UNIT_WAITS;
@@ -19,6 +20,8 @@ pub struct SenderSettings {
     pub t1_initial: u16,
     /// Transmission_Limit, at least 1.
     pub transmission_limit: u8,
+    /// Timeout_Type, 0 only for now.
+    pub timeout_type: u8,
     /// The spacecraft, 0 to 1,023.
     pub spacecraft: u16,
     /// The virtual channel, 0 to 63.
@@ -179,6 +182,15 @@ impl Run {
     }
 }
 
+/// A frame that is handed down to the lower layer.
+#[derive(Clone, PartialEq, Eq, Debug)]
+pub struct HandedDown {
+    /// Its kind, which tells the accept or reject that answers it ([`Kind::accept`]).
+    pub kind: Kind,
+    /// Its octets.
+    pub octets: Vec<u8>,
+}
+
 /// The answer to an event.
 #[derive(Clone, PartialEq, Eq, Debug)]
 pub struct Answer {
@@ -187,7 +199,7 @@ pub struct Answer {
     /// The next state.
     pub state: SenderState,
     /// The frame handed down, if any.
-    pub frame: Option<Vec<u8>>,
+    pub frame: Option<HandedDown>,
     /// The lower layer is to drop AD and BC frames that it still holds.
     pub abort: bool,
     /// The responses in their order.
@@ -214,7 +226,13 @@ impl Answer {
                 NONE => SenderState::Initial,
                 number => SenderState::from_number(number).expect("a state"),
             },
-            frame: (down > 0).then(|| output[..down].to_vec()),
+            frame: match octets[answer::KIND] {
+                NONE => None,
+                number => Some(HandedDown {
+                    kind: Kind::from_number(number).expect("a kind of frame"),
+                    octets: output[..down].to_vec(),
+                }),
+            },
             abort: octets[answer::ABORT] != 0,
             responses: responses.map(response).collect(),
             alert: match octets[answer::ALERT] {
@@ -299,7 +317,7 @@ impl Sender {
     /// ```
     /// use pondreszi::{Refusal, Sender, SenderSettings, SenderState};
     /// let settings = SenderSettings {
-    ///     k: 10, t1_initial: 50, transmission_limit: 3,
+    ///     k: 10, t1_initial: 50, transmission_limit: 3, timeout_type: 0,
     ///     spacecraft: 42, channel: 3, vs: 0, nnr: 0,
     /// };
     /// assert_eq!(Sender::new(settings)?.state(), SenderState::Initial);
@@ -311,14 +329,15 @@ impl Sender {
         let mut state = [0; SENDER_STATE_OCTETS];
         let store = vec![0; STORE_OCTETS].into_boxed_slice();
         let number = unsafe {
-            library::sender_new(
-                settings.k,
-                settings.t1_initial,
-                settings.transmission_limit,
-                settings.spacecraft,
-                settings.channel,
-                settings.vs,
-                settings.nnr,
+            library::pondreszi_sender_new(
+                settings.k.into(),
+                settings.t1_initial.into(),
+                settings.transmission_limit.into(),
+                settings.timeout_type.into(),
+                settings.spacecraft.into(),
+                settings.channel.into(),
+                settings.vs.into(),
+                settings.nnr.into(),
                 store.as_ptr(),
                 store.len(),
                 state.as_mut_ptr(),
@@ -335,7 +354,7 @@ impl Sender {
     /// ```
     /// use pondreszi::{Refusal, Sender, SenderSettings};
     /// # let settings = SenderSettings {
-    /// #     k: 10, t1_initial: 50, transmission_limit: 3,
+    /// #     k: 10, t1_initial: 50, transmission_limit: 3, timeout_type: 0,
     /// #     spacecraft: 42, channel: 3, vs: 0, nnr: 0,
     /// # };
     /// let sender = Sender::new(settings)?;
@@ -382,7 +401,7 @@ impl Sender {
     /// ```
     /// use pondreszi::{Directive, LowerLayer, Refusal, Response, Sender, SenderSettings};
     /// # let settings = SenderSettings {
-    /// #     k: 10, t1_initial: 50, transmission_limit: 3,
+    /// #     k: 10, t1_initial: 50, transmission_limit: 3, timeout_type: 0,
     /// #     spacecraft: 42, channel: 3, vs: 0, nnr: 0,
     /// # };
     /// let mut sender = Sender::new(settings)?;
@@ -398,7 +417,7 @@ impl Sender {
     /// # Ok::<(), pondreszi::Refused>(())
     /// ```
     pub fn request_ad(&mut self, unit: &[u8]) -> Result<Answer, RefusedEvent> {
-        self.event_with_octets(library::sender_request_ad, unit)
+        self.event_with_octets(library::pondreszi_sender_request_ad, unit)
     }
 
     /// A unit of 1 to 249 octets for the BD service: sent once, in any state, never confirmed.
@@ -406,7 +425,7 @@ impl Sender {
     /// ```
     /// use pondreszi::{LowerLayer, Response, Sender, SenderSettings};
     /// # let settings = SenderSettings {
-    /// #     k: 10, t1_initial: 50, transmission_limit: 3,
+    /// #     k: 10, t1_initial: 50, transmission_limit: 3, timeout_type: 0,
     /// #     spacecraft: 42, channel: 3, vs: 0, nnr: 0,
     /// # };
     /// let mut sender = Sender::new(settings)?;
@@ -417,7 +436,7 @@ impl Sender {
     /// # Ok::<(), pondreszi::Refused>(())
     /// ```
     pub fn request_bd(&mut self, unit: &[u8]) -> Result<Answer, RefusedEvent> {
-        self.event_with_octets(library::sender_request_bd, unit)
+        self.event_with_octets(library::pondreszi_sender_request_bd, unit)
     }
 
     /// A directive.
@@ -425,13 +444,13 @@ impl Sender {
     /// ```
     /// use pondreszi::{Directive, Refusal, Response, Sender, SenderSettings, SenderState};
     /// # let settings = SenderSettings {
-    /// #     k: 10, t1_initial: 50, transmission_limit: 3,
+    /// #     k: 10, t1_initial: 50, transmission_limit: 3, timeout_type: 0,
     /// #     spacecraft: 42, channel: 3, vs: 0, nnr: 0,
     /// # };
     /// let mut sender = Sender::new(settings)?;
     /// let answer = sender.directive(Directive::InitiateWithUnlock)?;
     /// assert_eq!(answer.state, SenderState::InitialisingWithBc);
-    /// assert_eq!(answer.frame.unwrap().len(), 8);
+    /// assert_eq!(answer.frame.unwrap().octets.len(), 8);
     ///
     /// let refused = sender.directive(Directive::SetK(33)).unwrap_err();
     /// assert_eq!(refused.refusal, Refusal::Setting);
@@ -450,7 +469,7 @@ impl Sender {
     /// ```
     /// use pondreszi::{Refusal, Sender, SenderSettings};
     /// # let settings = SenderSettings {
-    /// #     k: 10, t1_initial: 50, transmission_limit: 3,
+    /// #     k: 10, t1_initial: 50, transmission_limit: 3, timeout_type: 0,
     /// #     spacecraft: 42, channel: 3, vs: 0, nnr: 0,
     /// # };
     /// let mut sender = Sender::new(settings)?;
@@ -461,7 +480,7 @@ impl Sender {
     /// ```
     pub fn directive_raw(&mut self, number: u32, value: u32) -> Result<Answer, RefusedEvent> {
         self.event(|lent| unsafe {
-            library::sender_directive(
+            library::pondreszi_sender_directive(
                 lent.state,
                 SENDER_STATE_OCTETS,
                 number,
@@ -482,7 +501,7 @@ impl Sender {
     /// ```
     /// use pondreszi::{Alert, Directive, Sender, SenderSettings};
     /// # let settings = SenderSettings {
-    /// #     k: 10, t1_initial: 50, transmission_limit: 3,
+    /// #     k: 10, t1_initial: 50, transmission_limit: 3, timeout_type: 0,
     /// #     spacecraft: 42, channel: 3, vs: 0, nnr: 0,
     /// # };
     /// let mut sender = Sender::new(SenderSettings {
@@ -498,7 +517,7 @@ impl Sender {
     /// ```
     pub fn tick(&mut self) -> Result<Answer, RefusedEvent> {
         self.event(|lent| unsafe {
-            library::sender_tick(
+            library::pondreszi_sender_tick(
                 lent.state,
                 SENDER_STATE_OCTETS,
                 lent.store,
@@ -516,7 +535,7 @@ impl Sender {
     /// ```
     /// use pondreszi::{Alert, LowerLayer, Sender, SenderSettings};
     /// # let settings = SenderSettings {
-    /// #     k: 10, t1_initial: 50, transmission_limit: 3,
+    /// #     k: 10, t1_initial: 50, transmission_limit: 3, timeout_type: 0,
     /// #     spacecraft: 42, channel: 3, vs: 0, nnr: 0,
     /// # };
     /// let mut sender = Sender::new(settings)?;
@@ -527,10 +546,10 @@ impl Sender {
     /// ```
     pub fn lower_layer(&mut self, said: LowerLayer) -> Result<Answer, RefusedEvent> {
         self.event(|lent| unsafe {
-            library::sender_lower_layer(
+            library::pondreszi_sender_lower_layer(
                 lent.state,
                 SENDER_STATE_OCTETS,
-                said.number(),
+                said.number().into(),
                 lent.store,
                 lent.store_len,
                 lent.output,
@@ -548,7 +567,7 @@ impl Sender {
     /// ```
     /// use pondreszi::{Alert, Directive, Refusal, Sender, SenderSettings};
     /// # let settings = SenderSettings {
-    /// #     k: 10, t1_initial: 50, transmission_limit: 3,
+    /// #     k: 10, t1_initial: 50, transmission_limit: 3, timeout_type: 0,
     /// #     spacecraft: 42, channel: 3, vs: 0, nnr: 0,
     /// # };
     /// let mut sender = Sender::new(settings)?;
@@ -560,7 +579,7 @@ impl Sender {
     /// # Ok::<(), pondreszi::Refused>(())
     /// ```
     pub fn control_word(&mut self, word: &[u8]) -> Result<Answer, RefusedEvent> {
-        self.event_with_octets(library::sender_control_word, word)
+        self.event_with_octets(library::pondreszi_sender_control_word, word)
     }
 
     fn event_with_octets(

@@ -14,6 +14,7 @@ const SENDER: SenderSettings = SenderSettings {
     k: 2,
     t1_initial: 0x1234,
     transmission_limit: 5,
+    timeout_type: 0,
     spacecraft: 0x2A5,
     channel: 3,
     vs: 255,
@@ -94,17 +95,17 @@ impl Raw {
     }
 
     fn request_ad(&mut self, unit: &[u8]) -> u8 {
-        self.with_octets(library::sender_request_ad, unit, ANSWER_OCTETS)
+        self.with_octets(library::pondreszi_sender_request_ad, unit, ANSWER_OCTETS)
     }
 
     fn control_word(&mut self, word: &[u8]) -> u8 {
-        self.with_octets(library::sender_control_word, word, ANSWER_OCTETS)
+        self.with_octets(library::pondreszi_sender_control_word, word, ANSWER_OCTETS)
     }
 
     fn directive(&mut self, directive: Directive) -> u8 {
         let (number, value) = directive.number_and_value();
         unsafe {
-            library::sender_directive(
+            library::pondreszi_sender_directive(
                 self.state.as_mut_ptr(),
                 self.state.len(),
                 number,
@@ -125,11 +126,40 @@ impl Raw {
     }
 }
 
+/// The library's new sender of these numbers, in the order of its parameters.
+fn sender_new(numbers: [u32; 8], store: &[u8], state: &mut [u8]) -> u8 {
+    let [k, t1_initial, limit, timeout_type, spacecraft, channel, vs, nnr] = numbers;
+    unsafe {
+        library::pondreszi_sender_new(
+            k,
+            t1_initial,
+            limit,
+            timeout_type,
+            spacecraft,
+            channel,
+            vs,
+            nnr,
+            store.as_ptr(),
+            store.len(),
+            state.as_mut_ptr(),
+            state.len(),
+        )
+    }
+}
+
+/// The library's new receiver of these numbers, in the order of its parameters.
+fn receiver_new([spacecraft, channel, window, vr, buffers]: [u32; 5], state: &mut [u8]) -> u8 {
+    let (first, count) = (state.as_mut_ptr(), state.len());
+    unsafe {
+        library::pondreszi_receiver_new(spacecraft, channel, window, vr, buffers, first, count)
+    }
+}
+
 /// A frame at the library's receiver: the number, the event and the unit.
 fn receive(state: &mut [u8], frame: &[u8]) -> (u8, u8, u8) {
     let (mut event, mut unit, mut first, mut count) = (0xA5, 0xA5, 0, 0);
     let number = unsafe {
-        library::receiver_frame(
+        library::pondreszi_receiver_frame(
             state.as_mut_ptr(),
             state.len(),
             frame.as_ptr(),
@@ -289,12 +319,81 @@ fn limits_of_settings() {
     }
 }
 
+/// Sequence numbers, where each function takes one.
+#[test]
+fn limits_of_numbers() {
+    let mut output = [0; LARGEST_FRAME];
+    let (first, room) = (output.as_mut_ptr(), output.len());
+    let mut state = [0; SENDER_STATE_OCTETS];
+    let sender = Sender::new(SENDER).unwrap();
+    for (more, expected) in [(0, NONE), (1, Refusal::Setting.number())] {
+        let (number, mut count) = (u32::from(LARGEST_NUMBER) + more, 0);
+        let unit = [7].as_ptr();
+        let written = unsafe {
+            [
+                library::pondreszi_frame_write_ad(1, 0, number, unit, 1, first, room, &mut count),
+                library::pondreszi_frame_write_set_vr(1, 0, number, first, room, &mut count),
+                library::pondreszi_clcw_write(0, 0, 0, 0, 0, number, first, room, &mut count),
+            ]
+        };
+        assert_eq!(written, [expected; 3]);
+        assert_eq!(receiver_new([0, 0, 2, number, 1], &mut state), expected);
+        let numbers = |vs, nnr| [1, 1, 1, 0, 0, 0, vs, nnr];
+        let largest = u32::from(LARGEST_NUMBER);
+        for numbers in [numbers(number, largest), numbers(largest, number)] {
+            let store = [0; STORE_OCTETS];
+            assert_eq!(sender_new(numbers, &store, &mut state), expected);
+        }
+        for directive in [Directive::InitiateWithSetVr(0), Directive::SetVs(0)] {
+            let mut sender = sender.clone();
+            let (directive, _) = directive.number_and_value();
+            let answer = sender.directive_raw(directive, number);
+            assert_eq!(answer.is_ok(), expected == NONE);
+        }
+    }
+}
+
+/// None is cut to 8 or 16 bits on the way.
+#[test]
+fn settings_of_32_bits() {
+    let setting = Refusal::Setting.number();
+    let good = [2, 9, 5, 0, 33, 3, 4, 4];
+    let mut state = [0; SENDER_STATE_OCTETS];
+    assert_eq!(sender_new(good, &[0; STORE_OCTETS], &mut state), NONE);
+    for place in 0..good.len() {
+        for more in [65_536, 1 << 24, 1 << 31] {
+            let mut numbers = good;
+            numbers[place] += more;
+            assert_eq!(sender_new(numbers, &[0; STORE_OCTETS], &mut state), setting);
+        }
+    }
+    let good = [33, 3, 20, 4, 2];
+    let mut state = [0; RECEIVER_STATE_OCTETS];
+    assert_eq!(receiver_new(good, &mut state), NONE);
+    for place in 0..good.len() {
+        for more in [65_536, 1 << 24, 1 << 31] {
+            let mut numbers = good;
+            numbers[place] += more;
+            assert_eq!(receiver_new(numbers, &mut state), setting);
+        }
+    }
+    let other = SenderSettings {
+        timeout_type: 1,
+        ..SENDER
+    };
+    assert_eq!(refusal(Sender::new(other)), Some(Refusal::Setting));
+}
+
 #[test]
 fn octets_of_states_store_and_answer() {
     let sender = active(SENDER);
     let mut raw = Raw::of(&sender);
     assert_eq!(
-        raw.with_octets(library::sender_request_ad, &[1], ANSWER_OCTETS - 1),
+        raw.with_octets(
+            library::pondreszi_sender_request_ad,
+            &[1],
+            ANSWER_OCTETS - 1
+        ),
         11
     );
     assert_eq!(raw.answer, [0xA5; ANSWER_OCTETS]);
@@ -303,21 +402,8 @@ fn octets_of_states_store_and_answer() {
     raw.store.truncate(STORE_OCTETS - 1);
     assert_eq!(raw.request_ad(&[1]), Refusal::Room.number());
 
-    let settings = |store: &[u8], state: &mut [u8]| unsafe {
-        library::sender_new(
-            1,
-            1,
-            1,
-            0,
-            0,
-            0,
-            0,
-            store.as_ptr(),
-            store.len(),
-            state.as_mut_ptr(),
-            state.len(),
-        )
-    };
+    let settings =
+        |store: &[u8], state: &mut [u8]| sender_new([1, 1, 1, 0, 0, 0, 0, 0], store, state);
     let mut state = [0xA5; SENDER_STATE_OCTETS + 1];
     let room = Refusal::Room.number();
     let short = SENDER_STATE_OCTETS - 1;
@@ -327,9 +413,7 @@ fn octets_of_states_store_and_answer() {
     assert_eq!(settings(&[0; STORE_OCTETS], &mut state), NONE);
     assert_eq!(state[SENDER_STATE_OCTETS - 1..], [0, 0xA5]);
 
-    let settings = |state: &mut [u8]| unsafe {
-        library::receiver_new(0, 0, 2, 0, 1, state.as_mut_ptr(), state.len())
-    };
+    let settings = |state: &mut [u8]| receiver_new([0, 0, 2, 0, 1], state);
     let mut state = [0xA5; RECEIVER_STATE_OCTETS + 1];
     assert_eq!(settings(&mut state[..RECEIVER_STATE_OCTETS - 1]), room);
     assert_eq!(state, [0xA5; RECEIVER_STATE_OCTETS + 1]);
@@ -375,7 +459,7 @@ fn flags_of_a_control_word() {
         let (mut counter, mut report) = (0, 0);
         let word = [0x01, 0x0C, third, 0];
         let number = unsafe {
-            library::clcw_read(
+            library::pondreszi_clcw_read(
                 word.as_ptr(),
                 word.len(),
                 3,
@@ -424,7 +508,8 @@ fn events_states_and_units_of_the_receiver() {
         assert_eq!(state[layout::receiver::STATE], next.number());
     }
     let mut event = 0xA5;
-    let number = unsafe { library::receiver_release(state.as_mut_ptr(), state.len(), &mut event) };
+    let number =
+        unsafe { library::pondreszi_receiver_release(state.as_mut_ptr(), state.len(), &mut event) };
     assert_eq!((number, event), (NONE, E10.number()));
     state[0] ^= 1;
     let setting = Refusal::Setting.number();
@@ -437,7 +522,7 @@ fn kinds_of_frames() {
         let (mut kind, mut value, mut total, mut field) = (0xA5, 0xA5, 0, 0);
         let number = unsafe {
             let (first, count) = (octets.as_ptr(), octets.len());
-            library::frame_read(
+            library::pondreszi_frame_read(
                 first, count, 1, 0, &mut kind, &mut value, &mut total, &mut field,
             )
         };
@@ -451,6 +536,34 @@ fn kinds_of_frames() {
     let set_vr = frame::write_set_vr(1, 0, 9).unwrap();
     assert_eq!(kind(unlock), (NONE, Kind::Unlock.number(), 0));
     assert_eq!(kind(set_vr), (NONE, Kind::SetVr.number(), 9));
+}
+
+/// The kind in an answer is that of the frame handed down, and tells what answers it.
+#[test]
+fn kinds_of_frames_handed_down() {
+    let handed_down = |answer: Answer, kind: Kind, accept: LowerLayer| {
+        let frame = answer.frame.unwrap();
+        let read = frame::read(&frame.octets, SENDER.spacecraft, SENDER.channel);
+        assert_eq!((frame.kind, read.unwrap().kind), (kind, kind));
+        assert_eq!(
+            (kind.accept(), kind.reject().number()),
+            (accept, accept.number() + 1)
+        );
+    };
+    let mut sender = active(SENDER);
+    let answer = sender.request_ad(&[7]).unwrap();
+    handed_down(answer, Kind::Ad, LowerLayer::AdAccept);
+    let answer = sender.request_bd(&[7]).unwrap();
+    handed_down(answer, Kind::Bd, LowerLayer::BdAccept);
+    for (directive, kind) in [
+        (Directive::InitiateWithUnlock, Kind::Unlock),
+        (Directive::InitiateWithSetVr(9), Kind::SetVr),
+    ] {
+        let mut sender = Sender::new(SENDER).unwrap();
+        let answer = sender.directive(directive).unwrap();
+        handed_down(answer, kind, LowerLayer::BcAccept);
+    }
+    assert_eq!(active(SENDER).tick().unwrap().frame, None);
 }
 
 #[test]
@@ -537,6 +650,7 @@ fn places_of_an_answer() {
     assert_eq!(raw.answer[answer::EVENT], 19);
     assert_eq!(raw.answer[answer::STATE], SenderState::Active.number());
     assert_eq!(two(&raw.answer, answer::FRAME), 10);
+    assert_eq!(raw.answer[answer::KIND], Kind::Ad.number());
     assert_eq!(raw.answer[answer::ABORT], 0);
     assert_eq!(raw.answer[answer::ALERT], NONE);
     assert_eq!(raw.answer[answer::SUSPENDED], 0);
@@ -548,6 +662,7 @@ fn places_of_an_answer() {
     assert_eq!(raw.request_ad(&[8]), NONE);
     assert_eq!(raw.responses(), []);
     assert_eq!(raw.answer[answer::FIRST_RESPONSE], NONE);
+    assert_eq!(raw.answer[answer::KIND], NONE);
 
     // A negative word: the frames under way are to be dropped.
     assert_eq!(raw.control_word(&word(255, flag::RETRANSMIT)), NONE);
