@@ -1,7 +1,7 @@
 //! The proved library's functions, each wrapped in a safe one. All lent memory is lent
 //! mutable, so that an octet the library must not change can be compared afterwards.
 
-use crate::exchange::exchange;
+use crate::call;
 use crate::lending::{lend, lend_number, Lent};
 use independent::clcw::{self, Report};
 use independent::cltu;
@@ -20,11 +20,11 @@ const UNWRITTEN_16: u16 = 0xDEAD;
 /// The same where any octet can be an answer, but seldom this one.
 const UNWRITTEN_8: u8 = 0xDE;
 
-/// The arguments of those names, as the function is called with them: any two of one type
-/// can be exchanged (src/exchange.rs).
+/// The arguments of those names, as the function is called with them: a fault can be made
+/// of them (src/call.rs).
 macro_rules! arguments {
     ($function:ident: $($name:ident),+) => {
-        let [$($name),+] = exchange(
+        let [$($name),+] = call::arguments(
             stringify!($function),
             [$(stringify!($name)),+],
             [$($name),+],
@@ -34,17 +34,17 @@ macro_rules! arguments {
 
 pub fn codeblock_error_control(information: &mut [u8]) -> u8 {
     let information = lend(information);
-    unsafe { c::codeblock_error_control(information.first(), information.len()) }
+    unsafe { c::pondreszi_codeblock_error_control(information.first(), information.len()) }
 }
 
 /// 1 or 0.
 pub fn codeblock_is_good(block: &mut [u8]) -> u8 {
     let block = lend(block);
-    unsafe { c::codeblock_is_good(block.first(), block.len()) }
+    unsafe { c::pondreszi_codeblock_is_good(block.first(), block.len()) }
 }
 
 pub fn randomizer_octet(place: u64) -> u8 {
-    unsafe { c::randomizer_octet(place) }
+    unsafe { c::pondreszi_randomizer_octet(place) }
 }
 
 /// Calls a function that tells a count of octets written.
@@ -56,9 +56,9 @@ fn written(call: impl FnOnce(*mut u64) -> u8) -> Written {
 
 pub fn cltu_write(frame: &mut [u8], output: &mut [u8]) -> Written {
     let (frame, output) = (&lend(frame), &lend(output));
-    arguments!(cltu_write: frame, output);
+    arguments!(pondreszi_cltu_write: frame, output);
     written(|count| unsafe {
-        c::cltu_write(
+        c::pondreszi_cltu_write(
             frame.first(),
             frame.len(),
             output.first(),
@@ -70,7 +70,7 @@ pub fn cltu_write(frame: &mut [u8], output: &mut [u8]) -> Written {
 
 pub fn cltu_read(input: &mut [u8], output: &mut [u8]) -> cltu::Read {
     let (input, output) = (&lend(input), &lend(output));
-    arguments!(cltu_read: input, output);
+    arguments!(pondreszi_cltu_read: input, output);
     let mut read = cltu::Read {
         number: UNWRITTEN_8,
         count: UNWRITTEN,
@@ -80,9 +80,9 @@ pub fn cltu_read(input: &mut [u8], output: &mut [u8]) -> cltu::Read {
     read.number = {
         let (count, place) = (&lend_number(&mut read.count), &lend_number(&mut read.place));
         let corrected = &lend_number(&mut read.corrected);
-        arguments!(cltu_read: count, place, corrected);
+        arguments!(pondreszi_cltu_read: count, place, corrected);
         unsafe {
-            c::cltu_read(
+            c::pondreszi_cltu_read(
                 input.first(),
                 input.len(),
                 output.first(),
@@ -98,13 +98,13 @@ pub fn cltu_read(input: &mut [u8], output: &mut [u8]) -> cltu::Read {
 
 pub fn fecf(message: &mut [u8]) -> u16 {
     let message = lend(message);
-    unsafe { c::fecf(message.first(), message.len()) }
+    unsafe { c::pondreszi_fecf(message.first(), message.len()) }
 }
 
 /// Each content has its function.
 pub fn frame_write(
-    spacecraft: u16,
-    channel: u8,
+    spacecraft: u32,
+    channel: u32,
     content: &mut Content,
     output: &mut [u8],
 ) -> Written {
@@ -112,9 +112,9 @@ pub fn frame_write(
     written(|count| match content {
         Content::Ad { number, unit } => unsafe {
             let (number, unit) = (*number, &lend(unit));
-            arguments!(frame_write_ad: channel, number);
-            arguments!(frame_write_ad: unit, output);
-            c::frame_write_ad(
+            arguments!(pondreszi_frame_write_ad: spacecraft, channel, number);
+            arguments!(pondreszi_frame_write_ad: unit, output);
+            c::pondreszi_frame_write_ad(
                 spacecraft,
                 channel,
                 number,
@@ -127,8 +127,9 @@ pub fn frame_write(
         },
         Content::Bd { unit } => unsafe {
             let unit = &lend(unit);
-            arguments!(frame_write_bd: unit, output);
-            c::frame_write_bd(
+            arguments!(pondreszi_frame_write_bd: spacecraft, channel);
+            arguments!(pondreszi_frame_write_bd: unit, output);
+            c::pondreszi_frame_write_bd(
                 spacecraft,
                 channel,
                 unit.first(),
@@ -139,12 +140,19 @@ pub fn frame_write(
             )
         },
         Content::Unlock => unsafe {
-            c::frame_write_unlock(spacecraft, channel, output.first(), output.len(), count)
+            arguments!(pondreszi_frame_write_unlock: spacecraft, channel);
+            c::pondreszi_frame_write_unlock(
+                spacecraft,
+                channel,
+                output.first(),
+                output.len(),
+                count,
+            )
         },
         Content::SetVr { value } => unsafe {
             let value = *value;
-            arguments!(frame_write_set_vr: channel, value);
-            c::frame_write_set_vr(
+            arguments!(pondreszi_frame_write_set_vr: spacecraft, channel, value);
+            c::pondreszi_frame_write_set_vr(
                 spacecraft,
                 channel,
                 value,
@@ -156,8 +164,9 @@ pub fn frame_write(
     })
 }
 
-pub fn frame_read(octets: &mut [u8], spacecraft: u16, channel: u8) -> frame::Read {
+pub fn frame_read(octets: &mut [u8], spacecraft: u32, channel: u32) -> frame::Read {
     let octets = lend(octets);
+    arguments!(pondreszi_frame_read: spacecraft, channel);
     let mut read = frame::Read {
         number: UNWRITTEN_8,
         kind: UNWRITTEN_8,
@@ -168,10 +177,10 @@ pub fn frame_read(octets: &mut [u8], spacecraft: u16, channel: u8) -> frame::Rea
     read.number = {
         let (kind, value) = (&lend_number(&mut read.kind), &lend_number(&mut read.value));
         let (total, field) = (&lend_number(&mut read.total), &lend_number(&mut read.field));
-        arguments!(frame_read: kind, value);
-        arguments!(frame_read: total, field);
+        arguments!(pondreszi_frame_read: kind, value);
+        arguments!(pondreszi_frame_read: total, field);
         unsafe {
-            c::frame_read(
+            c::pondreszi_frame_read(
                 octets.first(),
                 octets.len(),
                 spacecraft,
@@ -190,9 +199,9 @@ pub fn clcw_write(word: &Report, output: &mut [u8]) -> Written {
     let output = lend(output);
     let (channel, counter, report) = (word.channel, word.counter, word.value);
     let (lockout, wait, retransmit) = (word.lockout, word.wait, word.retransmit);
-    arguments!(clcw_write: channel, lockout, wait, retransmit, counter, report);
+    arguments!(pondreszi_clcw_write: channel, lockout, wait, retransmit, counter, report);
     written(|count| unsafe {
-        c::clcw_write(
+        c::pondreszi_clcw_write(
             channel,
             lockout,
             wait,
@@ -206,8 +215,9 @@ pub fn clcw_write(word: &Report, output: &mut [u8]) -> Written {
     })
 }
 
-pub fn clcw_read(octets: &mut [u8], channel: u8) -> clcw::Read {
+pub fn clcw_read(octets: &mut [u8], channel: u32) -> clcw::Read {
     let octets = lend(octets);
+    arguments!(pondreszi_clcw_read: channel);
     let mut read = clcw::Read {
         number: UNWRITTEN_8,
         valid: UNWRITTEN_8,
@@ -227,9 +237,9 @@ pub fn clcw_read(octets: &mut [u8], channel: u8) -> clcw::Read {
             &lend_number(&mut read.counter),
             &lend_number(&mut read.report),
         );
-        arguments!(clcw_read: valid, status, rf, flags, counter, report);
+        arguments!(pondreszi_clcw_read: valid, status, rf, flags, counter, report);
         unsafe {
-            c::clcw_read(
+            c::pondreszi_clcw_read(
                 octets.first(),
                 octets.len(),
                 channel,
@@ -259,15 +269,15 @@ pub struct Received {
 }
 
 pub fn receiver_new(
-    spacecraft: u16,
-    channel: u8,
-    [window, vr, buffers]: [u8; 3],
+    spacecraft: u32,
+    channel: u32,
+    [window, vr, buffers]: [u32; 3],
     state: &mut [u8],
 ) -> u8 {
     let state = lend(state);
-    arguments!(receiver_new: channel, window, vr, buffers);
+    arguments!(pondreszi_receiver_new: spacecraft, channel, window, vr, buffers);
     unsafe {
-        c::receiver_new(
+        c::pondreszi_receiver_new(
             spacecraft,
             channel,
             window,
@@ -281,7 +291,7 @@ pub fn receiver_new(
 
 pub fn receiver_frame(state: &mut [u8], frame: &mut [u8]) -> Received {
     let (state, frame) = (&lend(state), &lend(frame));
-    arguments!(receiver_frame: state, frame);
+    arguments!(pondreszi_receiver_frame: state, frame);
     let mut received = Received {
         number: UNWRITTEN_8,
         event: UNWRITTEN_8,
@@ -294,10 +304,10 @@ pub fn receiver_frame(state: &mut [u8], frame: &mut [u8]) -> Received {
         let unit = &lend_number(&mut received.unit);
         let first = &lend_number(&mut received.first);
         let count = &lend_number(&mut received.count);
-        arguments!(receiver_frame: event, unit);
-        arguments!(receiver_frame: first, count);
+        arguments!(pondreszi_receiver_frame: event, unit);
+        arguments!(pondreszi_receiver_frame: first, count);
         unsafe {
-            c::receiver_frame(
+            c::pondreszi_receiver_frame(
                 state.first(),
                 state.len(),
                 frame.first(),
@@ -317,16 +327,16 @@ pub fn receiver_release(state: &mut [u8]) -> (u8, u8) {
     let state = lend(state);
     let mut event = UNWRITTEN_8;
     let number = unsafe {
-        c::receiver_release(state.first(), state.len(), lend_number(&mut event).number())
+        c::pondreszi_receiver_release(state.first(), state.len(), lend_number(&mut event).number())
     };
     (number, event)
 }
 
 pub fn receiver_word(state: &mut [u8], output: &mut [u8]) -> Written {
     let (state, output) = (&lend(state), &lend(output));
-    arguments!(receiver_word: state, output);
+    arguments!(pondreszi_receiver_word: state, output);
     written(|count| unsafe {
-        c::receiver_word(
+        c::pondreszi_receiver_word(
             state.first(),
             state.len(),
             output.first(),
@@ -339,13 +349,14 @@ pub fn receiver_word(state: &mut [u8], output: &mut [u8]) -> Written {
 /// What a new sender is given.
 #[derive(Clone, Copy, PartialEq, Eq, Debug)]
 pub struct SenderSettings {
-    pub k: u8,
-    pub t1_initial: u16,
-    pub transmission_limit: u8,
-    pub spacecraft: u16,
-    pub channel: u8,
-    pub vs: u8,
-    pub nnr: u8,
+    pub k: u32,
+    pub t1_initial: u32,
+    pub transmission_limit: u32,
+    pub timeout_type: u32,
+    pub spacecraft: u32,
+    pub channel: u32,
+    pub vs: u32,
+    pub nnr: u32,
 }
 
 impl SenderSettings {
@@ -359,6 +370,7 @@ impl SenderSettings {
             k: self.k as usize,
             t1_initial: self.t1_initial as usize,
             transmission_limit: self.transmission_limit as usize,
+            timeout_type: self.timeout_type as usize,
         }
     }
 }
@@ -369,19 +381,23 @@ pub fn sender_new(settings: &SenderSettings, store: &mut [u8], state: &mut [u8])
         k,
         t1_initial,
         transmission_limit,
+        timeout_type,
         spacecraft,
         channel,
         vs,
         nnr,
     } = *settings;
-    arguments!(sender_new: k, transmission_limit, channel, vs, nnr);
-    arguments!(sender_new: t1_initial, spacecraft);
-    arguments!(sender_new: store, state);
+    arguments!(
+        pondreszi_sender_new:
+        k, t1_initial, transmission_limit, timeout_type, spacecraft, channel, vs, nnr
+    );
+    arguments!(pondreszi_sender_new: store, state);
     unsafe {
-        c::sender_new(
+        c::pondreszi_sender_new(
             k,
             t1_initial,
             transmission_limit,
+            timeout_type,
             spacecraft,
             channel,
             vs,
@@ -401,7 +417,7 @@ pub enum SenderEvent {
     RequestBd(Vec<u8>),
     Directive { number: u32, value: u32 },
     Tick,
-    LowerLayer(u8),
+    LowerLayer(u32),
     ControlWord(Vec<u8>),
 }
 
@@ -456,27 +472,39 @@ fn with_octets(
 
 fn sender_request_ad([state, store, output, answer]: EventBuffers, unit: &mut [u8]) -> u8 {
     let unit = &lend(unit);
-    arguments!(sender_request_ad: state, unit, store, output, answer);
-    with_octets(c::sender_request_ad, unit, [state, store, output, answer])
+    arguments!(pondreszi_sender_request_ad: state, unit, store, output, answer);
+    with_octets(
+        c::pondreszi_sender_request_ad,
+        unit,
+        [state, store, output, answer],
+    )
 }
 
 fn sender_request_bd([state, store, output, answer]: EventBuffers, unit: &mut [u8]) -> u8 {
     let unit = &lend(unit);
-    arguments!(sender_request_bd: state, unit, store, output, answer);
-    with_octets(c::sender_request_bd, unit, [state, store, output, answer])
+    arguments!(pondreszi_sender_request_bd: state, unit, store, output, answer);
+    with_octets(
+        c::pondreszi_sender_request_bd,
+        unit,
+        [state, store, output, answer],
+    )
 }
 
 fn sender_control_word([state, store, output, answer]: EventBuffers, word: &mut [u8]) -> u8 {
     let word = &lend(word);
-    arguments!(sender_control_word: state, word, store, output, answer);
-    with_octets(c::sender_control_word, word, [state, store, output, answer])
+    arguments!(pondreszi_sender_control_word: state, word, store, output, answer);
+    with_octets(
+        c::pondreszi_sender_control_word,
+        word,
+        [state, store, output, answer],
+    )
 }
 
 fn sender_directive([state, store, output, answer]: EventBuffers, number: u32, value: u32) -> u8 {
-    arguments!(sender_directive: state, store, output, answer);
-    arguments!(sender_directive: number, value);
+    arguments!(pondreszi_sender_directive: state, store, output, answer);
+    arguments!(pondreszi_sender_directive: number, value);
     unsafe {
-        c::sender_directive(
+        c::pondreszi_sender_directive(
             state.first(),
             state.len(),
             number,
@@ -492,9 +520,9 @@ fn sender_directive([state, store, output, answer]: EventBuffers, number: u32, v
 }
 
 fn sender_tick([state, store, output, answer]: EventBuffers) -> u8 {
-    arguments!(sender_tick: state, store, output, answer);
+    arguments!(pondreszi_sender_tick: state, store, output, answer);
     unsafe {
-        c::sender_tick(
+        c::pondreszi_sender_tick(
             state.first(),
             state.len(),
             store.first(),
@@ -507,10 +535,11 @@ fn sender_tick([state, store, output, answer]: EventBuffers) -> u8 {
     }
 }
 
-fn sender_lower_layer([state, store, output, answer]: EventBuffers, number: u8) -> u8 {
-    arguments!(sender_lower_layer: state, store, output, answer);
+fn sender_lower_layer([state, store, output, answer]: EventBuffers, number: u32) -> u8 {
+    arguments!(pondreszi_sender_lower_layer: state, store, output, answer);
+    arguments!(pondreszi_sender_lower_layer: number);
     unsafe {
-        c::sender_lower_layer(
+        c::pondreszi_sender_lower_layer(
             state.first(),
             state.len(),
             number,

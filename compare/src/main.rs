@@ -25,10 +25,10 @@
 //! memory beside what it was lent. Where it touches a page beside what it was lent, the
 //! program ends by a fault of memory (src/lending.rs).
 
+mod call;
 mod cases;
 mod check;
 mod ends;
-mod exchange;
 mod inputs;
 mod lending;
 mod library;
@@ -37,10 +37,10 @@ mod program;
 mod random;
 mod settings;
 
+use call::Part;
 use cases::OPERATIONS;
 use check::Tally;
 use ends::Mode;
-use exchange::Part;
 use independent::fault::FAULTS;
 use lending::LENDING_FAULTS;
 use random::Random;
@@ -61,7 +61,7 @@ fn main() -> ExitCode {
     let words: Vec<String> = std::env::args().skip(1).collect();
     if words == ["--faults"] {
         print_names(FAULTS.iter().map(|fault| fault.0));
-        print_names(exchange::names(Part::Operations));
+        print_names(call::names(Part::Operations));
         return ExitCode::from(0);
     }
     if words == ["--lending-faults"] {

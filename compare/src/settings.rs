@@ -1,6 +1,6 @@
 //! What the words of the command line ask for.
 
-use crate::exchange;
+use crate::call;
 use independent::fault::Fault;
 use std::fmt::Display;
 
@@ -12,7 +12,7 @@ pub struct Settings {
 }
 
 /// Reads the words of a comparison that takes these faults; none where they are bad usage.
-/// A fault of a call (src/exchange.rs) is taken by every comparison, and made here.
+/// A fault of a call (src/call.rs) is taken by every comparison, and made here.
 /// An option of this comparison alone is handed over with its value.
 pub fn read(
     words: &[String],
@@ -33,7 +33,7 @@ pub fn read(
                 let name = words.next()?;
                 match faults.iter().find(|fault| fault.0 == name) {
                     Some(fault) => settings.fault = fault.1,
-                    None => exchange::make(name)?,
+                    None => call::make(name)?,
                 }
             }
             option if option.starts_with("--") => own_option(option, words.next()?)?,

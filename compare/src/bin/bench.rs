@@ -41,9 +41,9 @@ mod lending {
     }
 }
 
-/// Exchanges nothing, in the place of ../exchange.rs.
-mod exchange {
-    pub fn exchange<T, const N: usize>(_: &str, _: [&str; N], arguments: [T; N]) -> [T; N] {
+/// Makes no fault, in the place of ../call.rs.
+mod call {
+    pub fn arguments<T, const N: usize>(_: &str, _: [&str; N], arguments: [T; N]) -> [T; N] {
         arguments
     }
 }
@@ -78,8 +78,8 @@ const INPUTS: usize = 64;
 /// So many operations of each side are compared first; the sequence numbers wrap twice.
 const CHECKED: usize = 600;
 
-const SPACECRAFT: u16 = 0x2A5;
-const CHANNEL: u8 = 3;
+const SPACECRAFT: u32 = 0x2A5;
+const CHANNEL: u32 = 3;
 const FRAME: usize = 256;
 const CLTU: usize = 306;
 const INPUT: usize = 4096;
@@ -266,7 +266,7 @@ fn cltu_read(name: &str, inputs: Vec<Vec<u8>>, codeblocks: usize) -> Row {
 
 fn ad_content(number: u8, unit: usize) -> Content {
     Content::Ad {
-        number,
+        number: number.into(),
         unit: sample(number as usize, unit),
     }
 }
@@ -302,7 +302,7 @@ fn frame_read() -> Row {
 }
 
 /// W, V(R) and the buffers.
-const RECEIVER: [u8; 3] = [20, 0, 8];
+const RECEIVER: [u32; 3] = [20, 0, 8];
 
 /// The library's receiver. Each AD frame is the one expected, and its unit is released.
 struct LibraryReceiver {
@@ -342,7 +342,7 @@ struct IndependentReceiver {
 
 impl IndependentReceiver {
     fn start() -> Farm1 {
-        let [window, v_r, buffers] = RECEIVER.map(usize::from);
+        let [window, v_r, buffers] = RECEIVER.map(|number| number as usize);
         Farm1::start(window, v_r, buffers).unwrap()
     }
 
@@ -402,6 +402,7 @@ const SENDER: SenderSettings = SenderSettings {
     k: 10,
     t1_initial: 100,
     transmission_limit: 3,
+    timeout_type: 0,
     spacecraft: SPACECRAFT,
     channel: CHANNEL,
     vs: 0,
@@ -419,7 +420,7 @@ fn confirming(number: u8) -> Vec<u8> {
         wait: 0,
         retransmit: 0,
         counter: 0,
-        value: number.wrapping_add(1),
+        value: number.wrapping_add(1).into(),
     };
     bits::to_octets(&clcw::encode(&report, Fault::None))
 }

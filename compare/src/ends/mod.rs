@@ -7,8 +7,8 @@ mod sender;
 mod sender_end;
 mod session;
 
+use crate::call::{self, Part};
 use crate::check::Tally;
-use crate::exchange::{self, Part};
 use crate::octets::LENGTHS;
 use crate::random::Random;
 use crate::settings::{self, print_names, Settings};
@@ -41,8 +41,8 @@ pub fn main(mode: Mode, words: &[String]) -> ExitCode {
     if words == ["--faults"] {
         print_names(faults.iter().map(|fault| fault.0));
         match mode {
-            Mode::Sender => print_names(exchange::names(Part::Sender)),
-            Mode::Receiver => print_names(exchange::names(Part::Receiver)),
+            Mode::Sender => print_names(call::names(Part::Sender)),
+            Mode::Receiver => print_names(call::names(Part::Receiver)),
             Mode::Session => (),
         }
         return ExitCode::from(0);
