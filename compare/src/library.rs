@@ -109,59 +109,76 @@ pub fn frame_write(
     output: &mut [u8],
 ) -> Written {
     let output = &lend(output);
+    let address = [spacecraft, channel];
     written(|count| match content {
-        Content::Ad { number, unit } => unsafe {
-            let (number, unit) = (*number, &lend(unit));
-            arguments!(pondreszi_frame_write_ad: spacecraft, channel, number);
-            arguments!(pondreszi_frame_write_ad: unit, output);
-            c::pondreszi_frame_write_ad(
-                spacecraft,
-                channel,
-                number,
-                unit.first(),
-                unit.len(),
-                output.first(),
-                output.len(),
-                count,
-            )
-        },
-        Content::Bd { unit } => unsafe {
-            let unit = &lend(unit);
-            arguments!(pondreszi_frame_write_bd: spacecraft, channel);
-            arguments!(pondreszi_frame_write_bd: unit, output);
-            c::pondreszi_frame_write_bd(
-                spacecraft,
-                channel,
-                unit.first(),
-                unit.len(),
-                output.first(),
-                output.len(),
-                count,
-            )
-        },
-        Content::Unlock => unsafe {
-            arguments!(pondreszi_frame_write_unlock: spacecraft, channel);
-            c::pondreszi_frame_write_unlock(
-                spacecraft,
-                channel,
-                output.first(),
-                output.len(),
-                count,
-            )
-        },
-        Content::SetVr { value } => unsafe {
-            let value = *value;
-            arguments!(pondreszi_frame_write_set_vr: spacecraft, channel, value);
-            c::pondreszi_frame_write_set_vr(
-                spacecraft,
-                channel,
-                value,
-                output.first(),
-                output.len(),
-                count,
-            )
-        },
+        Content::Ad { number, unit } => frame_write_ad(address, *number, unit, output, count),
+        Content::Bd { unit } => frame_write_bd(address, unit, output, count),
+        Content::Unlock => frame_write_unlock(address, output, count),
+        Content::SetVr { value } => frame_write_set_vr(address, *value, output, count),
     })
+}
+
+fn frame_write_ad(
+    [spacecraft, channel]: [u32; 2],
+    number: u32,
+    unit: &mut [u8],
+    output: &Lent,
+    count: *mut u64,
+) -> u8 {
+    let unit = &lend(unit);
+    arguments!(pondreszi_frame_write_ad: spacecraft, channel, number);
+    arguments!(pondreszi_frame_write_ad: unit, output);
+    unsafe {
+        c::pondreszi_frame_write_ad(
+            spacecraft,
+            channel,
+            number,
+            unit.first(),
+            unit.len(),
+            output.first(),
+            output.len(),
+            count,
+        )
+    }
+}
+
+fn frame_write_bd(
+    [spacecraft, channel]: [u32; 2],
+    unit: &mut [u8],
+    output: &Lent,
+    count: *mut u64,
+) -> u8 {
+    let unit = &lend(unit);
+    arguments!(pondreszi_frame_write_bd: spacecraft, channel);
+    arguments!(pondreszi_frame_write_bd: unit, output);
+    unsafe {
+        c::pondreszi_frame_write_bd(
+            spacecraft,
+            channel,
+            unit.first(),
+            unit.len(),
+            output.first(),
+            output.len(),
+            count,
+        )
+    }
+}
+
+fn frame_write_unlock([spacecraft, channel]: [u32; 2], output: &Lent, count: *mut u64) -> u8 {
+    arguments!(pondreszi_frame_write_unlock: spacecraft, channel);
+    let (first, len) = (output.first(), output.len());
+    unsafe { c::pondreszi_frame_write_unlock(spacecraft, channel, first, len, count) }
+}
+
+fn frame_write_set_vr(
+    [spacecraft, channel]: [u32; 2],
+    value: u32,
+    output: &Lent,
+    count: *mut u64,
+) -> u8 {
+    arguments!(pondreszi_frame_write_set_vr: spacecraft, channel, value);
+    let (first, len) = (output.first(), output.len());
+    unsafe { c::pondreszi_frame_write_set_vr(spacecraft, channel, value, first, len, count) }
 }
 
 pub fn frame_read(octets: &mut [u8], spacecraft: u32, channel: u32) -> frame::Read {

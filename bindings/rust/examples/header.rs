@@ -6,10 +6,10 @@ use pondreszi::frame::Kind;
 use pondreszi::layout::{answer, flag, receiver, rf, sender, sender_flag, NONE};
 use pondreszi::*;
 
-/// The names of the header behind `PONDRESZI_`.
+/// The names of the header behind `PONDRESZI_`, with their values.
 type Values = Vec<(&'static str, u64)>;
 
-/// Each name in capital letters with the value that the expression has.
+/// Each name with the value of the expression.
 macro_rules! values {
     ($($name:literal = $value:expr,)+) => {
         vec![$(($name, u64::from($value)),)+]
@@ -122,7 +122,7 @@ fn receiver() -> Values {
     }
 }
 
-fn places() -> Values {
+fn places_of_a_receiver() -> Values {
     counts! {
         "RECEIVER_STATE" = receiver::STATE,
         "RECEIVER_SPACECRAFT" = receiver::SPACECRAFT,
@@ -133,6 +133,11 @@ fn places() -> Values {
         "RECEIVER_VR" = receiver::VR,
         "RECEIVER_FLAGS" = receiver::FLAGS,
         "RECEIVER_COUNTER" = receiver::COUNTER,
+    }
+}
+
+fn places_of_a_sender() -> Values {
+    counts! {
         "SENDER_STATE" = sender::STATE,
         "SENDER_K" = sender::K,
         "SENDER_T1_INITIAL" = sender::T1_INITIAL,
@@ -151,6 +156,11 @@ fn places() -> Values {
         "SENDER_BC_FRAME" = sender::BC_FRAME,
         "SENDER_BC_VALUE" = sender::BC_VALUE,
         "SENDER_LENGTHS" = sender::LENGTHS,
+    }
+}
+
+fn places_of_an_answer() -> Values {
+    counts! {
         "ANSWER_REFUSAL" = answer::REFUSAL,
         "ANSWER_EVENT" = answer::EVENT,
         "ANSWER_STATE" = answer::STATE,
@@ -237,7 +247,9 @@ fn main() {
         refusals(),
         frames_and_words(),
         receiver(),
-        places(),
+        places_of_a_receiver(),
+        places_of_a_sender(),
+        places_of_an_answer(),
         sender(),
         directives(),
     ];

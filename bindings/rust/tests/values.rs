@@ -276,25 +276,30 @@ fn limits_of_addresses_and_counters() {
     }
 }
 
+/// The first and the last octet that is taken.
+fn ends(is_taken: impl Fn(u8) -> bool) -> Option<(u8, u8)> {
+    let taken: Vec<u8> = (0..=255).filter(|octet| is_taken(*octet)).collect();
+    Some((*taken.first()?, *taken.last()?))
+}
+
 #[test]
-fn limits_of_settings() {
-    for window in 0..=255 {
-        let settings = ReceiverSettings { window, ..RECEIVER };
-        let good = (SMALLEST_WINDOW..=LARGEST_WINDOW).contains(&window) && window % 2 == 0;
-        assert_eq!(Receiver::new(settings).is_ok(), good);
-    }
-    for buffers in 0..=255 {
-        let settings = ReceiverSettings {
+fn limits_of_receivers() {
+    let windows = ends(|window| Receiver::new(ReceiverSettings { window, ..RECEIVER }).is_ok());
+    assert_eq!(windows, Some((SMALLEST_WINDOW, LARGEST_WINDOW)));
+    let buffers = ends(|buffers| {
+        Receiver::new(ReceiverSettings {
             buffers,
             ..RECEIVER
-        };
-        let good = (SMALLEST_BUFFERS..=LARGEST_BUFFERS).contains(&buffers);
-        assert_eq!(Receiver::new(settings).is_ok(), good);
-    }
-    for k in 0..=255 {
-        let good = (SMALLEST_K..=LARGEST_K).contains(&k);
-        assert_eq!(Sender::new(SenderSettings { k, ..SENDER }).is_ok(), good);
-    }
+        })
+        .is_ok()
+    });
+    assert_eq!(buffers, Some((SMALLEST_BUFFERS, LARGEST_BUFFERS)));
+}
+
+#[test]
+fn limits_of_senders() {
+    let widths = ends(|k| Sender::new(SenderSettings { k, ..SENDER }).is_ok());
+    assert_eq!(widths, Some((SMALLEST_K, LARGEST_K)));
     let mut sender = Sender::new(SENDER).unwrap();
     let set_timer = Directive::SetTimer(0).number_and_value().0;
     let set_limit = Directive::SetTransmissionLimit(0).number_and_value().0;
@@ -425,6 +430,7 @@ fn octets_of_states_store_and_answer() {
 fn places_of_a_receivers_state() {
     use layout::receiver::*;
     let mut receiver = Receiver::new(RECEIVER).unwrap();
+    assert_eq!((receiver.octets()[VR], receiver.vr()), (255, 255));
     let frame = |number| frame::write_ad(0x2A5, 3, number, b"unit").unwrap();
     receiver.frame(&frame(255)).unwrap();
     receiver
@@ -567,8 +573,9 @@ fn kinds_of_frames_handed_down() {
 }
 
 #[test]
-fn places_of_a_senders_state() {
+fn places_of_a_new_senders_state() {
     use layout::sender::*;
+    use sender_flag::*;
     let settings = SenderSettings { nnr: 253, ..SENDER };
     let state = *Sender::new(settings).unwrap().octets();
     assert_eq!(state[STATE], SenderState::Initial.number());
@@ -580,14 +587,18 @@ fn places_of_a_senders_state() {
     assert_eq!(state[CHANNEL], settings.channel);
     assert_eq!((state[VS], state[NNR]), (255, 253));
     assert_eq!((two(&state, TIMER), state[TRANSMISSION_COUNT]), (0, 1));
-    use sender_flag::*;
     assert_eq!(state[FLAGS], AD_OUT_READY + BC_OUT_READY + BD_OUT_READY);
     assert_eq!(
         state[SUSPEND_STATE..],
         [0; SENDER_STATE_OCTETS - SUSPEND_STATE]
     );
+}
 
-    // Two units sent, of 3 and 249 octets, and one of 1 octet waiting.
+/// Two units are sent, of 3 and 249 octets, and one of 1 octet waits.
+#[test]
+fn places_of_a_senders_units() {
+    use layout::sender::*;
+    use sender_flag::*;
     let mut sender = active(SENDER);
     sender.request_ad(&[7; 3]).unwrap();
     assert_eq!(sender.octets()[FLAGS], BC_OUT_READY + BD_OUT_READY);
@@ -600,7 +611,7 @@ fn places_of_a_senders_state() {
     assert_eq!(state[SENT], 2);
     let lengths = [0, 2, 4].map(|more| two(&state, LENGTHS + more));
     assert_eq!(lengths, [3, 249, 1]);
-    assert_eq!(two(&state, TIMER), settings.t1_initial);
+    assert_eq!(two(&state, TIMER), SENDER.t1_initial);
     assert_eq!(two(&state, LENGTHS + 2 * 33 - 2), 0);
     assert_eq!(LENGTHS + 2 * 33, SENDER_STATE_OCTETS);
 
@@ -613,7 +624,12 @@ fn places_of_a_senders_state() {
         (2, 1, 2)
     );
     assert_eq!((state[VS], state[NNR]), (1, 255));
+}
 
+#[test]
+fn places_of_a_senders_command() {
+    use layout::sender::*;
+    use sender_flag::*;
     let mut sender = Sender::new(SENDER).unwrap();
     sender.directive(Directive::InitiateWithSetVr(200)).unwrap();
     let state = *sender.octets();
@@ -675,8 +691,11 @@ fn places_of_an_answer() {
     assert_eq!(raw.answer[answer::CONFIRMED_FIRST], 255);
     assert_eq!(raw.answer[answer::CONFIRMED], 1);
     assert_eq!(raw.answer[answer::DENIED], 0);
+}
 
-    // Terminate with one unit sent and one waiting.
+/// Terminate with one unit sent and one waiting.
+#[test]
+fn places_of_the_last_answer() {
     let mut raw = Raw::of(&active(SENDER));
     raw.request_ad(&[7]);
     raw.request_ad(&[8]);
