@@ -1,3 +1,4 @@
+pub mod Narrowed
 pub mod Told
 pub mod ReceiverCalls
 pub mod SenderCalls

@@ -18,7 +18,7 @@ use Rattle.frame.specs.declared.Reading.{Reading}
 use Rattle.frame.proofs.Accepted.{accepted, reading-refused, part-frame}
 use Rattle.clcw.specs.Clcw.{writing}
 use Rattle.farm.specs.Kept.{octetsOf, receiverIn, isState, restoredOf}
-use Rattle.farm.specs.Receiver.{startOf, answered, byReading, receiveOf, partFor, unitPart, releaseOf, wordOf}
+use Rattle.farm.specs.Receiver.{answered, byReading, receiveOf, partFor, unitPart, releaseOf, wordOf}
 use Rattle.farm.specs.declared.Receiver.{Receiver}
 use Rattle.farm.specs.declared.Received.{Received}
 use Rattle.farm.specs.declared.Unit.{Unit as AcceptedUnit}
@@ -27,7 +27,7 @@ use Rattle.farm.specs.declared.Start.{Start}
 use Rattle.farm.specs.declared.Start.the-variants.{Ready, Setting}
 use Rattle.farm.specs.declared.Released.{Released}
 use Rattle.farm.proofs.Restored.{state-only}
-use Rattle.boundary.specs.Receivers.{starting, newCall, received, frameCall, releasedBy, releaseCall, wordCall}
+use Rattle.boundary.specs.Receivers.{starting, startGiven, newCall, received, frameCall, releasedBy, releaseCall, wordCall}
 
 -- the octets of a receiver at the front of a buffer that has room for them
 octets-front : (old : List ℕ) (r : Receiver) → 12 ≤ length old → placed old 0 (octetsOf r) ≡ octetsOf r ++ drop 12 old
@@ -139,7 +139,7 @@ module _ (o : List ℕ) {start : Start} (e : start ≡ restoredOf o) where
         octets-front o next (omega arith) ∙ ap (λ (x : List ℕ). octetsOf next ++ x) (drop-of-length-le o h) ∙ append-nil (octetsOf next)
 
 -- a new receiver
-module _ (spacecraft channel window vr buffers : ℕ) (old : List ℕ) {start : Start} (e : start ≡ startOf spacecraft channel window vr buffers) where
+module _ (spacecraft channel window vr buffers : ℕ) (old : List ℕ) {start : Start} (e : start ≡ startGiven spacecraft channel window vr buffers) where
   pub new-setting : start ≡ Setting → newCall spacecraft channel window vr buffers old ≡ record { number = 12; state = old }
   unfolding newCall
   new-setting p = ap (λ (x : Start). starting x old) (sym e ∙ p)

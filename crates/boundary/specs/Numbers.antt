@@ -1,10 +1,16 @@
--- How an answer crosses the boundary to C and Rust: by numbers. What an answer does not have is 0.
-use Prim.Native.Nat.{ℕ, _+_, _*_}
+-- How numbers cross the boundary to C and Rust. What an answer does not have is 0. What is given comes as 32 bits, so that nothing is cut off
+-- on the way: every value is judged as it was given.
+use Prim.Native.Nat.{ℕ, suc, _+_, _*_}
 use mathlib.Core.Bool.{not}
-use lib.Dec.{eqb}
-use Rattle.base.specs.Outcome.{Answer, Answer.done, Answer.refused}
+use mathlib.Core.List.{List, []}
+use lib.Dec.{leb, eqb}
+use Rattle.base.specs.Choice.{pick}
+use Rattle.base.specs.Limits.{largestSpacecraft, largestChannel}
+use Rattle.base.specs.Outcome.{Outcome, Answer, Answer.done, Answer.refused}
 use Rattle.base.specs.Flags.{bitOf}
 use Rattle.cltu.specs.Cltu.{Found}
+use Rattle.fop.specs.Limits.{largestNumber}
+use Rattle.frame.specs.Frame.{writing}
 use Rattle.frame.specs.declared.Kind.{Kind}
 use Rattle.frame.specs.declared.Kind.the-variants.{Ad, Bd, Unlock, SetVr}
 use Rattle.frame.specs.declared.Reading.{Reading}
@@ -13,6 +19,29 @@ use Rattle.clcw.specs.declared.Clcw.{Clcw}
 use Rattle.clcw.specs.declared.Received.{Received}
 use Rattle.clcw.specs.declared.Reading.{Reading as WordReading}
 use Rattle.clcw.specs.declared.Reading.the-variants.{Word, Invalid, Address, Length as NotFour}
+
+-- the largest number of one octet, and of two
+abbrev pub largestOctet : ℕ
+largestOctet = 255
+
+abbrev pub largestPair : ℕ
+largestPair = 65535
+
+-- a number in fewer bits: itself up to the most that they hold, another beyond
+abbrev pub narrow : ℕ → ℕ → ℕ → ℕ
+narrow most other x = pick (leb x most) x other
+
+-- document 01, "Writing: 10, 12, 11": N(S), V*(R) or Report Value beyond an octet is judged where the address is, as one beyond its limit
+abbrev pub withNumber : ℕ → ℕ → ℕ → ℕ
+withNumber number own beyond = pick (leb number largestNumber) own beyond
+
+-- `pondreszi_frame_write_ad`: a frame of type AD
+abbrev pub adWriting : ℕ → ℕ → ℕ → List ℕ → ℕ → Outcome (Unit {0})
+adWriting spacecraft channel number unit room = writing (withNumber number spacecraft (suc largestSpacecraft)) channel (Ad number) unit room
+
+-- `pondreszi_frame_write_set_vr`: the control command Set V(R)
+abbrev pub setVrWriting : ℕ → ℕ → ℕ → ℕ → Outcome (Unit {0})
+setVrWriting spacecraft channel value room = writing (withNumber value spacecraft (suc largestSpacecraft)) channel (SetVr value) [] room
 
 -- the place that a CLTU reading tells
 abbrev pub placeOf : Answer Found → ℕ
@@ -92,10 +121,10 @@ counterTold received = received .word .counter
 abbrev pub reportTold : Received → ℕ
 reportTold received = received .word .report
 
--- the word that numbers give: a flag is set where its number is not 0
+-- `pondreszi_clcw_write`: the word that numbers give; a flag is set where its number is not 0
 abbrev pub wordGiven : ℕ → ℕ → ℕ → ℕ → ℕ → ℕ → Clcw
 wordGiven channel lockout wait retransmit counter report = record {
-  channel = channel;
+  channel = withNumber report channel (suc largestChannel);
   lockout = not (eqb lockout 0);
   wait = not (eqb wait 0);
   retransmit = not (eqb retransmit 0);

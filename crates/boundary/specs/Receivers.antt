@@ -6,6 +6,7 @@ use lib.ListN.{length, drop}
 use Rattle.base.specs.Choice.{must}
 use Rattle.base.specs.Outcome as outcome
 use Rattle.clcw.specs.Clcw.{writing}
+use Rattle.fop.specs.Limits.{largestNumber}
 use Rattle.farm.specs.Table.{eventNumber}
 use Rattle.farm.specs.Kept.{stateOctets, octetsOf, receiverIn, isState}
 use Rattle.farm.specs.Receiver.{startOf, startNumber, receiveOf, unitPart, releaseOf, releasedNumber, wordOf}
@@ -40,9 +41,13 @@ starting (start.Ready r) old =
     must (leb stateOctets (length old)) (record { number = 11; state = old }) (record { number = 0; state = octetsOf r ++ drop stateOctets old })
 starting start.Setting old = record { number = startNumber start.Setting; state = old }
 
--- `receiver_new`: a receiver at its start (document 01, "FARM-1")
+-- a receiver by the numbers given: 12 where one is outside its limit, V(R) too
+unfoldable pub startGiven : ℕ → ℕ → ℕ → ℕ → ℕ → Start
+startGiven spacecraft channel window vr buffers = must (leb vr largestNumber) start.Setting (startOf spacecraft channel window vr buffers)
+
+-- `pondreszi_receiver_new`: a receiver at its start (document 01, "FARM-1")
 unfoldable pub newCall : ℕ → ℕ → ℕ → ℕ → ℕ → List ℕ → Called
-newCall spacecraft channel window vr buffers old = starting (startOf spacecraft channel window vr buffers) old
+newCall spacecraft channel window vr buffers old = starting (startGiven spacecraft channel window vr buffers) old
 
 -- an answer to a frame: the refusal of the frame (E9), 0 where there is none; octets that are no state are 12, no event, and nothing changes
 pub record Frame : Type 0 where
@@ -64,7 +69,7 @@ received a part = record {
   state = octetsOf (a .next);
 }
 
--- `receiver_frame`: lent octets arrive as a frame
+-- `pondreszi_receiver_frame`: lent octets arrive as a frame
 unfoldable pub frameCall : List ℕ → List ℕ → Frame
 frameCall state frame =
     must (isState state) (record { number = 12; event = 0; unit = 0; first = 0; count = 0; state = state })
@@ -81,7 +86,7 @@ abbrev pub releasedBy : Released → List ℕ → Release
 releasedBy (released.Done a) old = record { number = 0; event = eventNumber (a .event); state = octetsOf (a .next) }
 releasedBy released.NoneTaken old = record { number = releasedNumber released.NoneTaken; event = 0; state = old }
 
--- `receiver_release`: a buffer is given back
+-- `pondreszi_receiver_release`: a buffer is given back
 unfoldable pub releaseCall : List ℕ → Release
 releaseCall state = must (isState state) (record { number = 12; event = 0; state = state }) (releasedBy (releaseOf (receiverIn state)) state)
 

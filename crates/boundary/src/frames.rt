@@ -1,4 +1,9 @@
 // FECF and transfer frames (clauses 6.2 and 6.4 to 6.8).
+use crate::numbers::NO_CHANNEL;
+use crate::numbers::NO_SPACECRAFT;
+use crate::numbers::narrow_u8;
+use crate::numbers::narrow_u16;
+use crate::numbers::with_number;
 use frame::Kind;
 use frame::Reading;
 use frame::writer::Written;
@@ -7,13 +12,13 @@ ghost use mathlib.Core.List.{[]};
 ghost use lib.ListN.{length};
 ghost use Rattle.base.specs.Outcome.{answer, after, numberOf, countOf};
 ghost use Rattle.fecf.specs.Fecf.{fecfOf};
-ghost use Rattle.frame.specs.declared.Kind.the-variants.{Ad, Bd, Unlock, SetVr};
+ghost use Rattle.frame.specs.declared.Kind.the-variants.{Bd, Unlock};
 ghost use Rattle.frame.specs.Frame.{writing};
 ghost use Rattle.frame.specs.Answers.{writtenAnswer, readingOf, readingNumber};
-ghost use Rattle.boundary.specs.Numbers.{kindNumber, kindValue, frameKind, frameValue, frameTotal, frameField};
+ghost use Rattle.boundary.specs.Numbers.{adWriting, setVrWriting, kindNumber, kindValue, frameKind, frameValue, frameTotal, frameField};
 
 #[no_mangle]
-pub extern "C" fn fecf(message: &[u8]) -> u16
+pub extern "C" fn pondreszi_fecf(message: &[u8]) -> u16
     ensures { λ r. ⌜ r ≡ fecfOf (now (message .entry)) ⌝ }
 {
     fecf::fecf(message)
@@ -37,26 +42,36 @@ fn told(written: Written, count: &mut u64) -> u8
 }
 
 #[no_mangle]
-pub extern "C" fn frame_write_ad(
-    spacecraft: u16,
-    channel: u8,
-    number: u8,
+pub extern "C" fn pondreszi_frame_write_ad(
+    spacecraft: u32,
+    channel: u32,
+    number: u32,
     unit: &[u8],
     output: &mut [u8],
     count: &mut u64,
 ) -> u8
-    ensures number { λ r. ⌜ r ≡ numberOf (answer (writing spacecraft channel (Ad number) (now (unit .entry)) (length (now (output .entry))))) ⌝ }
-    ensures memory { λ r. ⌜ now (output .exit) ≡ after (writing spacecraft channel (Ad number) (now (unit .entry)) (length (now (output .entry)))) (now (output .entry)) ⌝ }
-    ensures counted { λ r. ⌜ now (count .exit) ≡ countOf (answer (writing spacecraft channel (Ad number) (now (unit .entry)) (length (now (output .entry))))) ⌝ }
+    ensures number { λ r. ⌜ r ≡ numberOf (answer (adWriting spacecraft channel number (now (unit .entry)) (length (now (output .entry))))) ⌝ }
+    ensures memory { λ r. ⌜ now (output .exit) ≡ after (adWriting spacecraft channel number (now (unit .entry)) (length (now (output .entry)))) (now (output .entry)) ⌝ }
+    ensures counted { λ r. ⌜ now (count .exit) ≡ countOf (answer (adWriting spacecraft channel number (now (unit .entry)) (length (now (output .entry))))) ⌝ }
 {
-    let written = frame::writer::write_ad(spacecraft, channel, number, unit, output);
+    let judged = with_number(number, spacecraft, NO_SPACECRAFT as u32);
+    let own_spacecraft = narrow_u16(judged, NO_SPACECRAFT);
+    let own_channel = narrow_u8(channel, NO_CHANNEL);
+    let sequence_number = narrow_u8(number, 0);
+    let written = frame::writer::write_ad(
+        own_spacecraft,
+        own_channel,
+        sequence_number,
+        unit,
+        output,
+    );
     told(written, count)
 }
 
 #[no_mangle]
-pub extern "C" fn frame_write_bd(
-    spacecraft: u16,
-    channel: u8,
+pub extern "C" fn pondreszi_frame_write_bd(
+    spacecraft: u32,
+    channel: u32,
     unit: &[u8],
     output: &mut [u8],
     count: &mut u64,
@@ -65,14 +80,16 @@ pub extern "C" fn frame_write_bd(
     ensures memory { λ r. ⌜ now (output .exit) ≡ after (writing spacecraft channel Bd (now (unit .entry)) (length (now (output .entry)))) (now (output .entry)) ⌝ }
     ensures counted { λ r. ⌜ now (count .exit) ≡ countOf (answer (writing spacecraft channel Bd (now (unit .entry)) (length (now (output .entry))))) ⌝ }
 {
-    let written = frame::writer::write_bd(spacecraft, channel, unit, output);
+    let own_spacecraft = narrow_u16(spacecraft, NO_SPACECRAFT);
+    let own_channel = narrow_u8(channel, NO_CHANNEL);
+    let written = frame::writer::write_bd(own_spacecraft, own_channel, unit, output);
     told(written, count)
 }
 
 #[no_mangle]
-pub extern "C" fn frame_write_unlock(
-    spacecraft: u16,
-    channel: u8,
+pub extern "C" fn pondreszi_frame_write_unlock(
+    spacecraft: u32,
+    channel: u32,
     output: &mut [u8],
     count: &mut u64,
 ) -> u8
@@ -80,23 +97,29 @@ pub extern "C" fn frame_write_unlock(
     ensures memory { λ r. ⌜ now (output .exit) ≡ after (writing spacecraft channel Unlock [] (length (now (output .entry)))) (now (output .entry)) ⌝ }
     ensures counted { λ r. ⌜ now (count .exit) ≡ countOf (answer (writing spacecraft channel Unlock [] (length (now (output .entry))))) ⌝ }
 {
-    let written = frame::writer::write_unlock(spacecraft, channel, output);
+    let own_spacecraft = narrow_u16(spacecraft, NO_SPACECRAFT);
+    let own_channel = narrow_u8(channel, NO_CHANNEL);
+    let written = frame::writer::write_unlock(own_spacecraft, own_channel, output);
     told(written, count)
 }
 
 #[no_mangle]
-pub extern "C" fn frame_write_set_vr(
-    spacecraft: u16,
-    channel: u8,
-    value: u8,
+pub extern "C" fn pondreszi_frame_write_set_vr(
+    spacecraft: u32,
+    channel: u32,
+    value: u32,
     output: &mut [u8],
     count: &mut u64,
 ) -> u8
-    ensures number { λ r. ⌜ r ≡ numberOf (answer (writing spacecraft channel (SetVr value) [] (length (now (output .entry))))) ⌝ }
-    ensures memory { λ r. ⌜ now (output .exit) ≡ after (writing spacecraft channel (SetVr value) [] (length (now (output .entry)))) (now (output .entry)) ⌝ }
-    ensures counted { λ r. ⌜ now (count .exit) ≡ countOf (answer (writing spacecraft channel (SetVr value) [] (length (now (output .entry))))) ⌝ }
+    ensures number { λ r. ⌜ r ≡ numberOf (answer (setVrWriting spacecraft channel value (length (now (output .entry))))) ⌝ }
+    ensures memory { λ r. ⌜ now (output .exit) ≡ after (setVrWriting spacecraft channel value (length (now (output .entry)))) (now (output .entry)) ⌝ }
+    ensures counted { λ r. ⌜ now (count .exit) ≡ countOf (answer (setVrWriting spacecraft channel value (length (now (output .entry))))) ⌝ }
 {
-    let written = frame::writer::write_set_vr(spacecraft, channel, value, output);
+    let judged = with_number(value, spacecraft, NO_SPACECRAFT as u32);
+    let own_spacecraft = narrow_u16(judged, NO_SPACECRAFT);
+    let own_channel = narrow_u8(channel, NO_CHANNEL);
+    let set_value = narrow_u8(value, 0);
+    let written = frame::writer::write_set_vr(own_spacecraft, own_channel, set_value, output);
     told(written, count)
 }
 
@@ -125,10 +148,10 @@ fn kind_value(kind: Kind) -> u8
 
 // The data field of a frame that is not refused begins at its octet 5 and has `field` octets.
 #[no_mangle]
-pub extern "C" fn frame_read(
+pub extern "C" fn pondreszi_frame_read(
     octets: &[u8],
-    spacecraft: u16,
-    channel: u8,
+    spacecraft: u32,
+    channel: u32,
     kind: &mut u8,
     value: &mut u8,
     total: &mut u16,
@@ -144,7 +167,9 @@ pub extern "C" fn frame_read(
     *value = 0;
     *total = 0;
     *field = 0;
-    let reading = frame::read(octets, spacecraft, channel);
+    let own_spacecraft = narrow_u16(spacecraft, NO_SPACECRAFT);
+    let own_channel = narrow_u8(channel, NO_CHANNEL);
+    let reading = frame::read(octets, own_spacecraft, own_channel);
     match reading {
         Reading::Frame(fields) => {
             let found = fields.kind;

@@ -1,6 +1,7 @@
 // What C and Rust call: numbers, and octets as a pointer and a length. Each function passes its arguments on and puts the
 // answer into numbers. This file: channel coding (clause 8); the modules: frames and control words (clause 6), receiver and sender (clause 7).
 pub mod frames;
+mod numbers;
 pub mod receivers;
 pub mod senders;
 pub mod words;
@@ -18,14 +19,14 @@ ghost use Rattle.cltu.specs.Answers.{writtenAnswer, readAnswer};
 ghost use Rattle.boundary.specs.Numbers.{placeOf, correctedOf};
 
 #[no_mangle]
-pub extern "C" fn codeblock_error_control(information: &[u8]) -> u8
+pub extern "C" fn pondreszi_codeblock_error_control(information: &[u8]) -> u8
     ensures { λ r. ⌜ r ≡ errorControl (now (information .entry)) ⌝ }
 {
     codeblock::error_control(information)
 }
 
 #[no_mangle]
-pub extern "C" fn codeblock_is_good(block: &[u8]) -> u8
+pub extern "C" fn pondreszi_codeblock_is_good(block: &[u8]) -> u8
     ensures { λ r. ⌜ r ≡ bitOf (isGood (judged (now (block .entry)))) ⌝ }
 {
     if codeblock::is_good(block) {
@@ -35,7 +36,7 @@ pub extern "C" fn codeblock_is_good(block: &[u8]) -> u8
 }
 
 #[no_mangle]
-pub extern "C" fn randomizer_octet(place: u64) -> u8
+pub extern "C" fn pondreszi_randomizer_octet(place: u64) -> u8
     ensures { λ r. ⌜ r ≡ octet place ⌝ }
 {
     randomizer::octet_at(place)
@@ -58,7 +59,7 @@ fn told_written(written: Written, count: &mut u64) -> u8
 }
 
 #[no_mangle]
-pub extern "C" fn cltu_write(frame: &[u8], output: &mut [u8], count: &mut u64) -> u8
+pub extern "C" fn pondreszi_cltu_write(frame: &[u8], output: &mut [u8], count: &mut u64) -> u8
     ensures number { λ r. ⌜ r ≡ numberOf (answer (writing (now (frame .entry)) (length (now (output .entry))))) ⌝ }
     ensures memory { λ r. ⌜ now (output .exit) ≡ after (writing (now (frame .entry)) (length (now (output .entry)))) (now (output .entry)) ⌝ }
     ensures told { λ r. ⌜ now (count .exit) ≡ countOf (answer (writing (now (frame .entry)) (length (now (output .entry))))) ⌝ }
@@ -106,7 +107,7 @@ fn told_reading(reading: Reading, count: &mut u64, place: &mut u64, corrected: &
 }
 
 #[no_mangle]
-pub extern "C" fn cltu_read(
+pub extern "C" fn pondreszi_cltu_read(
     input: &[u8],
     output: &mut [u8],
     count: &mut u64,

@@ -1,5 +1,11 @@
 // FARM-1, the receiver (clause 7). Its state lies in a lent buffer of 12 octets (crate farm, specs/Kept), which a caller may keep over a
 // reset. Octets that are no state are refused by 12 and stay as they are.
+use crate::numbers::BEYOND;
+use crate::numbers::LARGEST_NUMBER;
+use crate::numbers::NO_CHANNEL;
+use crate::numbers::NO_SPACECRAFT;
+use crate::numbers::narrow_u8;
+use crate::numbers::narrow_u16;
 use crate::words::told;
 use farm::Event;
 use farm::Receiver;
@@ -17,7 +23,7 @@ ghost use Rattle.farm.specs.Kept.{octetsOf};
 ghost use Rattle.farm.specs.Receiver.{partFor};
 ghost use Rattle.farm.specs.declared.Unit.the-variants.{None};
 ghost use Rattle.farm.specs.Table.{eventNumber};
-ghost use Rattle.boundary.specs.Receivers.{unitNumber, unitPlace, newCall, frameCall, releaseCall, wordCall};
+ghost use Rattle.boundary.specs.Receivers.{unitNumber, unitPlace, startGiven, newCall, frameCall, releaseCall, wordCall};
 
 // An event of table 7-9 by its number.
 fn event_number(event: Event) -> u8
@@ -89,19 +95,39 @@ fn keep(receiver: Receiver, state: &mut [u8])
     memory::put(state, 0, &octets);
 }
 
+// A receiver by the numbers given.
+fn started(spacecraft: u32, channel: u32, window: u32, vr: u32, buffers: u32) -> Start
+    ensures { λ r. ⌜ r ≡ startGiven spacecraft channel window vr buffers ⌝ }
+{
+    if LARGEST_NUMBER < vr {
+        return Start::Setting;
+    }
+    let own_spacecraft = narrow_u16(spacecraft, NO_SPACECRAFT);
+    let own_channel = narrow_u8(channel, NO_CHANNEL);
+    let window_width = narrow_u8(window, BEYOND);
+    let buffer_count = narrow_u8(buffers, BEYOND);
+    Receiver::new(
+        own_spacecraft,
+        own_channel,
+        window_width,
+        vr as u8,
+        buffer_count,
+    )
+}
+
 #[no_mangle]
-pub extern "C" fn receiver_new(
-    spacecraft: u16,
-    channel: u8,
-    window: u8,
-    vr: u8,
-    buffers: u8,
+pub extern "C" fn pondreszi_receiver_new(
+    spacecraft: u32,
+    channel: u32,
+    window: u32,
+    vr: u32,
+    buffers: u32,
     state: &mut [u8],
 ) -> u8
     ensures number { λ r. ⌜ r ≡ newCall spacecraft channel window vr buffers (now (state .entry)) .number ⌝ }
     ensures states { λ r. ⌜ now (state .exit) ≡ newCall spacecraft channel window vr buffers (now (state .entry)) .state ⌝ }
 {
-    let start = Receiver::new(spacecraft, channel, window, vr, buffers);
+    let start = started(spacecraft, channel, window, vr, buffers);
     let Start::Ready(receiver) = start else {
         return 12;
     };
@@ -114,7 +140,7 @@ pub extern "C" fn receiver_new(
 
 // The unit accepted has `count` octets from octet `first` of the frame on.
 #[no_mangle]
-pub extern "C" fn receiver_frame(
+pub extern "C" fn pondreszi_receiver_frame(
     state: &mut [u8],
     frame: &[u8],
     event: &mut u8,
@@ -150,7 +176,7 @@ pub extern "C" fn receiver_frame(
 }
 
 #[no_mangle]
-pub extern "C" fn receiver_release(state: &mut [u8], event: &mut u8) -> u8
+pub extern "C" fn pondreszi_receiver_release(state: &mut [u8], event: &mut u8) -> u8
     ensures number { λ r. ⌜ r ≡ releaseCall (now (state .entry)) .number ⌝ }
     ensures events { λ r. ⌜ now (event .exit) ≡ releaseCall (now (state .entry)) .event ⌝ }
     ensures states { λ r. ⌜ now (state .exit) ≡ releaseCall (now (state .entry)) .state ⌝ }
@@ -172,7 +198,7 @@ pub extern "C" fn receiver_release(state: &mut [u8], event: &mut u8) -> u8
 }
 
 #[no_mangle]
-pub extern "C" fn receiver_word(state: &[u8], output: &mut [u8], count: &mut u64) -> u8
+pub extern "C" fn pondreszi_receiver_word(state: &[u8], output: &mut [u8], count: &mut u64) -> u8
     ensures number { λ r. ⌜ r ≡ numberOf (answer (wordCall (now (state .entry)) (length (now (output .entry))))) ⌝ }
     ensures memory { λ r. ⌜ now (output .exit) ≡ after (wordCall (now (state .entry)) (length (now (output .entry)))) (now (output .entry)) ⌝ }
     ensures counted { λ r. ⌜ now (count .exit) ≡ countOf (answer (wordCall (now (state .entry)) (length (now (output .entry))))) ⌝ }

@@ -1,9 +1,17 @@
 // FOP-1, the sender (clause 7, table 7-8). Its state is octets in a lent buffer, its answer octets in another (crate sender_octets).
+use crate::numbers::BEYOND;
+use crate::numbers::LARGEST_NUMBER;
+use crate::numbers::LARGEST_PAIR;
+use crate::numbers::NO_CHANNEL;
+use crate::numbers::NO_SPACECRAFT;
+use crate::numbers::narrow_u8;
+use crate::numbers::narrow_u16;
 use fop_actions::Settings;
 use fop_events::Lower;
 use sender::Answer;
 use sender::Sender;
 use sender::Start;
+use sender::refused_state;
 use sender_octets::ANSWER_OCTETS;
 use sender_octets::STATE_OCTETS;
 use sender_octets::octets_of;
@@ -16,15 +24,15 @@ ghost use Rattle.base.specs.Choice.{must};
 ghost use Rattle.memory.specs.Placed.{placed};
 ghost use Rattle.sender_octets.specs.Kept.{octetsOf, senderIn};
 ghost use Rattle.sender_octets.specs.Answer.{answerOctets, octetsOfAnswer};
-ghost use Rattle.boundary.specs.Senders.{requestAdCall, requestBdCall, tickCall, wordCall, lowerCall, directiveCall, newCall, lowerNumbered, narrowNumber, narrowValue};
-
-// The last directive of the sender, and the largest value that one carries.
-const LAST_DIRECTIVE: u32 = 11;
-
-const LARGEST_VALUE: u32 = 65535;
+ghost use Rattle.boundary.specs.Senders.{requestAdCall, requestBdCall, tickCall, wordCall, lowerCall, directiveCall, newCall, lowerNumbered, narrowNumber, startGiven};
 
 // The last answer of the lower layer.
-const LAST_LOWER: u8 = 6;
+const LAST_LOWER: u32 = 6;
+
+// Document 01, "Limits".
+const LARGEST_TIMER: u32 = 65535;
+
+const LARGEST_TRANSMISSION_LIMIT: u32 = 255;
 
 // The sender that a call reaches: 12 where the octets are no state, then 11 where the answer has no room.
 fn reach(state: &[u8], answer: &[u8]) -> Start
@@ -58,7 +66,7 @@ fn tell(told: Answer, state: &mut [u8], answer: &mut [u8]) -> u8
 }
 
 #[no_mangle]
-pub extern "C" fn sender_request_ad(
+pub extern "C" fn pondreszi_sender_request_ad(
     state: &mut [u8],
     unit: &[u8],
     store: &mut [u8],
@@ -81,7 +89,7 @@ pub extern "C" fn sender_request_ad(
 }
 
 #[no_mangle]
-pub extern "C" fn sender_request_bd(
+pub extern "C" fn pondreszi_sender_request_bd(
     state: &mut [u8],
     unit: &[u8],
     store: &mut [u8],
@@ -103,15 +111,12 @@ pub extern "C" fn sender_request_bd(
     tell(told, state, answer)
 }
 
-// The number and the value of a directive, as the sender takes them: what does not fit is the invalid directive.
+// The number of a directive, as the sender takes it: what does not fit, its value too, is the invalid directive.
 fn narrow_number(number: u32, value: u32) -> u8
     ensures { λ r. ⌜ r ≡ narrowNumber number value ⌝ }
 {
-    if LAST_DIRECTIVE < number {
-        return 0;
-    }
-    if value <= LARGEST_VALUE {
-        return number as u8;
+    if value <= LARGEST_PAIR {
+        return narrow_u8(number, 0);
     }
     if number == 4 {
         return 0;
@@ -119,20 +124,11 @@ fn narrow_number(number: u32, value: u32) -> u8
     if 7 <= number {
         return 0;
     }
-    number as u8
-}
-
-fn narrow_value(value: u32) -> u16
-    ensures { λ r. ⌜ r ≡ narrowValue value ⌝ }
-{
-    if LARGEST_VALUE < value {
-        return 0;
-    }
-    value as u16
+    narrow_u8(number, 0)
 }
 
 #[no_mangle]
-pub extern "C" fn sender_directive(
+pub extern "C" fn pondreszi_sender_directive(
     state: &mut [u8],
     number: u32,
     value: u32,
@@ -152,12 +148,12 @@ pub extern "C" fn sender_directive(
     }
     let sender = reached.sender;
     let directive = narrow_number(number, value);
-    let told = sender.directive(directive, narrow_value(value), store, output);
+    let told = sender.directive(directive, narrow_u16(value, 0), store, output);
     tell(told, state, answer)
 }
 
 #[no_mangle]
-pub extern "C" fn sender_tick(
+pub extern "C" fn pondreszi_sender_tick(
     state: &mut [u8],
     store: &mut [u8],
     output: &mut [u8],
@@ -179,7 +175,7 @@ pub extern "C" fn sender_tick(
 }
 
 // An answer of the lower layer by its number.
-fn lower_numbered(number: u8) -> Lower
+fn lower_numbered(number: u32) -> Lower
     ensures { λ r. ⌜ r ≡ lowerNumbered number ⌝ }
 {
     if number == 1 {
@@ -201,9 +197,9 @@ fn lower_numbered(number: u8) -> Lower
 }
 
 #[no_mangle]
-pub extern "C" fn sender_lower_layer(
+pub extern "C" fn pondreszi_sender_lower_layer(
     state: &mut [u8],
-    number: u8,
+    number: u32,
     store: &mut [u8],
     output: &mut [u8],
     answer: &mut [u8],
@@ -230,7 +226,7 @@ pub extern "C" fn sender_lower_layer(
 }
 
 #[no_mangle]
-pub extern "C" fn sender_control_word(
+pub extern "C" fn pondreszi_sender_control_word(
     state: &mut [u8],
     word: &[u8],
     store: &mut [u8],
@@ -252,38 +248,77 @@ pub extern "C" fn sender_control_word(
     tell(told, state, answer)
 }
 
-// A sender at its start, Timeout_Type 0.
+// A sender by the numbers given.
+fn started(
+    k: u32,
+    t1_initial: u32,
+    transmission_limit: u32,
+    timeout_type: u32,
+    spacecraft: u32,
+    channel: u32,
+    vs: u32,
+    nnr: u32,
+    store: &[u8],
+) -> Start
+    ensures { λ r. ⌜ r ≡ startGiven k «t1_initial» «transmission_limit» «timeout_type» spacecraft channel vs nnr (length (now (store .entry))) ⌝ }
+{
+    if LARGEST_TIMER < t1_initial {
+        return refused_state();
+    }
+    if LARGEST_TRANSMISSION_LIMIT < transmission_limit {
+        return refused_state();
+    }
+    if LARGEST_NUMBER < vs {
+        return refused_state();
+    }
+    if LARGEST_NUMBER < nnr {
+        return refused_state();
+    }
+    let settings = Settings {
+        k: narrow_u8(k, BEYOND),
+        t1_initial: t1_initial as u16,
+        transmission_limit: transmission_limit as u8,
+        timeout_type: narrow_u8(timeout_type, BEYOND),
+        spacecraft: narrow_u16(spacecraft, NO_SPACECRAFT),
+        channel: narrow_u8(channel, NO_CHANNEL),
+    };
+    Sender::new(settings, vs as u8, nnr as u8, store)
+}
+
 #[no_mangle]
-pub extern "C" fn sender_new(
-    k: u8,
-    t1_initial: u16,
-    transmission_limit: u8,
-    spacecraft: u16,
-    channel: u8,
-    vs: u8,
-    nnr: u8,
+pub extern "C" fn pondreszi_sender_new(
+    k: u32,
+    t1_initial: u32,
+    transmission_limit: u32,
+    timeout_type: u32,
+    spacecraft: u32,
+    channel: u32,
+    vs: u32,
+    nnr: u32,
     store: &[u8],
     state: &mut [u8],
 ) -> u8
-    ensures number { λ r. ⌜ r ≡ newCall k «t1_initial» «transmission_limit» spacecraft channel vs nnr (now (store .entry)) (now (state .entry)) .number ⌝ }
-    ensures state { λ r. ⌜ now (state .exit) ≡ newCall k «t1_initial» «transmission_limit» spacecraft channel vs nnr (now (store .entry)) (now (state .entry)) .state ⌝ }
+    ensures number { λ r. ⌜ r ≡ newCall k «t1_initial» «transmission_limit» «timeout_type» spacecraft channel vs nnr (now (store .entry)) (now (state .entry)) .number ⌝ }
+    ensures state { λ r. ⌜ now (state .exit) ≡ newCall k «t1_initial» «transmission_limit» «timeout_type» spacecraft channel vs nnr (now (store .entry)) (now (state .entry)) .state ⌝ }
 {
-    let settings = Settings {
-        k: k,
-        t1_initial: t1_initial,
-        transmission_limit: transmission_limit,
-        timeout_type: 0,
-        spacecraft: spacecraft,
-        channel: channel,
-    };
-    let started = Sender::new(settings, vs, nnr, store);
-    if started.refusal != 0 {
-        return started.refusal;
+    let start = started(
+        k,
+        t1_initial,
+        transmission_limit,
+        timeout_type,
+        spacecraft,
+        channel,
+        vs,
+        nnr,
+        store,
+    );
+    if start.refusal != 0 {
+        return start.refusal;
     }
     if state.len() < STATE_OCTETS {
         return 11;
     }
-    let sender = started.sender;
+    let sender = start.sender;
     let kept = octets_of(sender.state());
     memory::put(state, 0, &kept);
     0

@@ -1,4 +1,8 @@
 // Control words (clause 6.3). Flags cross as 1 or 0; any number but 0 given for a flag is taken as set.
+use crate::numbers::BEYOND;
+use crate::numbers::NO_CHANNEL;
+use crate::numbers::narrow_u8;
+use crate::numbers::with_number;
 use clcw::Clcw;
 use clcw::Reading;
 use clcw::Received;
@@ -29,13 +33,13 @@ pub(crate) fn told(written: Written, count: &mut u64) -> u8
 }
 
 #[no_mangle]
-pub extern "C" fn clcw_write(
-    channel: u8,
-    lockout: u8,
-    wait: u8,
-    retransmit: u8,
-    counter: u8,
-    report: u8,
+pub extern "C" fn pondreszi_clcw_write(
+    channel: u32,
+    lockout: u32,
+    wait: u32,
+    retransmit: u32,
+    counter: u32,
+    report: u32,
     output: &mut [u8],
     count: &mut u64,
 ) -> u8
@@ -43,13 +47,17 @@ pub extern "C" fn clcw_write(
     ensures memory { λ r. ⌜ now (output .exit) ≡ after (writing (wordGiven channel lockout wait retransmit counter report) (length (now (output .entry)))) (now (output .entry)) ⌝ }
     ensures counted { λ r. ⌜ now (count .exit) ≡ countOf (answer (writing (wordGiven channel lockout wait retransmit counter report) (length (now (output .entry))))) ⌝ }
 {
+    let judged = with_number(report, channel, NO_CHANNEL as u32);
+    let own_channel = narrow_u8(judged, NO_CHANNEL);
+    let farm_b_counter = narrow_u8(counter, BEYOND);
+    let report_value = narrow_u8(report, 0);
     let word = Clcw {
-        channel: channel,
+        channel: own_channel,
         lockout: lockout != 0,
         wait: wait != 0,
         retransmit: retransmit != 0,
-        counter: counter,
-        report: report,
+        counter: farm_b_counter,
+        report: report_value,
     };
     let written = word.write(output);
     told(written, count)
@@ -86,9 +94,9 @@ fn put_word(
 }
 
 #[no_mangle]
-pub extern "C" fn clcw_read(
+pub extern "C" fn pondreszi_clcw_read(
     octets: &[u8],
-    channel: u8,
+    channel: u32,
     valid: &mut u8,
     status: &mut u8,
     rf: &mut u8,
@@ -110,7 +118,8 @@ pub extern "C" fn clcw_read(
     *flags = 0;
     *counter = 0;
     *report = 0;
-    let reading = Clcw::read(octets, channel);
+    let own_channel = narrow_u8(channel, NO_CHANNEL);
+    let reading = Clcw::read(octets, own_channel);
     match reading {
         Reading::Word(received) => {
             *valid = 1;

@@ -1,0 +1,51 @@
+// Numbers come as 32 bits, and the crates behind take fewer. What does not fit is handed on as a number that they judge in the same way.
+use base::LARGEST_CHANNEL;
+use base::LARGEST_SPACECRAFT;
+ghost use mathlib.Core.Path.{_≡_};
+ghost use Rattle.boundary.specs.Numbers.{largestOctet, largestPair, narrow, withNumber};
+
+// The largest number of one octet, and of two.
+const LARGEST_OCTET: u32 = 255;
+
+pub(crate) const LARGEST_PAIR: u32 = 65535;
+
+// Sequence numbers.
+pub(crate) const LARGEST_NUMBER: u32 = 255;
+
+// An address beyond the limits: no frame or word has it.
+pub(crate) const NO_SPACECRAFT: u16 = LARGEST_SPACECRAFT + 1;
+
+pub(crate) const NO_CHANNEL: u8 = LARGEST_CHANNEL + 1;
+
+// A value beyond the limits of W, buffers, FARM-B counter, K and Timeout_Type.
+pub(crate) const BEYOND: u8 = 255;
+
+// A number in eight bits; another where it does not fit.
+pub(crate) fn narrow_u8(number: u32, otherwise: u8) -> u8
+    ensures { λ r. ⌜ r ≡ narrow largestOctet otherwise number ⌝ }
+{
+    if LARGEST_OCTET < number {
+        return otherwise;
+    }
+    number as u8
+}
+
+// The same in 16 bits.
+pub(crate) fn narrow_u16(number: u32, otherwise: u16) -> u16
+    ensures { λ r. ⌜ r ≡ narrow largestPair otherwise number ⌝ }
+{
+    if LARGEST_PAIR < number {
+        return otherwise;
+    }
+    number as u16
+}
+
+// Part of an address, or one beyond its limit where the number that goes with it is beyond its own.
+pub(crate) fn with_number(number: u32, own: u32, beyond: u32) -> u32
+    ensures { λ r. ⌜ r ≡ withNumber number own beyond ⌝ }
+{
+    if LARGEST_NUMBER < number {
+        return beyond;
+    }
+    own
+}
