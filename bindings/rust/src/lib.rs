@@ -6,6 +6,9 @@
 //! and adds only types: what it answers is what the standard's tables 7-8 and 7-9 and
 //! document 01 define, or one of document 01's refusals ([`Refusal`]).
 //!
+//! Numbers have the smallest type that holds their limit. The library takes them as 32 bits
+//! and they are only widened on the way, so that none is cut.
+//!
 //! One unit, there and back:
 //!
 //! ```

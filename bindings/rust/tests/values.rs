@@ -1,5 +1,6 @@
-//! Every number that the crate gives a name, seen in what the library does: limits, octets,
-//! places and numbered cases. `header` asserts that include/pondreszi.h has the same ones.
+//! The numbers that the crate gives a name, seen in what the library does: limits, octets,
+//! places and numbered cases. The script `header` asserts that include/pondreszi.h has the
+//! same ones.
 
 #[allow(dead_code)]
 #[path = "../src/library.rs"]
