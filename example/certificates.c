@@ -20,6 +20,7 @@
 #define K 8 /* at most W / 2 */
 #define T1 12
 #define TRANSMISSION_LIMIT 3
+#define TIMEOUT_TYPE 0
 #define FIRST_NUMBER 250 /* V(S) and V(R) at the start; numbers wrap soon */
 
 #define FRAME_PASSES 4 /* what a frame takes on the radio at the most */
@@ -37,6 +38,7 @@ static uint8_t answer[PONDRESZI_ANSWER_OCTETS];
 static struct {
     uint8_t octets[PONDRESZI_LARGEST_FRAME];
     size_t count;
+    uint8_t kind; /* enum pondreszi_frame_kind, as the answer told it */
 } under_way[2];
 static size_t under_way_count;
 static uint32_t passes_left; /* for the oldest */
@@ -96,7 +98,7 @@ static void arrive(const uint8_t *octets, size_t count) {
     uint8_t event, unit;
     uint64_t first, unit_octets;
     uint8_t refusal =
-        receiver_frame(receiver, sizeof receiver, octets, count, &event, &unit, &first, &unit_octets);
+        pondreszi_receiver_frame(receiver, sizeof receiver, octets, count, &event, &unit, &first, &unit_octets);
     if (event == PONDRESZI_FARM_NONE) {
         done(refusal, "the receiver's state");
     }
@@ -115,7 +117,7 @@ static void release_buffers(void) {
         return;
     }
     while (receiver[PONDRESZI_RECEIVER_TAKEN] > 0) {
-        done(receiver_release(receiver, sizeof receiver, &event), "release");
+        done(pondreszi_receiver_release(receiver, sizeof receiver, &event), "release");
     }
     if (random_number(40) == 0) {
         busy = random_number(60);
@@ -127,7 +129,7 @@ static void carry_up(const uint8_t *frame, size_t frame_octets) {
     uint8_t cltu[PONDRESZI_LARGEST_CLTU];
     uint8_t decoded[PONDRESZI_LARGEST_DECODED_FRAME];
     uint64_t cltu_octets, count, place, corrected;
-    done(cltu_write(frame, frame_octets, cltu, sizeof cltu, &cltu_octets), "CLTU");
+    done(pondreszi_cltu_write(frame, frame_octets, cltu, sizeof cltu, &cltu_octets), "CLTU");
     if (is_lost(frame_loss)) {
         lost_frames++;
         if (random_number(2) == 0) {
@@ -135,7 +137,7 @@ static void carry_up(const uint8_t *frame, size_t frame_octets) {
         }
         cltu[random_number((uint32_t)cltu_octets - PONDRESZI_CODEBLOCK_OCTETS)] ^= (uint8_t)(1u << random_number(8));
     }
-    if (cltu_read(cltu, (size_t)cltu_octets, decoded, sizeof decoded, &count, &place, &corrected) == PONDRESZI_DONE) {
+    if (pondreszi_cltu_read(cltu, (size_t)cltu_octets, decoded, sizeof decoded, &count, &place, &corrected) == PONDRESZI_DONE) {
         arrive(decoded, (size_t)count);
     }
 }
@@ -143,7 +145,7 @@ static void carry_up(const uint8_t *frame, size_t frame_octets) {
 /* The radio: the receiver's control word comes down, or is lost. */
 static int carry_down(uint8_t word[PONDRESZI_CLCW_OCTETS]) {
     uint64_t count;
-    done(receiver_word(receiver, sizeof receiver, word, PONDRESZI_CLCW_OCTETS, &count), "control word");
+    done(pondreszi_receiver_word(receiver, sizeof receiver, word, PONDRESZI_CLCW_OCTETS, &count), "control word");
     words++;
     if (is_lost(word_loss)) {
         lost_words++;
@@ -200,15 +202,17 @@ static int follow_answer(uint8_t state_before) {
         }
         memcpy(under_way[under_way_count].octets, output, frame_octets);
         under_way[under_way_count].count = frame_octets;
+        under_way[under_way_count].kind = answer[PONDRESZI_ANSWER_KIND];
         under_way_count++;
     }
     return frame_octets > 0 || answer[PONDRESZI_ANSWER_STATE] != state_before || answer[PONDRESZI_ANSWER_RESPONSES] > 0 ||
            answer[PONDRESZI_ANSWER_CONFIRMED] > 0;
 }
 
-static int accept_frame(uint8_t number) {
+static int accept_frame(uint32_t number) {
     uint8_t before = sender[PONDRESZI_SENDER_STATE];
-    done(sender_lower_layer(sender, sizeof sender, number, store, sizeof store, output, sizeof output, answer, sizeof answer),
+    done(pondreszi_sender_lower_layer(sender, sizeof sender, number, store, sizeof store, output, sizeof output, answer,
+                                      sizeof answer),
          "accept of the lower layer");
     return follow_answer(before);
 }
@@ -218,9 +222,7 @@ static int accept_frame(uint8_t number) {
  * for an abort: the receiver tells by its number whether it still wants it.
  */
 static void send_oldest(void) {
-    uint8_t kind, value;
-    uint16_t total, field;
-    done(frame_read(under_way[0].octets, under_way[0].count, SPACECRAFT, CHANNEL, &kind, &value, &total, &field), "frame");
+    uint8_t kind = under_way[0].kind;
     carry_up(under_way[0].octets, under_way[0].count);
     under_way[0] = under_way[1];
     under_way_count--;
@@ -249,23 +251,24 @@ static int radio(void) {
 
 static int direct(uint32_t number, uint32_t value) {
     uint8_t before = sender[PONDRESZI_SENDER_STATE];
-    done(sender_directive(sender, sizeof sender, number, value, store, sizeof store, output, sizeof output, answer, sizeof answer),
+    done(pondreszi_sender_directive(sender, sizeof sender, number, value, store, sizeof store, output, sizeof output, answer,
+                                    sizeof answer),
          "directive");
     return follow_answer(before);
 }
 
 static int request(void) {
     uint8_t before = sender[PONDRESZI_SENDER_STATE];
-    done(sender_request_ad(sender, sizeof sender, units[next], lengths[next], store, sizeof store, output, sizeof output, answer,
-                           sizeof answer),
+    done(pondreszi_sender_request_ad(sender, sizeof sender, units[next], lengths[next], store, sizeof store, output, sizeof output,
+                                     answer, sizeof answer),
          "request");
     return follow_answer(before);
 }
 
 static int take_word(const uint8_t word[PONDRESZI_CLCW_OCTETS]) {
     uint8_t before = sender[PONDRESZI_SENDER_STATE];
-    done(sender_control_word(sender, sizeof sender, word, PONDRESZI_CLCW_OCTETS, store, sizeof store, output, sizeof output, answer,
-                             sizeof answer),
+    done(pondreszi_sender_control_word(sender, sizeof sender, word, PONDRESZI_CLCW_OCTETS, store, sizeof store, output,
+                                       sizeof output, answer, sizeof answer),
          "control word");
     return follow_answer(before);
 }
@@ -273,7 +276,7 @@ static int take_word(const uint8_t word[PONDRESZI_CLCW_OCTETS]) {
 static int tick(void) {
     uint8_t before = sender[PONDRESZI_SENDER_STATE];
     ticks++;
-    done(sender_tick(sender, sizeof sender, store, sizeof store, output, sizeof output, answer, sizeof answer), "tick");
+    done(pondreszi_sender_tick(sender, sizeof sender, store, sizeof store, output, sizeof output, answer, sizeof answer), "tick");
     return follow_answer(before);
 }
 
@@ -292,7 +295,7 @@ static void recover(void) {
     }
     while (!carry_down(word)) {
     }
-    done(clcw_read(word, sizeof word, CHANNEL, &valid, &status, &rf, &flags, &counter, &report), "control word");
+    done(pondreszi_clcw_read(word, sizeof word, CHANNEL, &valid, &status, &rf, &flags, &counter, &report), "control word");
     accepted = (uint8_t)(report - oldest_number);
     if (!valid || accepted > next - oldest) {
         fail("the receiver reports a number that was not sent");
@@ -428,9 +431,9 @@ int main(int argc, char **argv) {
         fail("the received file cannot be written");
     }
 
-    done(receiver_new(SPACECRAFT, CHANNEL, WINDOW, FIRST_NUMBER, BUFFERS, receiver, sizeof receiver), "receiver");
-    done(sender_new(K, T1, TRANSMISSION_LIMIT, SPACECRAFT, CHANNEL, FIRST_NUMBER, FIRST_NUMBER, store, sizeof store, sender,
-                    sizeof sender),
+    done(pondreszi_receiver_new(SPACECRAFT, CHANNEL, WINDOW, FIRST_NUMBER, BUFFERS, receiver, sizeof receiver), "receiver");
+    done(pondreszi_sender_new(K, T1, TRANSMISSION_LIMIT, TIMEOUT_TYPE, SPACECRAFT, CHANNEL, FIRST_NUMBER, FIRST_NUMBER, store,
+                              sizeof store, sender, sizeof sender),
          "sender");
     direct(PONDRESZI_INITIATE_WITHOUT_CHECK, 0);
 

@@ -13,16 +13,19 @@
 //!   compare --program [RUNS] [--seed N] [--fault NAME]
 //!   compare --program --lines LINES [--seed N] [--fault NAME]
 //!   compare --program --faults
+//!   compare --program --independent < INPUT
 //!
 //! COUNT is the number of inputs, RUNS that of runs of the program, the fixed ones
 //! included, which are always compared; LINES is the length of one run, whose speed is
-//! told; EVENTS is the number of events of all runs. Exit status: 0 no difference; 1
+//! told; EVENTS is the number of events of all runs; INPUT is answered by the independent
+//! program alone, and nothing is compared. Exit status: 0 no difference; 1
 //! differences; 2 bad usage; 3 no difference, but no random input met a number, or a
 //! kind, that the operation can answer, or no run met something that FARM-1 or FOP-1 can
 //! come to; 4 the proved program can't be started, or does not end; 5 the library changed
 //! memory beside what it was lent. Where it touches a page beside what it was lent, the
 //! program ends by a fault of memory (src/lending.rs).
 
+mod call;
 mod cases;
 mod check;
 mod ends;
@@ -34,6 +37,7 @@ mod program;
 mod random;
 mod settings;
 
+use call::Part;
 use cases::OPERATIONS;
 use check::Tally;
 use ends::Mode;
@@ -57,6 +61,7 @@ fn main() -> ExitCode {
     let words: Vec<String> = std::env::args().skip(1).collect();
     if words == ["--faults"] {
         print_names(FAULTS.iter().map(|fault| fault.0));
+        print_names(call::names(Part::Operations));
         return ExitCode::from(0);
     }
     if words == ["--lending-faults"] {

@@ -7,7 +7,7 @@ use independent::frame::Content;
 use independent::table_7_8::Reason;
 
 pub const SENDER_STATE: usize = 88;
-pub const ANSWER: usize = 17;
+pub const ANSWER: usize = 18;
 pub const RECEIVER_STATE: usize = 12;
 
 const SENDER_MARK: u8 = 0x53;
@@ -21,8 +21,8 @@ pub const LENGTHS: usize = 22;
 const RESPONSES: usize = 4;
 
 /// Document 01, Limits.
-pub const SPACECRAFT_MOST: u16 = 1023;
-pub const CHANNEL_MOST: u8 = 63;
+pub const SPACECRAFT_MOST: u32 = 1023;
+pub const CHANNEL_MOST: u32 = 63;
 const BUFFERS_MOST: u8 = 8;
 
 /// A sender's variables, settings and queues.
@@ -67,7 +67,7 @@ impl SenderState {
             match frame.content {
                 Content::Ad { .. } => marks.push(frame.to_be_retransmitted),
                 Content::Unlock => control = (1, 0),
-                Content::SetVr { value } => control = (2, value),
+                Content::SetVr { value } => control = (2, value as u8),
                 Content::Bd { .. } => unreachable!("no copy of a type-BD frame is kept"),
             }
             control_marked |= frame.number().is_none() && frame.to_be_retransmitted;
@@ -79,8 +79,8 @@ impl SenderState {
             t1_initial: sender.t1_initial,
             transmission_limit: sender.transmission_limit,
             timeout_type: sender.timeout_type,
-            spacecraft: sender.spacecraft,
-            channel: sender.channel,
+            spacecraft: sender.spacecraft as u16,
+            channel: sender.channel as u8,
             v_s: sender.v_s,
             nn_r: sender.nn_r,
             timer: sender.timer,
@@ -145,8 +145,8 @@ impl SenderState {
             && self.t1_initial >= 1
             && self.transmission_limit >= 1
             && self.timeout_type == 0
-            && self.spacecraft <= SPACECRAFT_MOST
-            && self.channel <= CHANNEL_MOST
+            && u32::from(self.spacecraft) <= SPACECRAFT_MOST
+            && u32::from(self.channel) <= CHANNEL_MOST
     }
 
     /// No more units are sent than V(S) - NN(R), none in Initial.
@@ -228,17 +228,18 @@ pub fn answer(answer: &Answer) -> [u8; ANSWER] {
     octets[14] = answer.confirmed.count;
     octets[15] = answer.denied.first;
     octets[16] = answer.denied.count;
+    octets[17] = answer.kind;
     octets
 }
 
 /// The octets of a receiver's state.
-pub fn receiver_state(farm: &Farm1, spacecraft: u16, channel: u8) -> [u8; RECEIVER_STATE] {
+pub fn receiver_state(farm: &Farm1, spacecraft: u32, channel: u32) -> [u8; RECEIVER_STATE] {
     let state = match farm.state {
         farm1::State::Open => 1,
         farm1::State::Wait => 2,
         farm1::State::Lockout => 3,
     };
-    let [high, low] = spacecraft.to_be_bytes();
+    let [high, low] = (spacecraft as u16).to_be_bytes();
     let flags = 4 * farm.lockout_flag as u8 + 2 * farm.wait_flag as u8 + farm.retransmit_flag as u8;
     [
         RECEIVER_MARK,
@@ -246,7 +247,7 @@ pub fn receiver_state(farm: &Farm1, spacecraft: u16, channel: u8) -> [u8; RECEIV
         state,
         high,
         low,
-        channel,
+        channel as u8,
         farm.window,
         farm.buffers,
         farm.taken,
@@ -272,8 +273,8 @@ pub fn no_receiver_state(octets: &[u8]) -> bool {
     };
     let holds = octets[0] == RECEIVER_MARK
         && octets[1] == LAYOUT
-        && two(octets, 3) <= SPACECRAFT_MOST
-        && octets[5] <= CHANNEL_MOST
+        && u32::from(two(octets, 3)) <= SPACECRAFT_MOST
+        && u32::from(octets[5]) <= CHANNEL_MOST
         && (2..=254).contains(&window)
         && window % 2 == 0
         && (1..=BUFFERS_MOST).contains(&buffers)
@@ -302,6 +303,7 @@ mod tests {
             k: 2,
             t1_initial: 0x1234,
             transmission_limit: 5,
+            timeout_type: 0,
         };
         Sender::start(&settings, STORE).unwrap()
     }
@@ -336,16 +338,22 @@ mod tests {
         let mut sender = started();
         take(&mut sender, DIRECTIVE(1, 0));
         let sent = take(&mut sender, Event::AdRequest(vec![7; 3]));
-        assert_eq!(sent, [0, 19, 1, 0, 10, 0, 0, 0, 1, 1, 0, 0, 0, 0, 0, 0, 0]);
+        assert_eq!(
+            sent,
+            [0, 19, 1, 0, 10, 0, 0, 0, 1, 1, 0, 0, 0, 0, 0, 0, 0, 1]
+        );
         take(&mut sender, Event::AdRequest(vec![8; 249]));
         let sent = take(&mut sender, Event::AdAccept);
-        assert_eq!(sent, [0, 41, 1, 1, 0, 0, 0, 0, 1, 1, 0, 0, 0, 0, 0, 0, 0]);
+        assert_eq!(
+            sent,
+            [0, 41, 1, 1, 0, 0, 0, 0, 1, 1, 0, 0, 0, 0, 0, 0, 0, 1]
+        );
         take(&mut sender, Event::AdRequest(vec![9]));
         take(&mut sender, Event::AdAccept);
         let resent = take(&mut sender, Event::ControlWord(vec![1, 0x0C, 8, 255]));
         assert_eq!(
             resent,
-            [0, 10, 2, 0, 10, 1, 0, 0, 0, 0, 0, 0, 0, 0, 0, 0, 0]
+            [0, 10, 2, 0, 10, 1, 0, 0, 0, 0, 0, 0, 0, 0, 0, 0, 0, 1]
         );
         let octets = whole(&[
             0x53, 1, 2, 2, 0x12, 0x34, 5, 0, 0x02, 0xA5, 3, 1, 255, 0x12, 0x34, 2, 14, 0, 2, 1, 0,
@@ -363,7 +371,7 @@ mod tests {
         let ended = take(&mut sender, DIRECTIVE(5, 0));
         assert_eq!(
             ended,
-            [0, 29, 6, 0, 0, 0, 7, 0, 3, 5, 2, 7, 0, 0, 0, 255, 2]
+            [0, 29, 6, 0, 0, 0, 7, 0, 3, 5, 2, 7, 0, 0, 0, 255, 2, 0]
         );
     }
 
@@ -371,7 +379,10 @@ mod tests {
     fn state_with_a_command() {
         let mut sender = started();
         let sent = take(&mut sender, DIRECTIVE(4, 200));
-        assert_eq!(sent, [0, 27, 5, 0, 10, 0, 0, 0, 1, 5, 0, 0, 0, 0, 0, 0, 0]);
+        assert_eq!(
+            sent,
+            [0, 27, 5, 0, 10, 0, 0, 0, 1, 5, 0, 0, 0, 0, 0, 0, 0, 4]
+        );
         let mut octets = whole(&[
             0x53, 1, 5, 2, 0x12, 0x34, 5, 0, 0x02, 0xA5, 3, 200, 200, 0x12, 0x34, 1, 5, 0, 0, 0, 2,
             200,

@@ -1,6 +1,8 @@
 //! What the words of the command line ask for.
 
+use crate::call;
 use independent::fault::Fault;
+use std::fmt::Display;
 
 pub struct Settings {
     /// So many inputs, events or runs.
@@ -10,6 +12,7 @@ pub struct Settings {
 }
 
 /// Reads the words of a comparison that takes these faults; none where they are bad usage.
+/// A fault of a call (src/call.rs) is taken by every comparison, and made here.
 /// An option of this comparison alone is handed over with its value.
 pub fn read(
     words: &[String],
@@ -28,7 +31,10 @@ pub fn read(
             "--seed" => settings.seed = words.next()?.parse().ok()?,
             "--fault" => {
                 let name = words.next()?;
-                settings.fault = faults.iter().find(|fault| fault.0 == name)?.1;
+                match faults.iter().find(|fault| fault.0 == name) {
+                    Some(fault) => settings.fault = fault.1,
+                    None => call::make(name)?,
+                }
             }
             option if option.starts_with("--") => own_option(option, words.next()?)?,
             count => settings.count = count.parse().ok()?,
@@ -38,7 +44,7 @@ pub fn read(
 }
 
 /// Prints the names of faults, one to a line.
-pub fn print_names<'a>(names: impl IntoIterator<Item = &'a str>) {
+pub fn print_names<T: Display>(names: impl IntoIterator<Item = T>) {
     for name in names {
         println!("{name}");
     }

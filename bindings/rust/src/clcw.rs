@@ -1,5 +1,6 @@
 //! The control word, CLCW (clause 6.3).
 
+use crate::layout::{flag, rf as radio};
 use crate::library;
 use crate::refusal::judged;
 use crate::{Refused, CLCW_OCTETS};
@@ -46,13 +47,13 @@ pub fn write(word: &Clcw) -> Result<[u8; CLCW_OCTETS], Refused> {
     let mut output = [0; CLCW_OCTETS];
     let mut count = 0;
     let number = unsafe {
-        library::clcw_write(
-            word.channel,
-            u8::from(word.lockout),
-            u8::from(word.wait),
-            u8::from(word.retransmit),
-            word.counter,
-            word.report,
+        library::pondreszi_clcw_write(
+            word.channel.into(),
+            word.lockout.into(),
+            word.wait.into(),
+            word.retransmit.into(),
+            word.counter.into(),
+            word.report.into(),
             output.as_mut_ptr(),
             output.len(),
             &mut count,
@@ -77,10 +78,10 @@ pub fn write(word: &Clcw) -> Result<[u8; CLCW_OCTETS], Refused> {
 pub fn read(octets: &[u8], channel: u8) -> Result<Option<ReceivedWord>, Refused> {
     let (mut valid, mut status, mut rf, mut flags, mut counter, mut report) = (0, 0, 0, 0, 0, 0);
     let number = unsafe {
-        library::clcw_read(
+        library::pondreszi_clcw_read(
             octets.as_ptr(),
             octets.len(),
-            channel,
+            channel.into(),
             &mut valid,
             &mut status,
             &mut rf,
@@ -96,14 +97,14 @@ pub fn read(octets: &[u8], channel: u8) -> Result<Option<ReceivedWord>, Refused>
     Ok(Some(ReceivedWord {
         word: Clcw {
             channel,
-            lockout: flags & 4 != 0,
-            wait: flags & 2 != 0,
-            retransmit: flags & 1 != 0,
+            lockout: flags & flag::LOCKOUT != 0,
+            wait: flags & flag::WAIT != 0,
+            retransmit: flags & flag::RETRANSMIT != 0,
             counter,
             report,
         },
         status,
-        no_rf: rf & 2 != 0,
-        no_bit_lock: rf & 1 != 0,
+        no_rf: rf & radio::NO_RF != 0,
+        no_bit_lock: rf & radio::NO_BIT_LOCK != 0,
     }))
 }

@@ -2,10 +2,23 @@
 
 use crate::library;
 use crate::refusal::judged;
-use crate::{Refusal, Refused, LARGEST_CLTU, LARGEST_CLTU_INPUT};
+use crate::{
+    Refusal, Refused, CODEBLOCK_INFORMATION_OCTETS, CODEBLOCK_OCTETS, LARGEST_CLTU,
+    LARGEST_CLTU_INPUT, LARGEST_DECODED,
+};
 
-/// What the longest input decodes to: 510 codeblocks of seven octets.
-const LARGEST_DECODED: usize = 3570;
+/// The octets of the CLTU of a frame of so many octets: start sequence, codeblocks, tail.
+///
+/// ```
+/// use pondreszi::{cltu, LARGEST_CLTU, LARGEST_FRAME};
+/// assert_eq!(cltu::octets(LARGEST_FRAME), LARGEST_CLTU);
+/// ```
+pub const fn octets(frame: usize) -> usize {
+    START_OCTETS + CODEBLOCK_OCTETS * frame.div_ceil(CODEBLOCK_INFORMATION_OCTETS) + TAIL_OCTETS
+}
+
+const START_OCTETS: usize = 2;
+const TAIL_OCTETS: usize = 8;
 
 /// Writes the CLTU of a frame of 8 to 256 octets.
 ///
@@ -28,7 +41,7 @@ pub fn write(frame: &[u8]) -> Result<Vec<u8>, Refused> {
 pub fn write_into(frame: &[u8], output: &mut [u8]) -> Result<usize, Refused> {
     let mut count = 0;
     let number = unsafe {
-        library::cltu_write(
+        library::pondreszi_cltu_write(
             frame.as_ptr(),
             frame.len(),
             output.as_mut_ptr(),
@@ -103,7 +116,7 @@ pub fn read(input: &[u8]) -> Result<Decoded, Refused> {
 pub fn read_into(input: &[u8], output: &mut [u8]) -> Result<DecodedInto, Refused> {
     let (mut count, mut place, mut corrected) = (0, 0, 0);
     let number = unsafe {
-        library::cltu_read(
+        library::pondreszi_cltu_read(
             input.as_ptr(),
             input.len(),
             output.as_mut_ptr(),

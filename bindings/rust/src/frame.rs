@@ -4,11 +4,9 @@
 //! these functions are for units without them, and for tests.
 
 use crate::library;
+use crate::numbered::numbered;
 use crate::refusal::judged;
-use crate::{Refused, LARGEST_FRAME};
-
-/// The octets before the data field.
-const HEADER_OCTETS: usize = 5;
+use crate::{LowerLayer, Refused, FRAME_HEADER_OCTETS, LARGEST_FRAME};
 
 /// Writes a type-AD frame with its N(S).
 ///
@@ -19,10 +17,10 @@ const HEADER_OCTETS: usize = 5;
 /// ```
 pub fn write_ad(spacecraft: u16, channel: u8, number: u8, unit: &[u8]) -> Result<Vec<u8>, Refused> {
     written(|output, room, count| unsafe {
-        library::frame_write_ad(
-            spacecraft,
-            channel,
-            number,
+        library::pondreszi_frame_write_ad(
+            spacecraft.into(),
+            channel.into(),
+            number.into(),
             unit.as_ptr(),
             unit.len(),
             output,
@@ -43,9 +41,9 @@ pub fn write_ad(spacecraft: u16, channel: u8, number: u8, unit: &[u8]) -> Result
 /// ```
 pub fn write_bd(spacecraft: u16, channel: u8, unit: &[u8]) -> Result<Vec<u8>, Refused> {
     written(|output, room, count| unsafe {
-        library::frame_write_bd(
-            spacecraft,
-            channel,
+        library::pondreszi_frame_write_bd(
+            spacecraft.into(),
+            channel.into(),
             unit.as_ptr(),
             unit.len(),
             output,
@@ -64,7 +62,13 @@ pub fn write_bd(spacecraft: u16, channel: u8, unit: &[u8]) -> Result<Vec<u8>, Re
 /// ```
 pub fn write_unlock(spacecraft: u16, channel: u8) -> Result<Vec<u8>, Refused> {
     written(|output, room, count| unsafe {
-        library::frame_write_unlock(spacecraft, channel, output, room, count)
+        library::pondreszi_frame_write_unlock(
+            spacecraft.into(),
+            channel.into(),
+            output,
+            room,
+            count,
+        )
     })
 }
 
@@ -77,7 +81,14 @@ pub fn write_unlock(spacecraft: u16, channel: u8) -> Result<Vec<u8>, Refused> {
 /// ```
 pub fn write_set_vr(spacecraft: u16, channel: u8, value: u8) -> Result<Vec<u8>, Refused> {
     written(|output, room, count| unsafe {
-        library::frame_write_set_vr(spacecraft, channel, value, output, room, count)
+        library::pondreszi_frame_write_set_vr(
+            spacecraft.into(),
+            channel.into(),
+            value.into(),
+            output,
+            room,
+            count,
+        )
     })
 }
 
@@ -89,23 +100,44 @@ fn written(write: impl FnOnce(*mut u8, usize, *mut u64) -> u8) -> Result<Vec<u8>
     Ok(output[..count as usize].to_vec())
 }
 
-/// The type of a frame, and what its header or its command carries.
-#[derive(Clone, Copy, PartialEq, Eq, Debug)]
-pub enum Kind {
-    /// A unit in sequence, with its N(S).
-    Ad {
-        /// N(S).
-        number: u8,
-    },
-    /// A unit out of sequence.
-    Bd,
-    /// The command Unlock.
-    Unlock,
-    /// The command Set V(R), with its value.
-    SetVr {
-        /// V(R) is to become this.
-        value: u8,
-    },
+numbered! {
+    /// The type of a frame, and of a type-BC frame its command.
+    Kind {
+        /// A unit in sequence.
+        Ad = 1,
+        /// A unit out of sequence.
+        Bd = 2,
+        /// The command Unlock.
+        Unlock = 3,
+        /// The command Set V(R).
+        SetVr = 4,
+    }
+}
+
+impl Kind {
+    /// What the lower layer says when it takes a frame of this kind.
+    ///
+    /// ```
+    /// use pondreszi::frame::Kind;
+    /// use pondreszi::LowerLayer;
+    /// assert_eq!(Kind::Unlock.accept(), LowerLayer::BcAccept);
+    /// ```
+    pub fn accept(self) -> LowerLayer {
+        match self {
+            Kind::Ad => LowerLayer::AdAccept,
+            Kind::Bd => LowerLayer::BdAccept,
+            Kind::Unlock | Kind::SetVr => LowerLayer::BcAccept,
+        }
+    }
+
+    /// What the lower layer says when it does not.
+    pub fn reject(self) -> LowerLayer {
+        match self {
+            Kind::Ad => LowerLayer::AdReject,
+            Kind::Bd => LowerLayer::BdReject,
+            Kind::Unlock | Kind::SetVr => LowerLayer::BcReject,
+        }
+    }
 }
 
 /// A frame that was read.
@@ -113,6 +145,8 @@ pub enum Kind {
 pub struct Frame<'a> {
     /// Its type.
     pub kind: Kind,
+    /// N(S) of an AD frame, the value of Set V(R), otherwise 0.
+    pub value: u8,
     /// Its octets, header and FECF included, fill not.
     pub total: usize,
     /// Its data field, a part of the caller's octets.
@@ -127,7 +161,7 @@ pub struct Frame<'a> {
 ///
 /// let mut octets = frame::write_ad(42, 3, 17, b"unit")?;
 /// let read = frame::read(&octets, 42, 3)?;
-/// assert_eq!(read.kind, Kind::Ad { number: 17 });
+/// assert_eq!((read.kind, read.value), (Kind::Ad, 17));
 /// assert_eq!(read.data, b"unit");
 /// assert_eq!(frame::read(&octets, 42, 4).unwrap_err().refusal, Refusal::Address);
 /// octets[5] ^= 1;
@@ -137,11 +171,11 @@ pub struct Frame<'a> {
 pub fn read(octets: &[u8], spacecraft: u16, channel: u8) -> Result<Frame<'_>, Refused> {
     let (mut kind, mut value, mut total, mut field) = (0, 0, 0, 0);
     let number = unsafe {
-        library::frame_read(
+        library::pondreszi_frame_read(
             octets.as_ptr(),
             octets.len(),
-            spacecraft,
-            channel,
+            spacecraft.into(),
+            channel.into(),
             &mut kind,
             &mut value,
             &mut total,
@@ -149,16 +183,10 @@ pub fn read(octets: &[u8], spacecraft: u16, channel: u8) -> Result<Frame<'_>, Re
         )
     };
     judged(number)?;
-    let kind = match kind {
-        0 => Kind::Ad { number: value },
-        1 => Kind::Bd,
-        2 => Kind::Unlock,
-        3 => Kind::SetVr { value },
-        _ => unreachable!("the library tells kinds 0 to 3"),
-    };
     Ok(Frame {
-        kind,
+        kind: Kind::from_number(kind).expect("a frame has a kind"),
+        value,
         total: usize::from(total),
-        data: &octets[HEADER_OCTETS..][..usize::from(field)],
+        data: &octets[FRAME_HEADER_OCTETS..][..usize::from(field)],
     })
 }

@@ -16,17 +16,17 @@ pub type SenderEventWithOctets = unsafe extern "C" fn(
 
 #[link(name = "boundary", kind = "static")]
 extern "C" {
-    pub fn codeblock_error_control(information: *const u8, information_len: usize) -> u8;
-    pub fn codeblock_is_good(block: *const u8, block_len: usize) -> u8;
-    pub fn randomizer_octet(place: u64) -> u8;
-    pub fn cltu_write(
+    pub fn pondreszi_codeblock_error_control(information: *const u8, information_len: usize) -> u8;
+    pub fn pondreszi_codeblock_is_good(block: *const u8, block_len: usize) -> u8;
+    pub fn pondreszi_randomizer_octet(place: u64) -> u8;
+    pub fn pondreszi_cltu_write(
         frame: *const u8,
         frame_len: usize,
         output: *mut u8,
         output_len: usize,
         count: *mut u64,
     ) -> u8;
-    pub fn cltu_read(
+    pub fn pondreszi_cltu_read(
         input: *const u8,
         input_len: usize,
         output: *mut u8,
@@ -36,67 +36,67 @@ extern "C" {
         corrected: *mut u64,
     ) -> u8;
 
-    pub fn fecf(message: *const u8, len: usize) -> u16;
-    pub fn frame_write_ad(
-        spacecraft: u16,
-        channel: u8,
-        number: u8,
+    pub fn pondreszi_fecf(message: *const u8, len: usize) -> u16;
+    pub fn pondreszi_frame_write_ad(
+        spacecraft: u32,
+        channel: u32,
+        number: u32,
         unit: *const u8,
         unit_len: usize,
         output: *mut u8,
         output_len: usize,
         count: *mut u64,
     ) -> u8;
-    pub fn frame_write_bd(
-        spacecraft: u16,
-        channel: u8,
+    pub fn pondreszi_frame_write_bd(
+        spacecraft: u32,
+        channel: u32,
         unit: *const u8,
         unit_len: usize,
         output: *mut u8,
         output_len: usize,
         count: *mut u64,
     ) -> u8;
-    pub fn frame_write_unlock(
-        spacecraft: u16,
-        channel: u8,
+    pub fn pondreszi_frame_write_unlock(
+        spacecraft: u32,
+        channel: u32,
         output: *mut u8,
         output_len: usize,
         count: *mut u64,
     ) -> u8;
-    pub fn frame_write_set_vr(
-        spacecraft: u16,
-        channel: u8,
-        value: u8,
+    pub fn pondreszi_frame_write_set_vr(
+        spacecraft: u32,
+        channel: u32,
+        value: u32,
         output: *mut u8,
         output_len: usize,
         count: *mut u64,
     ) -> u8;
-    pub fn frame_read(
+    pub fn pondreszi_frame_read(
         octets: *const u8,
         len: usize,
-        spacecraft: u16,
-        channel: u8,
+        spacecraft: u32,
+        channel: u32,
         kind: *mut u8,
         value: *mut u8,
         total: *mut u16,
         field: *mut u16,
     ) -> u8;
 
-    pub fn clcw_write(
-        channel: u8,
-        lockout: u8,
-        wait: u8,
-        retransmit: u8,
-        counter: u8,
-        report: u8,
+    pub fn pondreszi_clcw_write(
+        channel: u32,
+        lockout: u32,
+        wait: u32,
+        retransmit: u32,
+        counter: u32,
+        report: u32,
         output: *mut u8,
         output_len: usize,
         count: *mut u64,
     ) -> u8;
-    pub fn clcw_read(
+    pub fn pondreszi_clcw_read(
         octets: *const u8,
         len: usize,
-        channel: u8,
+        channel: u32,
         valid: *mut u8,
         status: *mut u8,
         rf: *mut u8,
@@ -105,16 +105,16 @@ extern "C" {
         report: *mut u8,
     ) -> u8;
 
-    pub fn receiver_new(
-        spacecraft: u16,
-        channel: u8,
-        window: u8,
-        vr: u8,
-        buffers: u8,
+    pub fn pondreszi_receiver_new(
+        spacecraft: u32,
+        channel: u32,
+        window: u32,
+        vr: u32,
+        buffers: u32,
         state: *mut u8,
         state_len: usize,
     ) -> u8;
-    pub fn receiver_frame(
+    pub fn pondreszi_receiver_frame(
         state: *mut u8,
         state_len: usize,
         frame: *const u8,
@@ -124,8 +124,8 @@ extern "C" {
         first: *mut u64,
         count: *mut u64,
     ) -> u8;
-    pub fn receiver_release(state: *mut u8, state_len: usize, event: *mut u8) -> u8;
-    pub fn receiver_word(
+    pub fn pondreszi_receiver_release(state: *mut u8, state_len: usize, event: *mut u8) -> u8;
+    pub fn pondreszi_receiver_word(
         state: *const u8,
         state_len: usize,
         output: *mut u8,
@@ -133,20 +133,21 @@ extern "C" {
         count: *mut u64,
     ) -> u8;
 
-    pub fn sender_new(
-        k: u8,
-        t1_initial: u16,
-        transmission_limit: u8,
-        spacecraft: u16,
-        channel: u8,
-        vs: u8,
-        nnr: u8,
+    pub fn pondreszi_sender_new(
+        k: u32,
+        t1_initial: u32,
+        transmission_limit: u32,
+        timeout_type: u32,
+        spacecraft: u32,
+        channel: u32,
+        vs: u32,
+        nnr: u32,
         store: *const u8,
         store_len: usize,
         state: *mut u8,
         state_len: usize,
     ) -> u8;
-    pub fn sender_request_ad(
+    pub fn pondreszi_sender_request_ad(
         state: *mut u8,
         state_len: usize,
         unit: *const u8,
@@ -158,7 +159,7 @@ extern "C" {
         answer: *mut u8,
         answer_len: usize,
     ) -> u8;
-    pub fn sender_request_bd(
+    pub fn pondreszi_sender_request_bd(
         state: *mut u8,
         state_len: usize,
         unit: *const u8,
@@ -170,7 +171,7 @@ extern "C" {
         answer: *mut u8,
         answer_len: usize,
     ) -> u8;
-    pub fn sender_directive(
+    pub fn pondreszi_sender_directive(
         state: *mut u8,
         state_len: usize,
         number: u32,
@@ -182,7 +183,7 @@ extern "C" {
         answer: *mut u8,
         answer_len: usize,
     ) -> u8;
-    pub fn sender_tick(
+    pub fn pondreszi_sender_tick(
         state: *mut u8,
         state_len: usize,
         store: *mut u8,
@@ -192,10 +193,10 @@ extern "C" {
         answer: *mut u8,
         answer_len: usize,
     ) -> u8;
-    pub fn sender_lower_layer(
+    pub fn pondreszi_sender_lower_layer(
         state: *mut u8,
         state_len: usize,
-        number: u8,
+        number: u32,
         store: *mut u8,
         store_len: usize,
         output: *mut u8,
@@ -203,7 +204,7 @@ extern "C" {
         answer: *mut u8,
         answer_len: usize,
     ) -> u8;
-    pub fn sender_control_word(
+    pub fn pondreszi_sender_control_word(
         state: *mut u8,
         state_len: usize,
         word: *const u8,

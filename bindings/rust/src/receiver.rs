@@ -1,11 +1,9 @@
+use crate::layout::receiver::{STATE, TAKEN, VR};
+use crate::layout::NONE;
 use crate::library;
+use crate::numbered::numbered;
 use crate::refusal::judged;
 use crate::{Refused, CLCW_OCTETS, RECEIVER_STATE_OCTETS};
-
-/// Where the parts of a state stand.
-const STATE: usize = 2;
-const TAKEN: usize = 8;
-const VR: usize = 9;
 
 /// What a receiver starts with.
 #[derive(Clone, Copy, PartialEq, Eq, Debug)]
@@ -22,36 +20,42 @@ pub struct ReceiverSettings {
     pub buffers: u8,
 }
 
-/// The states of table 7-9.
-#[derive(Clone, Copy, PartialEq, Eq, Debug)]
-pub enum ReceiverState {
-    /// S1.
-    Open,
-    /// S2: all buffers are taken, and a frame had to be left.
-    Wait,
-    /// S3: a frame far from the expected number came; only Unlock opens.
-    Lockout,
+numbered! {
+    /// The states of table 7-9.
+    ReceiverState {
+        /// S1.
+        Open = 1,
+        /// S2: all buffers are taken, and a frame had to be left.
+        Wait = 2,
+        /// S3: a frame far from the expected number came; only Unlock opens.
+        Lockout = 3,
+    }
 }
 
-/// The events of table 7-9 of a frame that is not refused.
-#[derive(Clone, Copy, PartialEq, Eq, Debug)]
-pub enum ReceiverEvent {
-    /// AD frame, the expected one, with a free buffer: accepted in Open.
-    E1,
-    /// AD frame, the expected one, no free buffer.
-    E2,
-    /// AD frame ahead of the expected one: one was lost.
-    E3,
-    /// AD frame behind the expected one: it came before.
-    E4,
-    /// AD frame outside both windows: lockout.
-    E5,
-    /// BD frame: accepted in every state.
-    E6,
-    /// Unlock.
-    E7,
-    /// Set V(R).
-    E8,
+numbered! {
+    /// The events of table 7-9.
+    ReceiverEvent {
+        /// AD frame, the expected one, with a free buffer: accepted in Open.
+        E1 = 1,
+        /// AD frame, the expected one, no free buffer.
+        E2 = 2,
+        /// AD frame ahead of the expected one: one was lost.
+        E3 = 3,
+        /// AD frame behind the expected one: it came before.
+        E4 = 4,
+        /// AD frame outside both windows: lockout.
+        E5 = 5,
+        /// BD frame: accepted in every state.
+        E6 = 6,
+        /// Unlock.
+        E7 = 7,
+        /// Set V(R).
+        E8 = 8,
+        /// A frame that is refused: left. [`Receiver::frame`] tells its refusal.
+        E9 = 9,
+        /// A buffer was released. [`Receiver::release`] tells it by `Ok`.
+        E10 = 10,
+    }
 }
 
 /// A unit that was accepted, a part of the caller's frame.
@@ -61,6 +65,13 @@ pub enum Unit<'a> {
     Ad(&'a [u8]),
     /// One out of sequence, with a buffer of its own that the next overwrites.
     Bd(&'a [u8]),
+}
+
+impl Unit<'_> {
+    /// The number that the library has for an AD unit.
+    pub const AD: u8 = 1;
+    /// The number that the library has for a BD unit.
+    pub const BD: u8 = 2;
 }
 
 /// What a frame did.
@@ -97,12 +108,12 @@ impl Receiver {
     pub fn new(settings: ReceiverSettings) -> Result<Receiver, Refused> {
         let mut state = [0; RECEIVER_STATE_OCTETS];
         let number = unsafe {
-            library::receiver_new(
-                settings.spacecraft,
-                settings.channel,
-                settings.window,
-                settings.vr,
-                settings.buffers,
+            library::pondreszi_receiver_new(
+                settings.spacecraft.into(),
+                settings.channel.into(),
+                settings.window.into(),
+                settings.vr.into(),
+                settings.buffers.into(),
                 state.as_mut_ptr(),
                 state.len(),
             )
@@ -160,7 +171,7 @@ impl Receiver {
     pub fn frame<'a>(&mut self, frame: &'a [u8]) -> Result<Received<'a>, Refused> {
         let (mut event, mut unit, mut first, mut count) = (0, 0, 0, 0);
         let number = unsafe {
-            library::receiver_frame(
+            library::pondreszi_receiver_frame(
                 self.state.as_mut_ptr(),
                 self.state.len(),
                 frame.as_ptr(),
@@ -172,23 +183,13 @@ impl Receiver {
             )
         };
         judged(number)?;
-        let event = match event {
-            1 => ReceiverEvent::E1,
-            2 => ReceiverEvent::E2,
-            3 => ReceiverEvent::E3,
-            4 => ReceiverEvent::E4,
-            5 => ReceiverEvent::E5,
-            6 => ReceiverEvent::E6,
-            7 => ReceiverEvent::E7,
-            8 => ReceiverEvent::E8,
-            _ => unreachable!("a frame that is not refused is E1 to E8"),
-        };
+        let event = ReceiverEvent::from_number(event).expect("a frame is an event");
         let part = &frame[first as usize..][..count as usize];
         let unit = match unit {
-            0 => None,
-            1 => Some(Unit::Ad(part)),
-            2 => Some(Unit::Bd(part)),
-            _ => unreachable!("the library tells units 0 to 2"),
+            NONE => None,
+            Unit::AD => Some(Unit::Ad(part)),
+            Unit::BD => Some(Unit::Bd(part)),
+            _ => unreachable!("the library tells none, AD or BD"),
         };
         Ok(Received { event, unit })
     }
@@ -210,7 +211,11 @@ impl Receiver {
     pub fn release(&mut self) -> Result<(), Refused> {
         let mut event = 0;
         let number = unsafe {
-            library::receiver_release(self.state.as_mut_ptr(), self.state.len(), &mut event)
+            library::pondreszi_receiver_release(
+                self.state.as_mut_ptr(),
+                self.state.len(),
+                &mut event,
+            )
         };
         judged(number)?;
         Ok(())
@@ -233,11 +238,7 @@ impl Receiver {
 
     /// The state of table 7-9.
     pub fn state(&self) -> ReceiverState {
-        match self.state[STATE] {
-            1 => ReceiverState::Open,
-            2 => ReceiverState::Wait,
-            _ => ReceiverState::Lockout,
-        }
+        ReceiverState::from_number(self.state[STATE]).expect("a receiver has a state")
     }
 
     /// V(R), the number expected next.
@@ -255,7 +256,7 @@ fn written_word(state: &[u8]) -> Result<[u8; CLCW_OCTETS], Refused> {
     let mut output = [0; CLCW_OCTETS];
     let mut count = 0;
     let number = unsafe {
-        library::receiver_word(
+        library::pondreszi_receiver_word(
             state.as_ptr(),
             state.len(),
             output.as_mut_ptr(),

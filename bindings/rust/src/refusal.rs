@@ -1,77 +1,49 @@
 use std::error::Error;
 use std::fmt;
 
-/// Document 01's refusals, by their names and numbers.
-#[derive(Clone, Copy, PartialEq, Eq, Hash, Debug)]
-#[repr(u8)]
-pub enum Refusal {
-    /// No start sequence in the input.
-    NoStart = 1,
-    /// The first codeblock is bad.
-    NoBlock = 2,
-    /// The input ends before a bad codeblock.
-    NoEnd = 3,
-    /// Frame below 8 octets, or fewer lent than its header says.
-    Short = 4,
-    /// More than 6 octets after the frame.
-    Fill = 5,
-    /// Version or spare not zero, or type (0,1).
-    Header = 6,
-    /// Spacecraft or virtual channel is not ours, of a frame or a control word.
-    Address = 7,
-    /// The FECF differs.
-    Check = 8,
-    /// BC data is neither command.
-    Command = 9,
-    /// Empty unit, a length outside its limits, or a control word not of four octets.
-    Length = 10,
-    /// A lent buffer is shorter than the need.
-    Room = 11,
-    /// A value outside its limit, an unknown directive, or octets that are no state.
-    Setting = 12,
-    /// A buffer release when none is taken.
-    Release = 13,
-}
+use crate::layout::NONE;
+use crate::numbered::numbered;
 
-impl Refusal {
-    /// All refusals in the order of their numbers.
-    pub const ALL: [Refusal; 13] = [
-        Refusal::NoStart,
-        Refusal::NoBlock,
-        Refusal::NoEnd,
-        Refusal::Short,
-        Refusal::Fill,
-        Refusal::Header,
-        Refusal::Address,
-        Refusal::Check,
-        Refusal::Command,
-        Refusal::Length,
-        Refusal::Room,
-        Refusal::Setting,
-        Refusal::Release,
-    ];
-
-    /// Document 01's number.
-    ///
-    /// ```
-    /// assert_eq!(pondreszi::Refusal::Check.number(), 8);
-    /// ```
-    pub fn number(self) -> u8 {
-        self as u8
-    }
-
-    /// The refusal of a number; none for 0, which is done, and for numbers beyond 13.
+numbered! {
+    /// Document 01's refusals, by their names and numbers.
     ///
     /// ```
     /// use pondreszi::Refusal;
+    /// assert_eq!(Refusal::Check.number(), 8);
     /// assert_eq!(Refusal::from_number(8), Some(Refusal::Check));
     /// assert_eq!(Refusal::from_number(0), None);
     /// ```
-    pub fn from_number(number: u8) -> Option<Refusal> {
-        let place = usize::from(number).checked_sub(1)?;
-        Refusal::ALL.get(place).copied()
+    Refusal {
+        /// No start sequence in the input.
+        NoStart = 1,
+        /// The first codeblock is bad.
+        NoBlock = 2,
+        /// The input ends before a bad codeblock.
+        NoEnd = 3,
+        /// Frame below 8 octets, or fewer lent than its header says.
+        Short = 4,
+        /// More than 6 octets after the frame.
+        Fill = 5,
+        /// Version or spare not zero, or type (0,1).
+        Header = 6,
+        /// Spacecraft or virtual channel is not ours, of a frame or a control word.
+        Address = 7,
+        /// The FECF differs.
+        Check = 8,
+        /// BC data is neither command.
+        Command = 9,
+        /// Empty unit, a length outside its limits, or a control word not of four octets.
+        Length = 10,
+        /// A lent buffer is shorter than the need.
+        Room = 11,
+        /// A value outside its limit, an unknown directive, or octets that are no state.
+        Setting = 12,
+        /// A buffer release when none is taken.
+        Release = 13,
     }
+}
 
+impl Refusal {
     /// Document 01's name.
     pub fn name(self) -> &'static str {
         match self {
@@ -137,7 +109,7 @@ impl From<Refusal> for Refused {
 
 /// What a function of the library returned: done, or a refusal.
 pub(crate) fn judged(number: u8) -> Result<(), Refusal> {
-    if number == 0 {
+    if number == NONE {
         return Ok(());
     }
     Err(Refusal::from_number(number).expect("the library returns 0 to 13"))

@@ -1,32 +1,15 @@
 use std::error::Error;
 use std::fmt;
 
+use crate::frame::Kind;
+use crate::layout::answer;
+use crate::layout::sender::{FLAGS, MARKED, NNR, SENT, STATE, TIMER, VS};
+use crate::layout::sender_flag::UNIT_WAITS;
+use crate::layout::NONE;
 use crate::library;
+use crate::numbered::numbered;
 use crate::refusal::judged;
-use crate::{Refusal, Refused, LARGEST_FRAME, SENDER_STATE_OCTETS, STORE_OCTETS};
-
-/// Where the parts of a state stand.
-const STATE: usize = 2;
-const VS: usize = 11;
-const NNR: usize = 12;
-const TIMER: usize = 13;
-const FLAGS: usize = 16;
-const SENT: usize = 18;
-const MARKED: usize = 19;
-
-/// The flag of a unit that waits.
-const UNIT_WAITS: u8 = 8;
-
-/// The octets of an answer, and where its parts stand; its state too is octet 2.
-const ANSWER_OCTETS: usize = 17;
-const EVENT: usize = 1;
-const FRAME: usize = 3;
-const ABORT: usize = 5;
-const ALERT: usize = 6;
-const RESPONSES: usize = 8;
-const FIRST_RESPONSE: usize = 9;
-const CONFIRMED: usize = 13;
-const DENIED: usize = 15;
+use crate::{Refusal, Refused, ANSWER_OCTETS, LARGEST_FRAME, SENDER_STATE_OCTETS, STORE_OCTETS};
 
 /// What a sender starts with.
 #[derive(Clone, Copy, PartialEq, Eq, Debug)]
@@ -37,6 +20,8 @@ pub struct SenderSettings {
     pub t1_initial: u16,
     /// Transmission_Limit, at least 1.
     pub transmission_limit: u8,
+    /// Timeout_Type, 0 only for now.
+    pub timeout_type: u8,
     /// The spacecraft, 0 to 1,023.
     pub spacecraft: u16,
     /// The virtual channel, 0 to 63.
@@ -47,34 +32,21 @@ pub struct SenderSettings {
     pub nnr: u8,
 }
 
-/// The states of table 7-8.
-#[derive(Clone, Copy, PartialEq, Eq, Debug)]
-pub enum SenderState {
-    /// S1.
-    Active,
-    /// S2.
-    RetransmitWithoutWait,
-    /// S3.
-    RetransmitWithWait,
-    /// S4: a control word is awaited.
-    InitialisingWithoutBc,
-    /// S5: Unlock or Set V(R) was sent.
-    InitialisingWithBc,
-    /// S6: no AD service; after a start, an alert or Terminate.
-    Initial,
-}
-
-impl SenderState {
-    fn from_number(number: u8) -> SenderState {
-        match number {
-            1 => SenderState::Active,
-            2 => SenderState::RetransmitWithoutWait,
-            3 => SenderState::RetransmitWithWait,
-            4 => SenderState::InitialisingWithoutBc,
-            5 => SenderState::InitialisingWithBc,
-            // 6, or 0 in an answer that is not written.
-            _ => SenderState::Initial,
-        }
+numbered! {
+    /// The states of table 7-8.
+    SenderState {
+        /// S1.
+        Active = 1,
+        /// S2.
+        RetransmitWithoutWait = 2,
+        /// S3.
+        RetransmitWithWait = 3,
+        /// S4: a control word is awaited.
+        InitialisingWithoutBc = 4,
+        /// S5: Unlock or Set V(R) was sent.
+        InitialisingWithBc = 5,
+        /// S6: no AD service; after a start, an alert or Terminate.
+        Initial = 6,
     }
 }
 
@@ -124,99 +96,68 @@ impl Directive {
     }
 }
 
-/// What the lower layer says to a frame handed down. Until its accept, no further frame of
-/// that type comes.
-#[derive(Clone, Copy, PartialEq, Eq, Debug)]
-#[repr(u8)]
-pub enum LowerLayer {
-    /// It took the AD frame.
-    AdAccept = 1,
-    /// It did not: alert LLIF.
-    AdReject = 2,
-    /// It took the BC frame.
-    BcAccept = 3,
-    /// It did not: alert LLIF.
-    BcReject = 4,
-    /// It took the BD frame.
-    BdAccept = 5,
-    /// It did not: alert LLIF.
-    BdReject = 6,
-}
-
-/// The responses of table 7-8 to requests and directives. What becomes of an AD unit later
-/// is told by the runs.
-#[derive(Clone, Copy, PartialEq, Eq, Debug)]
-pub enum Response {
-    /// The AD unit got its number and was handed down.
-    AcceptAd,
-    /// The AD unit was not taken, or was waiting and is dropped.
-    RejectAd,
-    /// The lower layer took the BD frame.
-    AcceptBd,
-    /// BD_Out_Flag is Not_Ready.
-    RejectBd,
-    /// The directive is begun.
-    AcceptDirective,
-    /// The directive is not for this state, or invalid.
-    RejectDirective,
-    /// The directive is done: positive confirm.
-    ConfirmDirective,
-    /// The directive failed: negative confirm.
-    DenyDirective,
-}
-
-impl Response {
-    fn from_number(number: u8) -> Response {
-        match number {
-            1 => Response::AcceptAd,
-            2 => Response::RejectAd,
-            3 => Response::AcceptBd,
-            4 => Response::RejectBd,
-            5 => Response::AcceptDirective,
-            6 => Response::RejectDirective,
-            7 => Response::ConfirmDirective,
-            8 => Response::DenyDirective,
-            _ => unreachable!("the library tells responses 1 to 8"),
-        }
+numbered! {
+    /// What the lower layer says to a frame handed down. Until its accept, no further frame of
+    /// that type comes.
+    LowerLayer {
+        /// It took the AD frame.
+        AdAccept = 1,
+        /// It did not: alert LLIF.
+        AdReject = 2,
+        /// It took the BC frame.
+        BcAccept = 3,
+        /// It did not: alert LLIF.
+        BcReject = 4,
+        /// It took the BD frame.
+        BdAccept = 5,
+        /// It did not: alert LLIF.
+        BdReject = 6,
     }
 }
 
-/// Why the AD service ended (table 7-4). The units outstanding are denied, a unit that waits
-/// is rejected, the timer stops, and the sender is Initial.
-#[derive(Clone, Copy, PartialEq, Eq, Debug)]
-pub enum Alert {
-    /// Report value and flags contradict the state.
-    Synch,
-    /// An invalid control word, or flags that cannot stand together.
-    Clcw,
-    /// At a transmission limit of 1, a control word asked for retransmission.
-    Limit,
-    /// NN(R): a report value that cannot be.
-    Nnr,
-    /// The receiver is locked out.
-    Lockout,
-    /// The timer expired at the transmission limit, or while a control word was awaited.
-    T1,
-    /// Terminate was asked.
-    Term,
-    /// The lower layer rejected a frame.
-    Llif,
+numbered! {
+    /// The responses of table 7-8 to requests and directives. What becomes of an AD unit later
+    /// is told by the runs.
+    Response {
+        /// The AD unit got its number and was handed down.
+        AcceptAd = 1,
+        /// The AD unit was not taken, or was waiting and is dropped.
+        RejectAd = 2,
+        /// The lower layer took the BD frame.
+        AcceptBd = 3,
+        /// BD_Out_Flag is Not_Ready.
+        RejectBd = 4,
+        /// The directive is begun.
+        AcceptDirective = 5,
+        /// The directive is not for this state, or invalid.
+        RejectDirective = 6,
+        /// The directive is done: positive confirm.
+        ConfirmDirective = 7,
+        /// The directive failed: negative confirm.
+        DenyDirective = 8,
+    }
 }
 
-impl Alert {
-    fn from_number(number: u8) -> Option<Alert> {
-        match number {
-            0 => None,
-            1 => Some(Alert::Synch),
-            2 => Some(Alert::Clcw),
-            3 => Some(Alert::Limit),
-            4 => Some(Alert::Nnr),
-            5 => Some(Alert::Lockout),
-            6 => Some(Alert::T1),
-            7 => Some(Alert::Term),
-            8 => Some(Alert::Llif),
-            _ => unreachable!("the library tells alerts 0 to 8"),
-        }
+numbered! {
+    /// Why the AD service ended (table 7-4). The units outstanding are denied, a unit that waits
+    /// is rejected, the timer stops, and the sender is Initial.
+    Alert {
+        /// Report value and flags contradict the state.
+        Synch = 1,
+        /// An invalid control word, or flags that cannot stand together.
+        Clcw = 2,
+        /// At a transmission limit of 1, a control word asked for retransmission.
+        Limit = 3,
+        /// NN(R): a report value that cannot be.
+        Nnr = 4,
+        /// The receiver is locked out.
+        Lockout = 5,
+        /// The timer expired at the transmission limit, or while a control word was awaited.
+        T1 = 6,
+        /// Terminate was asked.
+        Term = 7,
+        /// The lower layer rejected a frame.
+        Llif = 8,
     }
 }
 
@@ -241,6 +182,15 @@ impl Run {
     }
 }
 
+/// A frame that is handed down to the lower layer.
+#[derive(Clone, PartialEq, Eq, Debug)]
+pub struct HandedDown {
+    /// Its kind, which tells the accept or reject that answers it ([`Kind::accept`]).
+    pub kind: Kind,
+    /// Its octets.
+    pub octets: Vec<u8>,
+}
+
 /// The answer to an event.
 #[derive(Clone, PartialEq, Eq, Debug)]
 pub struct Answer {
@@ -249,7 +199,7 @@ pub struct Answer {
     /// The next state.
     pub state: SenderState,
     /// The frame handed down, if any.
-    pub frame: Option<Vec<u8>>,
+    pub frame: Option<HandedDown>,
     /// The lower layer is to drop AD and BC frames that it still holds.
     pub abort: bool,
     /// The responses in their order.
@@ -264,25 +214,38 @@ pub struct Answer {
 
 impl Answer {
     fn of(octets: &[u8; ANSWER_OCTETS], output: &[u8]) -> Answer {
-        let down = usize::from(u16::from_be_bytes([octets[FRAME], octets[FRAME + 1]]));
-        let responses = &octets[FIRST_RESPONSE..][..usize::from(octets[RESPONSES])];
+        let down = [octets[answer::FRAME], octets[answer::FRAME + 1]];
+        let down = usize::from(u16::from_be_bytes(down));
+        let count = usize::from(octets[answer::RESPONSES]);
+        let responses = octets[answer::FIRST_RESPONSE..][..count].iter();
+        let response = |number: &u8| Response::from_number(*number).expect("a response");
         Answer {
-            event: octets[EVENT],
-            state: SenderState::from_number(octets[STATE]),
-            frame: (down > 0).then(|| output[..down].to_vec()),
-            abort: octets[ABORT] != 0,
-            responses: responses
-                .iter()
-                .map(|r| Response::from_number(*r))
-                .collect(),
-            alert: Alert::from_number(octets[ALERT]),
+            event: octets[answer::EVENT],
+            state: match octets[answer::STATE] {
+                // In an answer that is not written.
+                NONE => SenderState::Initial,
+                number => SenderState::from_number(number).expect("a state"),
+            },
+            frame: match octets[answer::KIND] {
+                NONE => None,
+                number => Some(HandedDown {
+                    kind: Kind::from_number(number).expect("a kind of frame"),
+                    octets: output[..down].to_vec(),
+                }),
+            },
+            abort: octets[answer::ABORT] != 0,
+            responses: responses.map(response).collect(),
+            alert: match octets[answer::ALERT] {
+                NONE => None,
+                number => Some(Alert::from_number(number).expect("an alert")),
+            },
             confirmed: Run {
-                first: octets[CONFIRMED],
-                count: octets[CONFIRMED + 1],
+                first: octets[answer::CONFIRMED_FIRST],
+                count: octets[answer::CONFIRMED],
             },
             denied: Run {
-                first: octets[DENIED],
-                count: octets[DENIED + 1],
+                first: octets[answer::DENIED_FIRST],
+                count: octets[answer::DENIED],
             },
         }
     }
@@ -354,7 +317,7 @@ impl Sender {
     /// ```
     /// use pondreszi::{Refusal, Sender, SenderSettings, SenderState};
     /// let settings = SenderSettings {
-    ///     k: 10, t1_initial: 50, transmission_limit: 3,
+    ///     k: 10, t1_initial: 50, transmission_limit: 3, timeout_type: 0,
     ///     spacecraft: 42, channel: 3, vs: 0, nnr: 0,
     /// };
     /// assert_eq!(Sender::new(settings)?.state(), SenderState::Initial);
@@ -366,14 +329,15 @@ impl Sender {
         let mut state = [0; SENDER_STATE_OCTETS];
         let store = vec![0; STORE_OCTETS].into_boxed_slice();
         let number = unsafe {
-            library::sender_new(
-                settings.k,
-                settings.t1_initial,
-                settings.transmission_limit,
-                settings.spacecraft,
-                settings.channel,
-                settings.vs,
-                settings.nnr,
+            library::pondreszi_sender_new(
+                settings.k.into(),
+                settings.t1_initial.into(),
+                settings.transmission_limit.into(),
+                settings.timeout_type.into(),
+                settings.spacecraft.into(),
+                settings.channel.into(),
+                settings.vs.into(),
+                settings.nnr.into(),
                 store.as_ptr(),
                 store.len(),
                 state.as_mut_ptr(),
@@ -390,7 +354,7 @@ impl Sender {
     /// ```
     /// use pondreszi::{Refusal, Sender, SenderSettings};
     /// # let settings = SenderSettings {
-    /// #     k: 10, t1_initial: 50, transmission_limit: 3,
+    /// #     k: 10, t1_initial: 50, transmission_limit: 3, timeout_type: 0,
     /// #     spacecraft: 42, channel: 3, vs: 0, nnr: 0,
     /// # };
     /// let sender = Sender::new(settings)?;
@@ -437,7 +401,7 @@ impl Sender {
     /// ```
     /// use pondreszi::{Directive, LowerLayer, Refusal, Response, Sender, SenderSettings};
     /// # let settings = SenderSettings {
-    /// #     k: 10, t1_initial: 50, transmission_limit: 3,
+    /// #     k: 10, t1_initial: 50, transmission_limit: 3, timeout_type: 0,
     /// #     spacecraft: 42, channel: 3, vs: 0, nnr: 0,
     /// # };
     /// let mut sender = Sender::new(settings)?;
@@ -453,7 +417,7 @@ impl Sender {
     /// # Ok::<(), pondreszi::Refused>(())
     /// ```
     pub fn request_ad(&mut self, unit: &[u8]) -> Result<Answer, RefusedEvent> {
-        self.event_with_octets(library::sender_request_ad, unit)
+        self.event_with_octets(library::pondreszi_sender_request_ad, unit)
     }
 
     /// A unit of 1 to 249 octets for the BD service: sent once, in any state, never confirmed.
@@ -461,7 +425,7 @@ impl Sender {
     /// ```
     /// use pondreszi::{LowerLayer, Response, Sender, SenderSettings};
     /// # let settings = SenderSettings {
-    /// #     k: 10, t1_initial: 50, transmission_limit: 3,
+    /// #     k: 10, t1_initial: 50, transmission_limit: 3, timeout_type: 0,
     /// #     spacecraft: 42, channel: 3, vs: 0, nnr: 0,
     /// # };
     /// let mut sender = Sender::new(settings)?;
@@ -472,7 +436,7 @@ impl Sender {
     /// # Ok::<(), pondreszi::Refused>(())
     /// ```
     pub fn request_bd(&mut self, unit: &[u8]) -> Result<Answer, RefusedEvent> {
-        self.event_with_octets(library::sender_request_bd, unit)
+        self.event_with_octets(library::pondreszi_sender_request_bd, unit)
     }
 
     /// A directive.
@@ -480,13 +444,13 @@ impl Sender {
     /// ```
     /// use pondreszi::{Directive, Refusal, Response, Sender, SenderSettings, SenderState};
     /// # let settings = SenderSettings {
-    /// #     k: 10, t1_initial: 50, transmission_limit: 3,
+    /// #     k: 10, t1_initial: 50, transmission_limit: 3, timeout_type: 0,
     /// #     spacecraft: 42, channel: 3, vs: 0, nnr: 0,
     /// # };
     /// let mut sender = Sender::new(settings)?;
     /// let answer = sender.directive(Directive::InitiateWithUnlock)?;
     /// assert_eq!(answer.state, SenderState::InitialisingWithBc);
-    /// assert_eq!(answer.frame.unwrap().len(), 8);
+    /// assert_eq!(answer.frame.unwrap().octets.len(), 8);
     ///
     /// let refused = sender.directive(Directive::SetK(33)).unwrap_err();
     /// assert_eq!(refused.refusal, Refusal::Setting);
@@ -505,7 +469,7 @@ impl Sender {
     /// ```
     /// use pondreszi::{Refusal, Sender, SenderSettings};
     /// # let settings = SenderSettings {
-    /// #     k: 10, t1_initial: 50, transmission_limit: 3,
+    /// #     k: 10, t1_initial: 50, transmission_limit: 3, timeout_type: 0,
     /// #     spacecraft: 42, channel: 3, vs: 0, nnr: 0,
     /// # };
     /// let mut sender = Sender::new(settings)?;
@@ -516,7 +480,7 @@ impl Sender {
     /// ```
     pub fn directive_raw(&mut self, number: u32, value: u32) -> Result<Answer, RefusedEvent> {
         self.event(|lent| unsafe {
-            library::sender_directive(
+            library::pondreszi_sender_directive(
                 lent.state,
                 SENDER_STATE_OCTETS,
                 number,
@@ -537,7 +501,7 @@ impl Sender {
     /// ```
     /// use pondreszi::{Alert, Directive, Sender, SenderSettings};
     /// # let settings = SenderSettings {
-    /// #     k: 10, t1_initial: 50, transmission_limit: 3,
+    /// #     k: 10, t1_initial: 50, transmission_limit: 3, timeout_type: 0,
     /// #     spacecraft: 42, channel: 3, vs: 0, nnr: 0,
     /// # };
     /// let mut sender = Sender::new(SenderSettings {
@@ -553,7 +517,7 @@ impl Sender {
     /// ```
     pub fn tick(&mut self) -> Result<Answer, RefusedEvent> {
         self.event(|lent| unsafe {
-            library::sender_tick(
+            library::pondreszi_sender_tick(
                 lent.state,
                 SENDER_STATE_OCTETS,
                 lent.store,
@@ -571,7 +535,7 @@ impl Sender {
     /// ```
     /// use pondreszi::{Alert, LowerLayer, Sender, SenderSettings};
     /// # let settings = SenderSettings {
-    /// #     k: 10, t1_initial: 50, transmission_limit: 3,
+    /// #     k: 10, t1_initial: 50, transmission_limit: 3, timeout_type: 0,
     /// #     spacecraft: 42, channel: 3, vs: 0, nnr: 0,
     /// # };
     /// let mut sender = Sender::new(settings)?;
@@ -582,10 +546,10 @@ impl Sender {
     /// ```
     pub fn lower_layer(&mut self, said: LowerLayer) -> Result<Answer, RefusedEvent> {
         self.event(|lent| unsafe {
-            library::sender_lower_layer(
+            library::pondreszi_sender_lower_layer(
                 lent.state,
                 SENDER_STATE_OCTETS,
-                said as u8,
+                said.number().into(),
                 lent.store,
                 lent.store_len,
                 lent.output,
@@ -603,7 +567,7 @@ impl Sender {
     /// ```
     /// use pondreszi::{Alert, Directive, Refusal, Sender, SenderSettings};
     /// # let settings = SenderSettings {
-    /// #     k: 10, t1_initial: 50, transmission_limit: 3,
+    /// #     k: 10, t1_initial: 50, transmission_limit: 3, timeout_type: 0,
     /// #     spacecraft: 42, channel: 3, vs: 0, nnr: 0,
     /// # };
     /// let mut sender = Sender::new(settings)?;
@@ -615,7 +579,7 @@ impl Sender {
     /// # Ok::<(), pondreszi::Refused>(())
     /// ```
     pub fn control_word(&mut self, word: &[u8]) -> Result<Answer, RefusedEvent> {
-        self.event_with_octets(library::sender_control_word, word)
+        self.event_with_octets(library::pondreszi_sender_control_word, word)
     }
 
     fn event_with_octets(
@@ -659,7 +623,7 @@ impl Sender {
 
     /// The state of table 7-8.
     pub fn state(&self) -> SenderState {
-        SenderState::from_number(self.state[STATE])
+        SenderState::from_number(self.state[STATE]).expect("a sender has a state")
     }
 
     /// V(S), the number that the next AD unit gets.

@@ -14,7 +14,7 @@ mod random;
 
 /// Lends memory as it is, in the place of ../lending.rs, which would be measured too.
 mod lending {
-    pub struct Lent<'a, T: ?Sized>(&'a mut T);
+    pub struct Lent<'a, T: ?Sized = [u8]>(&'a mut T);
 
     pub fn lend(octets: &mut [u8]) -> Lent<'_, [u8]> {
         Lent(octets)
@@ -35,9 +35,16 @@ mod lending {
     }
 
     impl<T> Lent<'_, T> {
-        pub fn number(&mut self) -> *mut T {
-            self.0
+        pub fn number(&self) -> *mut T {
+            std::ptr::from_ref::<T>(self.0).cast_mut()
         }
+    }
+}
+
+/// Makes no fault, in the place of ../call.rs.
+mod call {
+    pub fn arguments<T, const N: usize>(_: &str, _: [&str; N], arguments: [T; N]) -> [T; N] {
+        arguments
     }
 }
 
@@ -71,8 +78,8 @@ const INPUTS: usize = 64;
 /// So many operations of each side are compared first; the sequence numbers wrap twice.
 const CHECKED: usize = 600;
 
-const SPACECRAFT: u16 = 0x2A5;
-const CHANNEL: u8 = 3;
+const SPACECRAFT: u32 = 0x2A5;
+const CHANNEL: u32 = 3;
 const FRAME: usize = 256;
 const CLTU: usize = 306;
 const INPUT: usize = 4096;
@@ -259,7 +266,7 @@ fn cltu_read(name: &str, inputs: Vec<Vec<u8>>, codeblocks: usize) -> Row {
 
 fn ad_content(number: u8, unit: usize) -> Content {
     Content::Ad {
-        number,
+        number: number.into(),
         unit: sample(number as usize, unit),
     }
 }
@@ -295,7 +302,7 @@ fn frame_read() -> Row {
 }
 
 /// W, V(R) and the buffers.
-const RECEIVER: [u8; 3] = [20, 0, 8];
+const RECEIVER: [u32; 3] = [20, 0, 8];
 
 /// The library's receiver. Each AD frame is the one expected, and its unit is released.
 struct LibraryReceiver {
@@ -335,7 +342,7 @@ struct IndependentReceiver {
 
 impl IndependentReceiver {
     fn start() -> Farm1 {
-        let [window, v_r, buffers] = RECEIVER.map(usize::from);
+        let [window, v_r, buffers] = RECEIVER.map(|number| number as usize);
         Farm1::start(window, v_r, buffers).unwrap()
     }
 
@@ -395,6 +402,7 @@ const SENDER: SenderSettings = SenderSettings {
     k: 10,
     t1_initial: 100,
     transmission_limit: 3,
+    timeout_type: 0,
     spacecraft: SPACECRAFT,
     channel: CHANNEL,
     vs: 0,
@@ -412,7 +420,7 @@ fn confirming(number: u8) -> Vec<u8> {
         wait: 0,
         retransmit: 0,
         counter: 0,
-        value: number.wrapping_add(1),
+        value: number.wrapping_add(1).into(),
     };
     bits::to_octets(&clcw::encode(&report, Fault::None))
 }

@@ -33,7 +33,7 @@ const PRINTED_ANSWER: Read = Read {
 
 /// Document 01, Limits, Refusals and CLCW.
 fn read_fixed(tally: &mut Tally, fault: Fault) {
-    let mut fixed = |octets: &[u8], channel: u8, paper: Option<Read>| {
+    let mut fixed = |octets: &[u8], channel: u32, paper: Option<Read>| {
         let octets = octets.to_vec();
         read(&Input { octets, channel }, paper, tally, fault);
     };
@@ -62,7 +62,8 @@ fn read_fixed(tally: &mut Tally, fault: Fault) {
     }
 
     // An own channel that isn't the word's, or is beyond the limit.
-    for channel in [0, 2, 63, 64, 67, 131, 195, 255] {
+    let beyond = [256 + 3, 65_536 + 3, (1 << 31) + 3, u32::MAX];
+    for channel in [0, 2, 63, 64, 67, 131, 195, 255].into_iter().chain(beyond) {
         fixed(&PRINTED, channel, Some(Read::refused(ADDRESS)));
     }
 

@@ -199,6 +199,14 @@ fn one_rule_broken(tally: &mut Tally, fault: Fault) {
         (1, 192),
         (1, 255),
         (64_512 + 1, 192),
+        (65_536 + 1, 0),
+        (1 << 31 | 1, 0),
+        (u32::MAX, 0),
+        (1, 256),
+        (1, 65_536),
+        (1, 1 << 31),
+        (1, u32::MAX),
+        (65_536 + 1, 256),
     ] {
         let others = Input {
             octets: unlock.clone(),
@@ -312,7 +320,8 @@ fn read(input: &Input, paper: Option<Read>, tally: &mut Tally, fault: Fault) {
 
     tally.meet(library.number);
     if library.number == DONE {
-        tally.meet_kind(library.kind);
+        // From AD on; a frame that is read is not of no kind.
+        tally.meet_kind(library.kind.wrapping_sub(AD));
     }
     let same = agree(&library, &independent, &paper) && lent == input.octets;
     tally.compared(same, || {

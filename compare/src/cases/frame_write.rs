@@ -60,7 +60,7 @@ const OVERHEAD: usize = 7;
 
 /// Spacecraft, channel, length of the unit, lent output, number: document 01, Limits
 /// and Refusals. The last ones break several rules.
-const UNIT_FIXED: [(u16, u8, usize, usize, u8); 21] = [
+const UNIT_FIXED: [(u32, u32, usize, usize, u8); 28] = [
     (0, 0, 1, 8, DONE),
     (1023, 63, 249, 256, DONE),
     (1, 1, 1, 7, ROOM),
@@ -75,6 +75,13 @@ const UNIT_FIXED: [(u16, u8, usize, usize, u8); 21] = [
     (65_535, 1, 1, 8, SETTING),
     (1, 64, 1, 8, SETTING),
     (1, 255, 1, 8, SETTING),
+    (65_536 + 1, 1, 1, 8, SETTING),
+    (1 << 31, 1, 1, 8, SETTING),
+    (u32::MAX, 1, 1, 8, SETTING),
+    (1, 256 + 1, 1, 8, SETTING),
+    (1, 65_536 + 1, 1, 8, SETTING),
+    (1, 1 << 31, 1, 8, SETTING),
+    (1, u32::MAX, 1, 8, SETTING),
     (1024, 64, 1, 8, SETTING),
     (1024, 1, 0, 400, LENGTH),
     (1, 64, 250, 400, LENGTH),
@@ -85,7 +92,7 @@ const UNIT_FIXED: [(u16, u8, usize, usize, u8); 21] = [
 ];
 
 /// The same for a command, with the room beyond or, below zero, short of its need.
-const COMMAND_FIXED: [(u16, u8, isize, u8); 11] = [
+const COMMAND_FIXED: [(u32, u32, isize, u8); 16] = [
     (0, 0, 0, DONE),
     (1023, 63, 0, DONE),
     (1, 1, 100, DONE),
@@ -95,8 +102,23 @@ const COMMAND_FIXED: [(u16, u8, isize, u8); 11] = [
     (65_535, 1, 0, SETTING),
     (1, 64, 0, SETTING),
     (1, 255, 0, SETTING),
+    (65_536 + 1, 1, 0, SETTING),
+    (u32::MAX, 1, 0, SETTING),
+    (1, 256 + 1, 0, SETTING),
+    (1, 65_536 + 1, 0, SETTING),
+    (1, u32::MAX, 0, SETTING),
     (1024, 1, -1, SETTING),
     (1, 64, -8, SETTING),
+];
+
+/// N(S) and V(R) at the limit, or beyond it.
+const NUMBERS_FIXED: [(u32, u8); 6] = [
+    (255, DONE),
+    (256, SETTING),
+    (256 + 5, SETTING),
+    (65_536 + 5, SETTING),
+    (1 << 31, SETTING),
+    (u32::MAX, SETTING),
 ];
 
 /// Document 01, Frame: spacecraft 2A5 hex, channel 3, AD, N(S) 255, data AB.
@@ -108,8 +130,20 @@ fn ad_fixed(tally: &mut Tally, fault: Fault) {
     let octets = [0x02, 0xA5, 0x0C, 0x07, 0xFF, 0xAB];
     write_printed(0x2A5, 3, printed, &octets, tally, fault);
     for (number, unit_fixed) in (0..).zip(UNIT_FIXED) {
-        let unit = vec![number; unit_fixed.2];
+        let unit = vec![number as u8; unit_fixed.2];
         write_fixed(unit_fixed, &Content::Ad { number, unit }, &[], tally, fault);
+    }
+    for (number, answer) in NUMBERS_FIXED {
+        // A wrong length is judged before, room behind.
+        for (length, lent, answer) in [(1, 8, answer), (0, 8, LENGTH), (250, 400, LENGTH)] {
+            let unit = vec![7; length];
+            let fixed = (1, 1, length, lent, answer);
+            write_fixed(fixed, &Content::Ad { number, unit }, &[], tally, fault);
+        }
+        let answer = if answer == DONE { ROOM } else { answer };
+        let unit = vec![7];
+        let fixed = (1, 1, 1, 7, answer);
+        write_fixed(fixed, &Content::Ad { number, unit }, &[], tally, fault);
     }
 }
 
@@ -132,12 +166,18 @@ fn set_vr_fixed(tally: &mut Tally, fault: Fault) {
     let octets = [0x30, 0x01, 0x00, 0x09, 0x00, 0x82, 0x00, 0x05];
     write_printed(1, 0, Content::SetVr { value: 5 }, &octets, tally, fault);
     write_command_fixed(Content::SetVr { value: 0 }, tally, fault);
+    for (value, answer) in NUMBERS_FIXED {
+        let content = Content::SetVr { value };
+        write_fixed((1, 1, 3, 10, answer), &content, &[], tally, fault);
+        let answer = if answer == DONE { ROOM } else { answer };
+        write_fixed((1, 1, 3, 9, answer), &content, &[], tally, fault);
+    }
 }
 
 /// A frame that the paper prints without FECF.
 fn write_printed(
-    spacecraft: u16,
-    channel: u8,
+    spacecraft: u32,
+    channel: u32,
     content: Content,
     octets: &[u8],
     tally: &mut Tally,
@@ -150,7 +190,7 @@ fn write_printed(
 
 /// The paper says octets with which the output begins.
 fn write_fixed(
-    (spacecraft, channel, length, lent, number): (u16, u8, usize, usize, u8),
+    (spacecraft, channel, length, lent, number): (u32, u32, usize, usize, u8),
     content: &Content,
     octets: &[u8],
     tally: &mut Tally,
@@ -177,7 +217,7 @@ fn write_command_fixed(content: Content, tally: &mut Tally, fault: Fault) {
 }
 
 fn ad_random(random: &mut Random, tally: &mut Tally, fault: Fault) {
-    let number = random.number() as u8;
+    let number = any_number(random);
     let unit = unit(random, tally);
     write_random(Content::Ad { number, unit }, random, tally, fault);
 }
@@ -192,8 +232,18 @@ fn unlock_random(random: &mut Random, tally: &mut Tally, fault: Fault) {
 }
 
 fn set_vr_random(random: &mut Random, tally: &mut Tally, fault: Fault) {
-    let value = random.number() as u8;
+    let value = any_number(random);
     write_random(Content::SetVr { value }, random, tally, fault);
+}
+
+/// A sequence number, now and then one beyond its limit.
+fn any_number(random: &mut Random) -> u32 {
+    let number = random.between(0, 255) as u32;
+    match random.below(12) {
+        0 => *random.pick(&[255, 256, 257]),
+        1 => inputs::too_wide(random, number),
+        _ => number,
+    }
 }
 
 /// A unit of every length from 0 to 260, one after the other, and now and then one at
@@ -217,8 +267,8 @@ fn write_random(content: Content, random: &mut Random, tally: &mut Tally, fault:
 
 /// The paper says the answer, and octets with which the output begins.
 fn write(
-    spacecraft: u16,
-    channel: u8,
+    spacecraft: u32,
+    channel: u32,
     content: &Content,
     buffer: Vec<u8>,
     paper: Option<(Written, &[u8])>,

@@ -7,6 +7,7 @@ mod sender;
 mod sender_end;
 mod session;
 
+use crate::call::{self, Part};
 use crate::check::Tally;
 use crate::octets::LENGTHS;
 use crate::random::Random;
@@ -39,6 +40,11 @@ pub fn main(mode: Mode, words: &[String]) -> ExitCode {
     let faults = faults(&mode);
     if words == ["--faults"] {
         print_names(faults.iter().map(|fault| fault.0));
+        match mode {
+            Mode::Sender => print_names(call::names(Part::Sender)),
+            Mode::Receiver => print_names(call::names(Part::Receiver)),
+            Mode::Session => (),
+        }
         return ExitCode::from(0);
     }
     let Some(settings) = settings::read(words, EVENTS, &faults, |_, _| None) else {

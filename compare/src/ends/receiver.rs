@@ -2,7 +2,7 @@
 
 use super::{compare_runs, damage, receiver_end, refusal, Counts, Report};
 use crate::check::Tally;
-use crate::inputs::farm1_frames as inputs;
+use crate::inputs::farm1_frames::{self as inputs, Start};
 use crate::octets::{no_receiver_state, RECEIVER_STATE};
 use crate::random::Random;
 use crate::settings::Settings;
@@ -33,8 +33,8 @@ const KINDS: [&str; 8] = [
 struct Pair {
     state: Vec<u8>,
     farm: Farm1,
-    spacecraft: u16,
-    channel: u8,
+    spacecraft: u32,
+    channel: u32,
 }
 
 struct Met {
@@ -62,8 +62,14 @@ impl Met {
 
 pub fn compare(settings: &Settings) -> Report {
     let mut met = Met::new();
+    let mut fixed = inputs::fixed_starts().into_iter();
     let (tally, runs) = compare_runs(settings, |random, tally| {
-        let Some(pair) = start(random, tally, &mut met) else {
+        let (of_receiver, octets) = match fixed.next() {
+            Some(fixed) => (fixed, RECEIVER_STATE),
+            None => (inputs::start(random), room(random)),
+        };
+        let state = random.octets(octets);
+        let Some(pair) = start(of_receiver, state, tally, &mut met) else {
             return false;
         };
         run(pair, settings, random, tally, &mut met);
@@ -76,15 +82,18 @@ pub fn compare(settings: &Settings) -> Report {
     }
 }
 
-/// A new receiver, where it is not refused.
-fn start(random: &mut Random, tally: &mut Tally, met: &mut Met) -> Option<Pair> {
-    let start = inputs::start(random);
-    let octets = match random.below(12) {
+/// The octets that are lent for a new state.
+fn room(random: &mut Random) -> usize {
+    match random.below(12) {
         0 => random.below(RECEIVER_STATE),
         1 => random.between(RECEIVER_STATE, RECEIVER_STATE + 20),
         _ => RECEIVER_STATE,
-    };
-    let (number, farm, differences) = receiver_end::start(&start, random.octets(octets));
+    }
+}
+
+/// A new receiver, where it is not refused.
+fn start(start: Start, state: Vec<u8>, tally: &mut Tally, met: &mut Met) -> Option<Pair> {
+    let (number, farm, differences) = receiver_end::start(&start, state);
     met.refusals.meet(&refusal(number));
     met.kinds
         .meet(if number == DONE { "new" } else { "new refused" });

@@ -15,7 +15,7 @@ const HEADER: u64 = 5;
 const WORD: usize = 4;
 
 /// The octets of a receiver's state.
-pub fn state(farm: &Farm1, spacecraft: u16, channel: u8) -> Vec<u8> {
+pub fn state(farm: &Farm1, spacecraft: u32, channel: u32) -> Vec<u8> {
     octets::receiver_state(farm, spacecraft, channel).to_vec()
 }
 
@@ -25,7 +25,7 @@ pub fn start(start: &Start, before: Vec<u8>) -> (u8, Option<Farm1>, Vec<String>)
     let (spacecraft, channel) = (start.spacecraft, start.channel);
     let mut after = before.clone();
     let number = library::receiver_new(spacecraft, channel, start.variables, &mut after);
-    let [window, v_r, buffers] = start.variables.map(usize::from);
+    let [window, v_r, buffers] = start.variables.map(|number| number as usize);
     let started = match spacecraft <= SPACECRAFT_MOST && channel <= CHANNEL_MOST {
         true => Farm1::start(window, v_r, buffers),
         false => Err(SETTING),

@@ -4,8 +4,8 @@ use super::sender_end::{self, call, Call, Expected, SenderEnd};
 use super::{compare_runs, damage, refusal, Counts, Report};
 use crate::check::Tally;
 use crate::inputs::fop1::{self as inputs, Manner};
-use crate::library::{SenderEvent, SenderMemory};
-use crate::octets::ANSWER;
+use crate::library::{SenderEvent, SenderMemory, SenderSettings};
+use crate::octets::{ANSWER, SENDER_STATE};
 use crate::random::Random;
 use crate::settings::Settings;
 use independent::clcw;
@@ -117,8 +117,13 @@ fn cell_name(row: u8, state: u8) -> String {
 
 pub fn compare(settings: &Settings) -> Report {
     let mut met = Met::new();
+    let mut fixed = inputs::fixed_settings().into_iter();
     let (tally, runs) = compare_runs(settings, |random, tally| {
-        let Some((end, sender)) = start(random, tally, &mut met) else {
+        let memory = match fixed.next() {
+            Some(settings) => (settings, random.octets(STORE), random.octets(SENDER_STATE)),
+            None => inputs::start(random),
+        };
+        let Some((end, sender)) = start(memory, tally, &mut met) else {
             return false;
         };
         run(end, sender, settings, random, tally, &mut met);
@@ -139,8 +144,11 @@ pub fn compare(settings: &Settings) -> Report {
 }
 
 /// A new sender, where it is not refused.
-fn start(random: &mut Random, tally: &mut Tally, met: &mut Met) -> Option<(SenderEnd, Sender)> {
-    let (settings, store, state) = inputs::start(random);
+fn start(
+    (settings, store, state): (SenderSettings, Vec<u8>, Vec<u8>),
+    tally: &mut Tally,
+    met: &mut Met,
+) -> Option<(SenderEnd, Sender)> {
     let (number, pair, differences) = sender_end::start(&settings, store, state);
     met.refusals.meet(&refusal(number));
     met.kinds.meet(match number {

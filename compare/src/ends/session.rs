@@ -150,7 +150,7 @@ fn start(settings: &session::Settings, random: &mut Random) -> Result<(Ends, Ses
     let of_receiver = Start {
         spacecraft,
         channel,
-        variables: [settings.window, settings.number, settings.buffers].map(|x| x as u8),
+        variables: [settings.window, settings.number, settings.buffers].map(|x| x as u32),
     };
     let state = random.octets(RECEIVER_STATE);
     let (_, farm, differences) = receiver_end::start(&of_receiver, state);
@@ -175,13 +175,14 @@ fn start_sender(
     random: &mut Random,
 ) -> Result<(SenderEnd, Sender), String> {
     let of_sender = SenderSettings {
-        k: settings.k as u8,
-        t1_initial: settings.t1_initial as u16,
-        transmission_limit: settings.transmission_limit as u8,
-        spacecraft: settings.spacecraft as u16,
-        channel: settings.channel as u8,
-        vs: settings.number as u8,
-        nnr: settings.number as u8,
+        k: settings.k as u32,
+        t1_initial: settings.t1_initial as u32,
+        transmission_limit: settings.transmission_limit as u32,
+        timeout_type: 0,
+        spacecraft: settings.spacecraft as u32,
+        channel: settings.channel as u32,
+        vs: settings.number as u32,
+        nnr: settings.number as u32,
     };
     let (store, state) = (random.octets(STORE), random.octets(SENDER_STATE));
     let (_, pair, differences) = sender_end::start(&of_sender, store, state);
@@ -360,7 +361,7 @@ fn expect_nothing(outcome: &Outcome) -> Vec<String> {
 }
 
 /// The number of a response of the lower layer.
-fn lower(response: &fop1::Event) -> u8 {
+fn lower(response: &fop1::Event) -> u32 {
     match response {
         fop1::Event::AdAccept => 1,
         fop1::Event::AdReject => 2,

@@ -23,19 +23,20 @@ pub const REPORT_VALUE: Field = 24..=31;
 
 const CLCW_BITS: usize = 32;
 
-/// Document 01, Limits; the counter is counted modulo 4.
-const CHANNEL_MOST: u8 = 63;
-const COUNTER_MOST: u8 = 3;
+/// Document 01, Limits; the counter is counted modulo 4, the report value modulo 256.
+const CHANNEL_MOST: u32 = 63;
+const COUNTER_MOST: u32 = 3;
+const REPORT_MOST: u32 = 255;
 
 /// What is written. A flag is set where its number is not zero.
 #[derive(Clone, Copy, PartialEq, Eq, Debug)]
 pub struct Report {
-    pub channel: u8,
-    pub lockout: u8,
-    pub wait: u8,
-    pub retransmit: u8,
-    pub counter: u8,
-    pub value: u8,
+    pub channel: u32,
+    pub lockout: u32,
+    pub wait: u32,
+    pub retransmit: u32,
+    pub counter: u32,
+    pub value: u32,
 }
 
 /// The answer of reading. All but the number are zero where the CLCW is invalid or
@@ -116,7 +117,10 @@ pub fn encode(report: &Report, fault: Fault) -> Vec<bool> {
 
 /// Writes a CLCW (document 01, Refusals: 12, 11).
 pub fn write(report: &Report, output: &mut [u8], fault: Fault) -> Written {
-    if report.channel > CHANNEL_MOST || report.counter > COUNTER_MOST {
+    let within_limits = report.channel <= CHANNEL_MOST
+        && report.counter <= COUNTER_MOST
+        && report.value <= REPORT_MOST;
+    if !within_limits {
         return Written::refused(SETTING);
     }
     let word = bits::to_octets(&encode(report, fault));
@@ -124,7 +128,7 @@ pub fn write(report: &Report, output: &mut [u8], fault: Fault) -> Written {
 }
 
 /// Reads a CLCW (document 01, CLCW: 10, then valid or not, then 7).
-pub fn read(octets: &[u8], channel: u8, fault: Fault) -> Read {
+pub fn read(octets: &[u8], channel: u32, fault: Fault) -> Read {
     let word = bits::from_octets(octets);
     if word.len() != CLCW_BITS {
         return Read::refused(LENGTH);
@@ -164,7 +168,7 @@ mod tests {
     use super::*;
     use crate::refusal::ROOM;
 
-    fn report(channel: u8, flags: [u8; 3], counter: u8, value: u8) -> Report {
+    fn report(channel: u32, flags: [u32; 3], counter: u32, value: u32) -> Report {
         Report {
             channel,
             lockout: flags[0],
@@ -205,18 +209,40 @@ mod tests {
                         valid: 1,
                         status: 0,
                         rf: 0,
-                        flags,
-                        counter,
-                        report: value,
+                        flags: flags as u8,
+                        counter: counter as u8,
+                        report: value as u8,
                     };
                     assert_eq!(read(&word, channel, Fault::None), answer);
-                    for other in [channel ^ 1, channel + 64, channel + 128, channel + 192] {
+                    for beyond in [64, 128, 192, 256, 65_536, 1 << 31] {
+                        let other = channel + beyond;
                         let answer = Read::refused(ADDRESS);
                         assert_eq!(read(&word, other, Fault::None), answer);
                     }
+                    let other = read(&word, channel ^ 1, Fault::None);
+                    assert_eq!(other, Read::refused(ADDRESS));
                 }
             }
         }
+    }
+
+    // Document 01, Limits and Refusals: a number beyond its limit, however large.
+    #[test]
+    fn writing_refuses() {
+        let good = report(63, [256, 65_536, u32::MAX], 3, 255);
+        let mut output = [0xAA; 4];
+        assert_eq!(write(&good, &mut output, Fault::None).number, DONE);
+        assert_eq!(output, [0x01, 0xFC, 0x3E, 0xFF]);
+        for beyond in [1, 256, 65_536, u32::MAX - 255] {
+            let channel = report(63 + beyond, [0; 3], 0, 0);
+            let counter = report(0, [0; 3], 3 + beyond, 0);
+            let value = report(0, [0; 3], 0, 255 + beyond);
+            for bad in [channel, counter, value] {
+                let answer = write(&bad, &mut [], Fault::None);
+                assert_eq!(answer, Written::refused(SETTING));
+            }
+        }
+        assert_eq!(write(&good, &mut [0; 3], Fault::None).number, ROOM);
     }
 
     // Document 01, CLCW: type, version, COP and spare make it invalid, whatever the

@@ -36,6 +36,7 @@ pub struct Settings {
     pub k: usize,
     pub t1_initial: usize,
     pub transmission_limit: usize,
+    pub timeout_type: usize,
 }
 
 /// What comes to the sender.
@@ -83,8 +84,9 @@ pub struct Answer {
     /// The Event Number of Table 7-8, 0 where the event is none of them.
     pub row: u8,
     pub state: State,
-    /// The frame handed down.
+    /// The frame handed down, and its kind.
     pub frame: Option<Vec<u8>>,
+    pub kind: u8,
     pub abort: bool,
     pub responses: Vec<Response>,
     pub alert: Option<Reason>,
@@ -102,6 +104,7 @@ impl Answer {
             row: 0,
             state,
             frame: None,
+            kind: frame::NONE,
             abort: false,
             responses: Vec::new(),
             alert: None,
@@ -129,7 +132,7 @@ pub struct SentFrame {
 impl SentFrame {
     pub fn number(&self) -> Option<u8> {
         match self.content {
-            Content::Ad { number, .. } => Some(number),
+            Content::Ad { number, .. } => Some(number as u8),
             _ => None,
         }
     }
@@ -138,8 +141,8 @@ impl SentFrame {
 /// The variables (clause 7.2.2) and the own address.
 #[derive(Clone, PartialEq, Eq, Debug)]
 pub struct Sender {
-    pub spacecraft: u16,
-    pub channel: u8,
+    pub spacecraft: u32,
+    pub channel: u32,
     pub state: State,
     pub v_s: u8,
     pub wait_queue: Option<Vec<u8>>,
@@ -203,7 +206,8 @@ impl Sender {
             && settings.nn_r <= NUMBER_MOST
             && (K_LEAST..=K_MOST).contains(&settings.k)
             && (TIMER_LEAST..=TIMER_MOST).contains(&settings.t1_initial)
-            && (LIMIT_LEAST..=LIMIT_MOST).contains(&settings.transmission_limit);
+            && (LIMIT_LEAST..=LIMIT_MOST).contains(&settings.transmission_limit)
+            && settings.timeout_type == TIMEOUT_TYPE_ALERT;
         // So many could not be outstanding.
         let (v_s, nn_r) = (settings.v_s as u8, settings.nn_r as u8);
         if !within_limits || distance(v_s, nn_r) as usize > K_MOST {
@@ -213,8 +217,8 @@ impl Sender {
             return Err(ROOM);
         }
         Ok(Sender {
-            spacecraft: settings.spacecraft as u16,
-            channel: settings.channel as u8,
+            spacecraft: settings.spacecraft as u32,
+            channel: settings.channel as u32,
             state: State::S6,
             v_s,
             wait_queue: None,
@@ -226,7 +230,7 @@ impl Sender {
             t1_initial: settings.t1_initial as u16,
             timer: 0,
             transmission_limit: settings.transmission_limit as u8,
-            timeout_type: TIMEOUT_TYPE_ALERT as u8,
+            timeout_type: settings.timeout_type as u8,
             transmission_count: 1,
             k: settings.k as u8,
             suspend_state: 0,
@@ -483,7 +487,7 @@ impl Sender {
             Action::Initialise => self.initialise(answer, fault),
             Action::TransmitUnlock => self.transmit_bc(Content::Unlock, answer),
             Action::TransmitSetVr => {
-                let value = occurrence.value as u8;
+                let value = occurrence.value as u32;
                 self.transmit_bc(Content::SetVr { value }, answer)
             }
             _ => self.set(action, occurrence, answer, fault),
@@ -539,7 +543,7 @@ impl Sender {
     /// Transmit type-AD frame (clause 7.9.2.6).
     fn transmit_ad(&mut self, unit: Vec<u8>, answer: &mut Answer, fault: Fault) {
         let content = Content::Ad {
-            number: self.v_s,
+            number: self.v_s.into(),
             unit,
         };
         self.v_s = self.v_s.wrapping_add(1);
@@ -581,6 +585,7 @@ impl Sender {
         assert!(answer.frame.is_none());
         let octets = frame::encode(self.spacecraft, self.channel, content, Fault::None);
         answer.frame = Some(octets);
+        answer.kind = content.kind();
     }
 
     /// Initiate AD retransmission, initiate BC retransmission (clauses 7.9.2.11 and

@@ -25,6 +25,7 @@ fn settings() -> Settings {
         k: 3,
         t1_initial: 2,
         transmission_limit: 3,
+        timeout_type: 0,
     }
 }
 
@@ -60,11 +61,11 @@ fn directive(number: usize, value: usize) -> Event {
 fn word(flags: [u8; 3], value: u8) -> Event {
     let report = clcw::Report {
         channel: 0,
-        lockout: flags[0],
-        wait: flags[1],
-        retransmit: flags[2],
+        lockout: flags[0].into(),
+        wait: flags[1].into(),
+        retransmit: flags[2].into(),
         counter: 0,
-        value,
+        value: value.into(),
     };
     Event::ControlWord(bits::to_octets(&clcw::encode(&report, Fault::None)))
 }
@@ -81,7 +82,7 @@ fn run(first: u8, count: u8) -> Run {
 /// An AD frame of spacecraft 1, channel 0.
 fn ad_frame(number: u8, unit: &[u8]) -> Option<Vec<u8>> {
     let content = Content::Ad {
-        number,
+        number: number.into(),
         unit: unit.to_vec(),
     };
     Some(frame::encode(1, 0, &content, Fault::None))
@@ -401,7 +402,8 @@ fn starts() {
     assert_eq!(Sender::start(&settings(), STORE - 1), Err(ROOM));
     assert_eq!(STORE, 8217);
     type Set = fn(&mut Settings, usize);
-    let limits: [(Set, usize, usize); 5] = [
+    let limits: [(Set, usize, usize); 6] = [
+        (|settings, value| settings.timeout_type = value, 0, 0),
         (|settings, value| settings.spacecraft = value, 0, 1023),
         (|settings, value| settings.channel = value, 0, 63),
         (|settings, value| settings.k = value, 1, 32),
@@ -413,7 +415,7 @@ fn starts() {
         ),
     ];
     for (set, least, most) in limits {
-        for value in [0, 1, 2, most - 1, most, most + 1, usize::MAX] {
+        for value in [0, 1, 2, most.saturating_sub(1), most, most + 1, usize::MAX] {
             let mut settings = settings();
             set(&mut settings, value);
             let good = (least..=most).contains(&value);
@@ -551,6 +553,7 @@ fn random_settings(random: &mut Random) -> Settings {
         k: random.between(1, 32),
         t1_initial: random.between(1, 6),
         transmission_limit: random.between(1, 5),
+        timeout_type: 0,
     }
 }
 

@@ -28,19 +28,22 @@ const FRAME_LEAST: usize = 8;
 const FRAME_MOST: usize = 256;
 const UNIT_LEAST: usize = 1;
 const UNIT_MOST: usize = 249;
-const SPACECRAFT_MOST: u16 = 1023;
-const CHANNEL_MOST: u8 = 63;
+const SPACECRAFT_MOST: u32 = 1023;
+const CHANNEL_MOST: u32 = 63;
+
+/// Sequence numbers are counted modulo 256 (document 01, Limits).
+const NUMBER_MOST: u32 = 255;
 
 /// So many octets may follow the frame (document 01, Refusals).
 const FILL_MOST: usize = 6;
 
-/// What a frame carries.
+/// What a frame carries. A number can be beyond its limit, and is then not written.
 #[derive(Clone, PartialEq, Eq, Debug)]
 pub enum Content {
-    Ad { number: u8, unit: Vec<u8> },
+    Ad { number: u32, unit: Vec<u8> },
     Bd { unit: Vec<u8> },
     Unlock,
-    SetVr { value: u8 },
+    SetVr { value: u32 },
 }
 
 impl Content {
@@ -49,26 +52,45 @@ impl Content {
         match self {
             Content::Ad { unit, .. } | Content::Bd { unit } => unit.clone(),
             Content::Unlock => UNLOCK.to_vec(),
-            Content::SetVr { value } => [&SET_VR[..], &[*value]].concat(),
+            Content::SetVr { value } => [&SET_VR[..], &[*value as u8]].concat(),
         }
     }
 
     /// The Bypass Flag, the Control Command Flag (Table 6-3) and N(S), which is zero in
     /// type-B frames (clause 6.2.2.9).
-    fn flags_and_number(&self) -> (usize, usize, u8) {
+    fn flags_and_number(&self) -> (usize, usize, u32) {
         match self {
             Content::Ad { number, .. } => (0, 0, *number),
             Content::Bd { .. } => (1, 0, 0),
             Content::Unlock | Content::SetVr { .. } => (1, 1, 0),
         }
     }
+
+    pub fn kind(&self) -> u8 {
+        match self {
+            Content::Ad { .. } => AD,
+            Content::Bd { .. } => BD,
+            Content::Unlock => BC_UNLOCK,
+            Content::SetVr { .. } => BC_SET_VR,
+        }
+    }
+
+    /// Its number or value is a sequence number (document 01, Refusals: 12).
+    fn within_limits(&self) -> bool {
+        match self {
+            Content::Ad { number, .. } => *number <= NUMBER_MOST,
+            Content::SetVr { value } => *value <= NUMBER_MOST,
+            Content::Bd { .. } | Content::Unlock => true,
+        }
+    }
 }
 
-/// The kinds of a frame that is read.
-pub const AD: u8 = 0;
-pub const BD: u8 = 1;
-pub const BC_UNLOCK: u8 = 2;
-pub const BC_SET_VR: u8 = 3;
+/// The kinds of a frame that is read or handed down.
+pub const NONE: u8 = 0;
+pub const AD: u8 = 1;
+pub const BD: u8 = 2;
+pub const BC_UNLOCK: u8 = 3;
+pub const BC_SET_VR: u8 = 4;
 
 /// The answer of reading. All but the number are zero after a refusal.
 #[derive(Clone, Copy, PartialEq, Eq, Debug)]
@@ -98,7 +120,7 @@ impl Read {
 }
 
 /// The frame, whatever its length, as long as each number has room in its field.
-pub fn encode(spacecraft: u16, channel: u8, content: &Content, fault: Fault) -> Vec<u8> {
+pub fn encode(spacecraft: u32, channel: u32, content: &Content, fault: Fault) -> Vec<u8> {
     let data = bits::from_octets(&content.data());
     let all_bits = HEADER_BITS + data.len() + FECF_BITS;
     let (bypass, control_command, number) = content.flags_and_number();
@@ -119,8 +141,8 @@ pub fn encode(spacecraft: u16, channel: u8, content: &Content, fault: Fault) -> 
 
 /// Writes a frame (document 01, Refusals: 10, 12, 11).
 pub fn write(
-    spacecraft: u16,
-    channel: u8,
+    spacecraft: u32,
+    channel: u32,
     content: &Content,
     output: &mut [u8],
     fault: Fault,
@@ -129,7 +151,8 @@ pub fn write(
     if !(UNIT_LEAST..=UNIT_MOST).contains(&unit) {
         return Written::refused(LENGTH);
     }
-    if spacecraft > SPACECRAFT_MOST || channel > CHANNEL_MOST {
+    let addressed = spacecraft <= SPACECRAFT_MOST && channel <= CHANNEL_MOST;
+    if !addressed || !content.within_limits() {
         return Written::refused(SETTING);
     }
     let frame = encode(spacecraft, channel, content, fault);
@@ -137,7 +160,7 @@ pub fn write(
 }
 
 /// Reads a frame (document 01, Refusals: 4, 4, 10, 4, 5, 8, 6, 7, 9).
-pub fn read(octets: &[u8], spacecraft: u16, channel: u8, fault: Fault) -> Read {
+pub fn read(octets: &[u8], spacecraft: u32, channel: u32, fault: Fault) -> Read {
     // Frame delimiting and fill removal (clause 6.6).
     if octets.len() < FRAME_LEAST || fault == Fault::FrameRefusesAll {
         return Read::refused(SHORT);
@@ -243,7 +266,7 @@ mod tests {
             number: 255,
             unit: vec![0xAB],
         };
-        let three: [(u16, u8, Content, &[u8], Read); 3] = [
+        let three: [(u32, u32, Content, &[u8], Read); 3] = [
             (
                 1,
                 0,
@@ -279,7 +302,7 @@ mod tests {
             for (content, kind, value) in [
                 (
                     Content::Ad {
-                        number: length as u8,
+                        number: length as u32,
                         unit: unit(length),
                     },
                     AD,
@@ -334,6 +357,26 @@ mod tests {
         }
     }
 
+    // Document 01, Refusals: a sequence number is 0 to 255.
+    #[test]
+    fn writing_refuses_numbers() {
+        for (value, number) in [
+            (255, DONE),
+            (256, SETTING),
+            (65_536, SETTING),
+            (u32::MAX, SETTING),
+        ] {
+            let ad = Content::Ad {
+                number: value,
+                unit: vec![7],
+            };
+            for content in [ad, Content::SetVr { value }] {
+                let answer = write(1, 0, &content, &mut [0; 20], Fault::None);
+                assert_eq!(answer.number, number);
+            }
+        }
+    }
+
     // Each of these breaks one more rule than the one before it, an earlier one, with
     // the FECF right as long as it is not itself the one broken.
     #[test]
@@ -368,8 +411,8 @@ mod tests {
     #[test]
     fn own_address_beyond_the_limits() {
         let frame = with_fecf(&[0x30, 0x01, 0x00, 0x07, 0x00, 0x00]);
-        for spacecraft in (0..=u16::MAX).step_by(1024) {
-            for channel in (0..=u8::MAX).step_by(64) {
+        for spacecraft in (0..=65_536).step_by(1024) {
+            for channel in (0..=256).step_by(64).chain([65_536, 1 << 31]) {
                 let answer = read(&frame, spacecraft + 1, channel, Fault::None);
                 let ours = (spacecraft, channel) == (0, 0);
                 assert_eq!(answer.number, if ours { DONE } else { ADDRESS });

@@ -104,7 +104,7 @@ pub struct Session {
 }
 
 /// Reads a frame as its receiver does.
-pub fn carried(octets: &[u8], spacecraft: u16, channel: u8) -> Option<Carried> {
+pub fn carried(octets: &[u8], spacecraft: u32, channel: u32) -> Option<Carried> {
     let read = frame::read(octets, spacecraft, channel, Fault::None);
     if read.number != DONE {
         return None;
@@ -121,7 +121,7 @@ impl Received {
     pub fn frame(
         receiver: &mut Farm1,
         octets: &[u8],
-        (spacecraft, channel): (u16, u8),
+        (spacecraft, channel): (u32, u32),
         fault: Fault,
     ) -> Received {
         let carried = carried(octets, spacecraft, channel);
@@ -158,14 +158,14 @@ impl Received {
 }
 
 /// The control word of a receiver on this channel (E11 of Table 7-9).
-pub fn word_of(receiver: &Farm1, channel: u8) -> Vec<u8> {
+pub fn word_of(receiver: &Farm1, channel: u32) -> Vec<u8> {
     let report = clcw::Report {
         channel,
-        lockout: receiver.lockout_flag as u8,
-        wait: receiver.wait_flag as u8,
-        retransmit: receiver.retransmit_flag as u8,
-        counter: receiver.farm_b_counter,
-        value: receiver.v_r,
+        lockout: receiver.lockout_flag.into(),
+        wait: receiver.wait_flag.into(),
+        retransmit: receiver.retransmit_flag.into(),
+        counter: receiver.farm_b_counter.into(),
+        value: receiver.v_r.into(),
     };
     bits::to_octets(&clcw::encode(&report, Fault::None))
 }
@@ -182,6 +182,7 @@ impl Session {
             k: settings.k,
             t1_initial: settings.t1_initial,
             transmission_limit: settings.transmission_limit,
+            timeout_type: 0,
         };
         let mut sender = Sender::start(&of_sender, STORE)?;
         let receiver = Farm1::start(settings.window, settings.number, settings.buffers)?;

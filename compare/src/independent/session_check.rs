@@ -150,7 +150,7 @@ impl Checker {
 
     fn carried(&self, octets: &Option<Vec<u8>>) -> Option<Carried> {
         let (spacecraft, channel) = (self.settings.spacecraft, self.settings.channel);
-        carried(octets.as_ref()?, spacecraft as u16, channel as u8)
+        carried(octets.as_ref()?, spacecraft as u32, channel as u32)
     }
 
     /// The AD unit that the answer hands down.
@@ -238,7 +238,7 @@ impl Checker {
             claim(received.state != farm1::State::Lockout, words)?;
         }
         if let Some(word) = &outcome.report {
-            let read = clcw::read(word, self.settings.channel as u8, Fault::None);
+            let read = clcw::read(word, self.settings.channel as u32, Fault::None);
             claim((read.number, read.valid) == (DONE, 1), "a word can be read")?;
             claim(read.flags & 4 == 0, words)?;
             claim(
@@ -370,7 +370,7 @@ impl Checker {
         let Some(word) = &outcome.word else {
             return Ok(());
         };
-        let read = clcw::read(word, self.settings.channel as u8, Fault::None);
+        let read = clcw::read(word, self.settings.channel as u32, Fault::None);
         let due = active_or_resending(&before.sender)
             && read.flags == 0
             && read.report == self.number(before.sent);
@@ -475,7 +475,7 @@ impl Checker {
         if !serving || answer.refusal != DONE {
             return Ok(());
         }
-        let read = clcw::read(word, self.settings.channel as u8, Fault::None);
+        let read = clcw::read(word, self.settings.channel as u32, Fault::None);
         let exact = self.number(self.confirmed.len()) == read.report;
         claim(exact, "confirmed is what the word reports")
     }

@@ -199,21 +199,21 @@ fn word(draw: Draw, sender: &Sender) -> Vec<u8> {
         _ => draw(sender.unacknowledged() as usize + 1) as u8,
     };
     let flags = match draw(12) {
-        0 if draw(4) == 0 => draw(8) as u8,
+        0 if draw(4) == 0 => draw(8) as u32,
         0..=2 => 3,
         3..=5 => 1,
         _ => 0,
     };
     let report = clcw::Report {
         channel: match draw(24) {
-            0 => draw(64) as u8,
+            0 => draw(64) as u32,
             _ => sender.channel,
         },
         lockout: flags & 4,
         wait: flags & 2,
         retransmit: flags & 1,
-        counter: draw(4) as u8,
-        value: sender.nn_r.wrapping_add(beyond),
+        counter: draw(4) as u32,
+        value: sender.nn_r.wrapping_add(beyond).into(),
     };
     let mut word = bits::to_octets(&clcw::encode(&report, Fault::None));
     match draw(48) {

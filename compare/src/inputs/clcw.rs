@@ -1,6 +1,6 @@
 //! Inputs to the CLCW reader.
 
-use super::{any_of, noise, Kind};
+use super::{any_of, noise, too_wide, Kind};
 use crate::random::Random;
 use independent::bits::{self, Field};
 use independent::clcw::{
@@ -13,7 +13,7 @@ use independent::fault::Fault;
 /// What is lent to the reader, and its own channel.
 pub struct Input {
     pub octets: Vec<u8>,
-    pub channel: u8,
+    pub channel: u32,
 }
 
 /// The fields of which one value is valid.
@@ -43,12 +43,12 @@ pub fn report(random: &mut Random) -> Report {
     let mut flag = || *random.pick(&[0, 0, 0, 1, 2, 128, 255]);
     let (lockout, wait, retransmit) = (flag(), flag(), flag());
     Report {
-        channel: random.between(0, 63) as u8,
+        channel: random.between(0, 63) as u32,
         lockout,
         wait,
         retransmit,
-        counter: random.between(0, 3) as u8,
-        value: random.number() as u8,
+        counter: random.between(0, 3) as u32,
+        value: random.between(0, 255) as u32,
     }
 }
 
@@ -73,7 +73,7 @@ fn put_any(word: &mut [bool], field: Field, random: &mut Random) {
 fn sent(word: &[bool]) -> Input {
     Input {
         octets: bits::to_octets(word),
-        channel: bits::get(word, VIRTUAL_CHANNEL_IDENTIFICATION) as u8,
+        channel: bits::get(word, VIRTUAL_CHANNEL_IDENTIFICATION) as u32,
     }
 }
 
@@ -104,11 +104,12 @@ fn other_channel(random: &mut Random) -> Input {
 }
 
 fn break_channel(input: &mut Input, random: &mut Random) {
-    match random.below(4) {
+    match random.below(5) {
         0 => input.channel ^= 1 << random.below(6),
-        1 => input.channel += 64 * random.between(1, 3) as u8,
+        1 => input.channel += 64 * random.between(1, 3) as u32,
         2 => input.channel = *random.pick(&[0, 63, 64, 255]),
-        _ => input.channel = random.number() as u8,
+        3 => input.channel = too_wide(random, input.channel),
+        _ => input.channel = random.between(0, 255) as u32,
     }
 }
 
@@ -155,7 +156,7 @@ fn only_noise(random: &mut Random) -> Input {
     if random.once_in(4) {
         return Input {
             octets: noise(random, 8),
-            channel: random.number() as u8,
+            channel: random.between(0, 255) as u32,
         };
     }
     sent(&bits::from_octets(&random.octets(4)))

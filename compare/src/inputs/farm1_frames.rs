@@ -1,6 +1,7 @@
 //! What a receiver starts with, and the frames that come to it.
 
 use super::frame::{change, for_the_reader, repair};
+use super::{each_too_wide, too_wide};
 use crate::random::Random;
 use independent::bits::Field;
 use independent::farm1::Farm1;
@@ -13,10 +14,21 @@ use independent::frame::{
 /// Settings within or beyond their limits.
 #[derive(Clone, Copy, Debug)]
 pub struct Start {
-    pub spacecraft: u16,
-    pub channel: u8,
+    pub spacecraft: u32,
+    pub channel: u32,
     /// W, V(R), buffers.
-    pub variables: [u8; 3],
+    pub variables: [u32; 3],
+}
+
+/// Settings, of which one is too wide for an octet, or two.
+pub fn fixed_starts() -> Vec<Start> {
+    let start = |[spacecraft, channel, window, vr, buffers]: [u32; 5]| Start {
+        spacecraft,
+        channel,
+        variables: [window, vr, buffers],
+    };
+    let all = each_too_wide([33, 3, 20, 4, 2]);
+    all.into_iter().map(start).collect()
 }
 
 pub fn start(random: &mut Random) -> Start {
@@ -26,19 +38,26 @@ pub fn start(random: &mut Random) -> Start {
         _ => random.between(1, 127),
     };
     let mut start = Start {
-        spacecraft: random.between(0, 1023) as u16,
-        channel: random.between(0, 63) as u8,
+        spacecraft: random.between(0, 1023) as u32,
+        channel: random.between(0, 63) as u32,
         variables: [
-            2 * half_window as u8,
-            random.number() as u8,
-            random.between(1, 8) as u8,
+            2 * half_window as u32,
+            random.between(0, 255) as u32,
+            random.between(1, 8) as u32,
         ],
     };
-    match random.below(8) {
+    match random.below(16) {
         0 => start.spacecraft = *random.pick(&[0, 1023, 1024, 65_535]),
         1 => start.channel = *random.pick(&[0, 63, 64, 255]),
         2 => start.variables[0] = *random.pick(&[0, 1, 2, 3, 253, 254, 255]),
         3 => start.variables[2] = *random.pick(&[0, 1, 8, 9, 255]),
+        4 => start.variables[1] = *random.pick(&[0, 255, 256, 257]),
+        5 => start.spacecraft = too_wide(random, start.spacecraft),
+        6 => start.channel = too_wide(random, start.channel),
+        7 => {
+            let place = random.below(3);
+            start.variables[place] = too_wide(random, start.variables[place]);
+        }
         _ => (),
     }
     start
@@ -49,8 +68,8 @@ pub fn frame(
     random: &mut Random,
     harm: usize,
     farm: &Farm1,
-    spacecraft: u16,
-    channel: u8,
+    spacecraft: u32,
+    channel: u32,
 ) -> Vec<u8> {
     if random.once_in(40) {
         return for_the_reader(random).octets;
@@ -80,13 +99,13 @@ fn content(random: &mut Random, harm: usize, farm: &Farm1) -> Content {
         2 => Content::Unlock,
         3 => Content::SetVr {
             value: match random.below(3) {
-                0 => random.number() as u8,
-                1 => farm.v_r,
-                _ => farm.beyond_v_r(random.between(1, 5)),
+                0 => random.between(0, 255) as u32,
+                1 => farm.v_r.into(),
+                _ => farm.beyond_v_r(random.between(1, 5)).into(),
             },
         },
         _ => Content::Ad {
-            number: farm.beyond_v_r(distance(random, harm, farm)),
+            number: farm.beyond_v_r(distance(random, harm, farm)).into(),
             unit: random.octets(length),
         },
     }

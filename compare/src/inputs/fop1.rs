@@ -1,5 +1,6 @@
 //! Random runs of a sender: what it starts with, and its events.
 
+use super::{each_too_wide, too_wide};
 use crate::library::{SenderEvent, SenderSettings};
 use crate::octets::SENDER_STATE;
 use crate::random::Random;
@@ -8,6 +9,26 @@ use independent::clcw::{self, NO_BIT_LOCK_FLAG, NO_RF_AVAILABLE_FLAG, STATUS_FIE
 use independent::fault::Fault;
 use independent::fop1::{Sender, STORE, UNIT_MOST};
 use independent::table_7_8::State;
+
+/// Settings, of which one is too wide for an octet, or two.
+pub fn fixed_settings() -> Vec<SenderSettings> {
+    let good = [2, 9, 5, 0, 33, 3, 4, 4];
+    let settings = |numbers: [u32; 8]| {
+        let [k, t1_initial, transmission_limit, timeout_type, spacecraft, channel, vs, nnr] =
+            numbers;
+        SenderSettings {
+            k,
+            t1_initial,
+            transmission_limit,
+            timeout_type,
+            spacecraft,
+            channel,
+            vs,
+            nnr,
+        }
+    };
+    each_too_wide(good).into_iter().map(settings).collect()
+}
 
 /// Settings, store and the room for a state, some of them beyond their limits.
 pub fn start(random: &mut Random) -> (SenderSettings, Vec<u8>, Vec<u8>) {
@@ -45,38 +66,58 @@ fn settings(random: &mut Random) -> SenderSettings {
     };
     SenderSettings {
         k: match random.below(3) {
-            0 => random.between(1, 3) as u8,
+            0 => random.between(1, 3) as u32,
             1 => 32,
-            _ => random.between(1, 32) as u8,
+            _ => random.between(1, 32) as u32,
         },
         t1_initial: match random.below(4) {
-            0 => random.between(1, 3) as u16,
-            1 => random.between(1, 65_535) as u16,
-            _ => random.between(1, 60) as u16,
+            0 => random.between(1, 3) as u32,
+            1 => random.between(1, 65_535) as u32,
+            _ => random.between(1, 60) as u32,
         },
         transmission_limit: match random.below(6) {
             0 => 1,
-            1 | 2 => random.between(2, 4) as u8,
-            _ => random.between(1, 255) as u8,
+            1 | 2 => random.between(2, 4) as u32,
+            _ => random.between(1, 255) as u32,
         },
-        spacecraft: random.between(0, 1023) as u16,
-        channel: random.between(0, 63) as u8,
-        vs: nnr.wrapping_add(ahead),
-        nnr,
+        timeout_type: 0,
+        spacecraft: random.between(0, 1023) as u32,
+        channel: random.between(0, 63) as u32,
+        vs: nnr.wrapping_add(ahead).into(),
+        nnr: nnr.into(),
     }
 }
 
 /// One setting at or beyond its limit.
 fn spoil(random: &mut Random, settings: &mut SenderSettings) {
-    match random.below(7) {
+    let ahead = *random.pick(&[32, 33, 128, 255]);
+    match random.below(10) {
         0 => settings.k = *random.pick(&[0, 1, 32, 33, 34, 128, 255]),
-        1 => settings.t1_initial = *random.pick(&[0, 1, 256, 65_535]),
-        2 => settings.transmission_limit = *random.pick(&[0, 1, 255]),
+        1 => settings.t1_initial = *random.pick(&[0, 1, 256, 65_535, 65_536]),
+        2 => settings.transmission_limit = *random.pick(&[0, 1, 255, 256]),
         3 => settings.spacecraft = *random.pick(&[0, 1023, 1024, 32_768, 65_535]),
         4 => settings.channel = *random.pick(&[0, 63, 64, 128, 255]),
-        5 => settings.vs = settings.nnr.wrapping_add(*random.pick(&[32, 33, 128, 255])),
-        _ => settings.vs = random.number() as u8,
+        5 => settings.vs = (settings.nnr + ahead) % 256,
+        6 => settings.vs = random.between(0, 255) as u32,
+        7 => settings.timeout_type = *random.pick(&[0, 1, 2, 255]),
+        _ => spoil_width(random, settings),
     }
+}
+
+/// One setting that an octet, or two, could not hold.
+fn spoil_width(random: &mut Random, settings: &mut SenderSettings) {
+    let mut all = [
+        &mut settings.k,
+        &mut settings.t1_initial,
+        &mut settings.transmission_limit,
+        &mut settings.timeout_type,
+        &mut settings.spacecraft,
+        &mut settings.channel,
+        &mut settings.vs,
+        &mut settings.nnr,
+    ];
+    let setting = &mut all[random.below(8)];
+    **setting = too_wide(random, **setting);
 }
 
 /// What a run is like.
@@ -147,7 +188,13 @@ pub fn event(random: &mut Random, manner: &Manner, sender: &Sender) -> SenderEve
         4 => lower(random, manner, 1),
         5 => lower(random, manner, 3),
         6 => lower(random, manner, 5),
-        7 => SenderEvent::LowerLayer(*random.pick(&[0, 7, 8, 128, 255])),
+        7 => SenderEvent::LowerLayer(match random.below(2) {
+            0 => *random.pick(&[0, 7, 8, 128, 255]),
+            _ => {
+                let good = random.between(1, 6) as u32;
+                too_wide(random, good)
+            }
+        }),
         _ => SenderEvent::ControlWord(word(random, manner, sender)),
     }
 }
@@ -165,7 +212,7 @@ fn unit(random: &mut Random, manner: &Manner) -> Vec<u8> {
 }
 
 /// An accept by its number, or the reject that follows it.
-fn lower(random: &mut Random, manner: &Manner, accept: u8) -> SenderEvent {
+fn lower(random: &mut Random, manner: &Manner, accept: u32) -> SenderEvent {
     match random.once_in(4 * manner.harm) {
         true => SenderEvent::LowerLayer(accept + 1),
         false => SenderEvent::LowerLayer(accept),
@@ -216,15 +263,15 @@ fn word(random: &mut Random, manner: &Manner, sender: &Sender) -> Vec<u8> {
     };
     let report = clcw::Report {
         channel: match random.below(40) {
-            0 => random.between(0, 63) as u8,
+            0 => random.between(0, 63) as u32,
             1 => sender.channel ^ 1,
             _ => sender.channel,
         },
-        lockout: flags & 4,
-        wait: flags & 2,
-        retransmit: flags & 1,
-        counter: random.below(4) as u8,
-        value: sender.nn_r.wrapping_add(beyond),
+        lockout: (flags & 4).into(),
+        wait: (flags & 2).into(),
+        retransmit: (flags & 1).into(),
+        counter: random.below(4) as u32,
+        value: sender.nn_r.wrapping_add(beyond).into(),
     };
     let mut word = clcw::encode(&report, Fault::None);
     if random.once_in(4) {

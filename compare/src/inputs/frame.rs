@@ -1,6 +1,6 @@
 //! Inputs to the frame reader, and addresses for the writer.
 
-use super::{any_of, noise, Kind};
+use super::{any_of, noise, too_wide, Kind};
 use crate::random::Random;
 use independent::bits::{self, Field};
 use independent::fault::Fault;
@@ -14,8 +14,8 @@ use independent::frame::{
 #[derive(Clone)]
 pub struct Input {
     pub octets: Vec<u8>,
-    pub spacecraft: u16,
-    pub channel: u8,
+    pub spacecraft: u32,
+    pub channel: u32,
 }
 
 /// The octets with their FECF: a frame where they are one without it.
@@ -48,30 +48,32 @@ fn taken(octets: &[u8], field: Field) -> usize {
 }
 
 /// An address within the limits: document 01, Limits.
-fn address(random: &mut Random) -> (u16, u8) {
+fn address(random: &mut Random) -> (u32, u32) {
     let spacecraft = match random.below(6) {
         0 => *random.pick(&[0, 1, 1023]),
-        _ => random.between(0, 1023) as u16,
+        _ => random.between(0, 1023) as u32,
     };
     let channel = match random.below(6) {
         0 => *random.pick(&[0, 63]),
-        _ => random.between(0, 63) as u8,
+        _ => random.between(0, 63) as u32,
     };
     (spacecraft, channel)
 }
 
 /// An address within, at or beyond the limits.
-pub fn any_address(random: &mut Random) -> (u16, u8) {
+pub fn any_address(random: &mut Random) -> (u32, u32) {
     let (mut spacecraft, mut channel) = address(random);
     match random.below(16) {
         0 => spacecraft = *random.pick(&[0, 1, 1023, 1024, 65_535]),
         1 => channel = *random.pick(&[0, 63, 64, 255]),
-        2 => spacecraft = random.between(1024, 65_535) as u16,
-        3 => channel = random.between(64, 255) as u8,
+        2 => spacecraft = random.between(1024, 65_535) as u32,
+        3 => channel = random.between(64, 255) as u32,
         4 => {
             spacecraft = *random.pick(&[0, 1, 1023, 1024, 65_535]);
             channel = *random.pick(&[0, 63, 64, 255]);
         }
+        5 => spacecraft = too_wide(random, spacecraft),
+        6 => channel = too_wide(random, channel),
         _ => {}
     }
     (spacecraft, channel)
@@ -90,7 +92,7 @@ fn content(random: &mut Random) -> Content {
     let length = unit_length(random);
     match random.below(6) {
         0 | 1 => Content::Ad {
-            number: random.number() as u8,
+            number: random.between(0, 255) as u32,
             unit: random.octets(length),
         },
         2 | 3 => Content::Bd {
@@ -98,7 +100,7 @@ fn content(random: &mut Random) -> Content {
         },
         4 => Content::Unlock,
         _ => Content::SetVr {
-            value: random.number() as u8,
+            value: random.between(0, 255) as u32,
         },
     }
 }
@@ -168,13 +170,15 @@ fn other_address(random: &mut Random) -> Input {
 }
 
 fn break_address(input: &mut Input, random: &mut Random) {
-    match random.below(7) {
+    match random.below(9) {
         0 => input.spacecraft ^= 1 << random.below(10),
         1 => input.channel ^= 1 << random.below(6),
-        2 => input.spacecraft += 1024 * random.between(1, 63) as u16,
-        3 => input.channel += 64 * random.between(1, 3) as u8,
-        4 => input.spacecraft = random.number() as u16,
-        5 => input.channel = random.number() as u8,
+        2 => input.spacecraft += 1024 * random.between(1, 63) as u32,
+        3 => input.channel += 64 * random.between(1, 3) as u32,
+        4 => input.spacecraft = random.number() as u32,
+        5 => input.channel = random.number() as u32,
+        6 => input.spacecraft = too_wide(random, input.spacecraft),
+        7 => input.channel = too_wide(random, input.channel),
         _ => (input.spacecraft, input.channel) = any_address(random),
     }
 }
@@ -250,6 +254,7 @@ fn wrong_command(random: &mut Random) -> Input {
         }
         // One bit of a command flipped, which can be one of the value.
         _ => {
+            let value = value.into();
             let commands = [Content::Unlock, Content::SetVr { value }];
             let mut data = random.pick(&commands).data();
             random.flip_a_bit(&mut data);
@@ -271,7 +276,7 @@ fn numbered_type_b(random: &mut Random) -> Input {
         },
         Content::Unlock,
         Content::SetVr {
-            value: random.number() as u8,
+            value: random.between(0, 255) as u32,
         },
     ];
     let mut input = sent(random.pick(&contents), random);
@@ -319,7 +324,7 @@ fn too_long(random: &mut Random) -> Input {
         _ => random.between(250, 300),
     };
     let unit = random.octets(length);
-    let number = random.number() as u8;
+    let number = random.between(0, 255) as u32;
     let contents = [
         Content::Bd { unit: unit.clone() },
         Content::Ad { number, unit },
@@ -411,8 +416,8 @@ fn noise_with_a_header(random: &mut Random) -> Input {
         any_address(random)
     } else {
         (
-            taken(&octets, SPACECRAFT_IDENTIFIER) as u16,
-            taken(&octets, VIRTUAL_CHANNEL_IDENTIFIER) as u8,
+            taken(&octets, SPACECRAFT_IDENTIFIER) as u32,
+            taken(&octets, VIRTUAL_CHANNEL_IDENTIFIER) as u32,
         )
     };
     Input {

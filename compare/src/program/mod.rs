@@ -12,13 +12,14 @@ use independent::fault::{Fault, PROGRAM_FAULTS};
 use independent::program::{answers, lines, output};
 use met::Met;
 use process::{Ended, Feed};
-use std::io;
+use std::io::{self, Read, Write};
 use std::path::PathBuf;
 use std::process::ExitCode;
 
 pub const USAGE: &str = "       compare --program [RUNS] [--seed N] [--fault NAME]
        compare --program --lines LINES [--seed N] [--fault NAME]
-       compare --program --faults";
+       compare --program --faults
+       compare --program --independent < INPUT";
 
 /// Document 01, The program: the example, whole, with spaces for tabs.
 const EXAMPLE: &str = "SET 20 250 1\nAD 250\nAD 252\nAD 251\nUNLOCK\nAD 250\nAD 10\n";
@@ -30,6 +31,10 @@ E7 S1 251 000 1
 E4 S1 251 000 1
 E5 S3 251 100 1
 ";
+
+/// The input that is stored with the program, and its output: --independent wrote it.
+const STORED: &[u8] = include_bytes!("../../../crates/farm1/stdin");
+const STORED_OUTPUT: &[u8] = include_bytes!("../../../crates/farm1/stdout");
 
 /// So many runs where the command line says no number.
 const RUNS: u64 = 400;
@@ -83,6 +88,9 @@ pub fn main(words: &[String]) -> ExitCode {
         print_names(PROGRAM_FAULTS.iter().map(|fault| fault.0));
         return ExitCode::from(0);
     }
+    if words == ["--independent"] {
+        return write_independent();
+    }
     let Some(task) = read_task(words) else {
         eprintln!("usage:\n{USAGE}");
         return ExitCode::from(2);
@@ -98,6 +106,14 @@ pub fn main(words: &[String]) -> ExitCode {
             ExitCode::from(4)
         }
     }
+}
+
+/// Writes what the independent program answers to the standard input.
+fn write_independent() -> ExitCode {
+    let mut text = Vec::new();
+    let read = io::stdin().read_to_end(&mut text);
+    let written = read.and_then(|_| io::stdout().write_all(&output(&answers(&text, Fault::None))));
+    ExitCode::from(if written.is_ok() { 0 } else { 4 })
 }
 
 fn read_task(words: &[String]) -> Option<Task> {
@@ -128,7 +144,7 @@ fn compare(task: &Task) -> io::Result<ExitCode> {
     let mut random = Random::new(task.settings.seed);
     let mut met = Met::new();
     let mut kinds = [
-        Kind::new("example"),
+        Kind::new("example and stored input"),
         Kind::new("windows"),
         Kind::new("texts"),
         Kind::new("random runs"),
@@ -172,7 +188,8 @@ fn compare(task: &Task) -> io::Result<ExitCode> {
     Ok(report(&kinds, &met))
 }
 
-/// The example with and without its last newline, at once and octet by octet.
+/// The example with and without its last newline, at once and octet by octet; and the
+/// stored input, which takes several reads.
 fn example_runs() -> Vec<Run> {
     let text = EXAMPLE.replace(' ', "\t").into_bytes();
     let mut runs = Vec::new();
@@ -185,6 +202,10 @@ fn example_runs() -> Vec<Run> {
             });
         }
     }
+    runs.push(Run {
+        paper: Some(STORED_OUTPUT.to_vec()),
+        ..Run::whole(STORED.to_vec())
+    });
     runs
 }
 

@@ -1,8 +1,7 @@
 //! Two ends and a link that loses frames and control words.
 
-use pondreszi::frame::{self, Kind};
 use pondreszi::{
-    clcw, cltu, Answer, Directive, LowerLayer, Receiver, ReceiverSettings, Response, Run, Sender,
+    clcw, cltu, frame, Answer, Directive, Receiver, ReceiverSettings, Response, Run, Sender,
     SenderSettings, SenderState, Unit,
 };
 
@@ -49,6 +48,7 @@ impl Link {
             k: 8,
             t1_initial: 3,
             transmission_limit: 3,
+            timeout_type: 0,
             spacecraft: SPACECRAFT,
             channel: CHANNEL,
             vs: FIRST,
@@ -114,14 +114,10 @@ impl Link {
         loop {
             self.note(&answer);
             let Some(frame) = answer.frame else { break };
-            let kind = frame::read(&frame, SPACECRAFT, CHANNEL).unwrap().kind;
-            self.carry(&frame);
-            let accept = match kind {
-                Kind::Ad { .. } => LowerLayer::AdAccept,
-                Kind::Bd => LowerLayer::BdAccept,
-                Kind::Unlock | Kind::SetVr { .. } => LowerLayer::BcAccept,
-            };
-            answer = self.sender.lower_layer(accept).unwrap();
+            let read = frame::read(&frame.octets, SPACECRAFT, CHANNEL).unwrap();
+            assert_eq!(read.kind, frame.kind);
+            self.carry(&frame.octets);
+            answer = self.sender.lower_layer(frame.kind.accept()).unwrap();
         }
     }
 
