@@ -281,8 +281,8 @@ static int tick(void) {
 }
 
 /*
- * docs/OPERATIONS.md, "After an alert". Once no frame is under way that could still change V(R), a control word tells it. The units
- * numbered before V(R) were accepted on board, the others were not: V(S) becomes V(R), and those go again. Flags that still stand would
+ * docs/OPERATIONS.md, "Before the service begins again" and "After an alert". Once no frame is under way any more, a control word that is
+ * made then tells V(R). The units numbered before V(R) were accepted on board, the others were not: V(S) becomes V(R), and those go again. Flags that still stand would
  * end the CLCW check with an alert, so Unlock takes them down.
  */
 static void recover(void) {

@@ -293,7 +293,8 @@ uint8_t pondreszi_receiver_word(const uint8_t *state, size_t state_len, uint8_t 
  *   6 Transmission_Limit               0 stopped          21 the value of Set V(R)
  *   7 Timeout_Type, 0 for now    15 Transmission_Count    22-87 the lengths of the 33 places of the store, two octets each
  *
- * Every call but pondreszi_sender_new wants exactly 88 octets of a state, otherwise 12.
+ * Every call but pondreszi_sender_new wants exactly 88 octets of a state, otherwise 12. The length of a place that holds no unit is left
+ * from before, so two states can mean the same and differ in octets 22 to 87: compare what they mean, not their octets.
  *
  * The store, at least 8,217 octets, holds the units at a stride of 249 octets: those on the sent queue, the oldest first, and directly
  * behind them the unit that waits. It is part of the state: lend the same one at every call, write nothing into its first 8,217 octets,
@@ -350,7 +351,8 @@ enum pondreszi_sender_flag {
  *   6 enum pondreszi_alert
  *
  * The kind tells which accept or reject of the lower layer answers the frame: that of AD, of BD, or of BC for Unlock and Set V(R).
- * A confirmed unit was accepted on board. Of a denied one this is not known: see docs/OPERATIONS.md for what to do after an alert.
+ * A confirmed unit was accepted on board. Of a denied one this is not known, and its frame may still be under way: see
+ * enum pondreszi_directive for what must be waited for before the service begins again.
  */
 enum pondreszi_answer_octet {
     PONDRESZI_ANSWER_REFUSAL = 0,
@@ -400,7 +402,13 @@ enum pondreszi_response {
     PONDRESZI_RESPONSE_DENY_DIRECTIVE = 8     /* failed: negative confirm */
 };
 
-/* The directives by number. A value that a directive has no use for is not looked at. */
+/*
+ * The directives by number. A value that a directive has no use for is not looked at.
+ *
+ * Before SET_VS and before every INITIATE after the first: no AD or BC frame is under way any more, and a control word has come in that was
+ * made after that. Otherwise an old unit can be accepted on board under the number of a new one, and the new one be confirmed.
+ * docs/OPERATIONS.md, "Before the service begins again", says why and how a ground station knows it.
+ */
 enum pondreszi_directive {
     PONDRESZI_INITIATE_WITHOUT_CHECK = 1,
     PONDRESZI_INITIATE_WITH_CLCW_CHECK = 2,
@@ -431,8 +439,8 @@ enum pondreszi_lower_layer {
 /*
  * A sender at its start: Initial, queues empty, flags Ready, timer stopped. The state's first 88 octets are written; of the store only
  * the length matters. V(S) will be the number of the first AD unit; give NN(R) the same. Initiate before the first AD unit.
- * timeout_type: 0 only, for now.
- * Refusals: 12 a value outside its limit or V(S) - NN(R) over 32; 11 store under 8,217 octets, or state's buffer under 88.
+ * Any two numbers are taken; where V(S) - NN(R) is K or more, AD units wait. timeout_type: 0 only, for now.
+ * Refusals: 12 a value outside its limit; 11 store under 8,217 octets, or state's buffer under 88.
  */
 uint8_t pondreszi_sender_new(uint32_t k, uint32_t t1_initial, uint32_t transmission_limit, uint32_t timeout_type, uint32_t spacecraft,
                              uint32_t channel, uint32_t vs, uint32_t nnr, const uint8_t *store, size_t store_len, uint8_t *state,

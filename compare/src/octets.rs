@@ -149,10 +149,10 @@ impl SenderState {
             && u32::from(self.channel) <= CHANNEL_MOST
     }
 
-    /// No more units are sent than V(S) - NN(R), none in Initial.
+    /// No more units are sent than V(S) - NN(R) and the largest K, none in Initial.
     fn numbers_hold(&self) -> bool {
         let unacknowledged = self.v_s.wrapping_sub(self.nn_r) as usize;
-        unacknowledged <= K_MOST
+        self.marks.len() <= K_MOST
             && self.marks.len() <= unacknowledged
             && (self.marks.is_empty() || self.state != 6)
             && self.transmission_count >= 1

@@ -28,7 +28,7 @@ pub struct SenderSettings {
     pub channel: u8,
     /// V(S), the number of the first AD unit.
     pub vs: u8,
-    /// NN(R), as a rule the same; V(S) - NN(R) is at most 32.
+    /// NN(R): give the same number as V(S). Where V(S) - NN(R) is K or more, AD units wait.
     pub nnr: u8,
 }
 
@@ -51,6 +51,12 @@ numbered! {
 }
 
 /// The directives of table 7-3.
+///
+/// Before `SetVs` and before every Initiate after the first: no AD or BC frame is under way any
+/// more, and a control word has come in that was made after that. Otherwise an old unit can be
+/// accepted on board under the number of a new one, and the new one be confirmed.
+/// docs/OPERATIONS.md, "Before the service begins again", says why and how a ground station
+/// knows it.
 #[derive(Clone, Copy, PartialEq, Eq, Debug)]
 pub enum Directive {
     /// Initiate AD service without CLCW check.

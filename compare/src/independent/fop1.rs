@@ -208,9 +208,7 @@ impl Sender {
             && (TIMER_LEAST..=TIMER_MOST).contains(&settings.t1_initial)
             && (LIMIT_LEAST..=LIMIT_MOST).contains(&settings.transmission_limit)
             && settings.timeout_type == TIMEOUT_TYPE_ALERT;
-        // So many could not be outstanding.
-        let (v_s, nn_r) = (settings.v_s as u8, settings.nn_r as u8);
-        if !within_limits || distance(v_s, nn_r) as usize > K_MOST {
+        if !within_limits {
             return Err(SETTING);
         }
         if store < STORE {
@@ -220,13 +218,13 @@ impl Sender {
             spacecraft: settings.spacecraft as u32,
             channel: settings.channel as u32,
             state: State::S6,
-            v_s,
+            v_s: settings.v_s as u8,
             wait_queue: None,
             sent_queue: Vec::new(),
             ad_out_ready: true,
             bc_out_ready: true,
             bd_out_ready: true,
-            nn_r,
+            nn_r: settings.nn_r as u8,
             t1_initial: settings.t1_initial as u16,
             timer: 0,
             transmission_limit: settings.transmission_limit as u8,

@@ -479,7 +479,7 @@ fn assert_well_formed(sender: &Sender) {
     let q = sender.unacknowledged();
     let queue = &sender.sent_queue;
     let initialising = sender.state == S5;
-    assert!(q as usize <= K_MOST);
+    assert!(queue.len() <= K_MOST);
     assert!(sender.transmission_count >= 1);
     assert!(sender.suspend_state == 0 && sender.timeout_type == 0);
     if initialising {

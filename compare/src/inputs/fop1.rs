@@ -61,7 +61,7 @@ fn settings(random: &mut Random) -> SenderSettings {
     };
     let ahead = match random.below(4) {
         0 => random.between(0, 32) as u8,
-        1 => *random.pick(&[1, 31, 32]),
+        1 => *random.pick(&[1, 31, 32, 33, 127, 128, 254, 255]),
         _ => 0,
     };
     SenderSettings {

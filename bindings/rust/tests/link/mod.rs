@@ -134,8 +134,9 @@ impl Link {
         }
     }
 
-    /// docs/OPERATIONS.md, "After an alert": V(S) becomes V(R); the units numbered before it
-    /// were accepted, the others are offered again.
+    /// docs/OPERATIONS.md, "After an alert". The link holds nothing back, so the rule of "Before
+    /// the service begins again" is met: V(S) becomes V(R); the units numbered before it were
+    /// accepted, the others are offered again.
     fn recover(&mut self) {
         let word = clcw::read(&self.receiver.word(), CHANNEL).unwrap();
         let word = word.unwrap().word;
