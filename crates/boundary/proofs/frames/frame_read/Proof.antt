@@ -22,12 +22,12 @@ enum-known-reading-2 c = search needs
 returns : tie.Need-returns
 returns c =
     let r = c .before .before .before in
-    let e = sym (r .reading .given .1) ∙ r .before .before .read .ensures in
+    let e = sym (r .reading .given .1) ∙ r .before .before .read .ensures .0 in
     rw (← e) (refl, (c .before .kind-number .ensures, (c .kind-value .ensures, (refl, refl))))
 
 returns-2 : tie.Need-returns-2
 returns-2 c =
-    let e = sym (c .before .reading2 .given .1) ∙ c .before .before .before .read .ensures in
+    let e = sym (c .before .reading2 .given .1) ∙ c .before .before .before .read .ensures .0 in
     rw (← e) (refl, (refl, (refl, (refl, refl))))
 
 pub frame-read-spec : {M : Type 1} → statement M

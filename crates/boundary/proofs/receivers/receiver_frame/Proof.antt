@@ -22,7 +22,7 @@ returns : tie.Need-returns
 returns c =
     let r = c .before .before in
     let a = r .before .before .before .before .args in
-    rw (frame-refused (now (a .state)) (r .restore .ensures) (c .enum-told .given .1) (now (a .frame)))
+    rw (frame-refused (now (a .state)) (r .restore .ensures .0) (c .enum-told .given .1) (now (a .frame)))
     (refl, (refl, (refl, (refl, (refl, refl)))))
 
 receive-requires : tie.Need-receive-requires
@@ -58,8 +58,8 @@ returns-2 c =
     let s = m .before .before in
     let r = s .before .before in
     let a = r .before .before .before .before .args in
-    let z = k .keep .ensures ∙ kept-whole (now (a .state)) (r .restore .ensures) (s .start .given .1) (m .receive .result .next) in
-    rw (frame-met (now (a .state)) (r .restore .ensures) (s .start .given .1) (now (a .frame)) (m .receive .ensures))
+    let z = k .keep .ensures ∙ kept-whole (now (a .state)) (r .restore .ensures .0) (s .start .given .1) (m .receive .result .next) in
+    rw (frame-met (now (a .state)) (r .restore .ensures .0) (s .start .given .1) (now (a .frame)) (m .receive .ensures))
     (refl, (q .before .event-number .ensures, (q .unit-number .ensures, (p .unit-place .ensures, (unit-length _ _ (m .receive .ensures) (n .unit-count .ensures), z)))))
 
 pub receiver-frame-spec : {M : Type 1} → statement M

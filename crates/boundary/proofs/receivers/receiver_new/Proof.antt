@@ -19,14 +19,14 @@ returns : tie.Need-returns
 returns c =
     let n = c .before .before in
     let a = n .before .before .args in
-    rw (new-setting (a .spacecraft) (a .channel) (a .window) (a .vr) (a .buffers) (now (a .state)) (n .new .ensures) (c .enum-told .given .1)) (refl, refl)
+    rw (new-setting (a .spacecraft) (a .channel) (a .window) (a .vr) (a .buffers) (now (a .state)) (n .new .ensures .0) (c .enum-told .given .1)) (refl, refl)
 
 returns-2 : tie.Need-returns-2
 returns-2 c =
     let s = c .before .before in
     let n = s .before .before in
     let a = n .before .before .args in
-    rw (new-short (a .spacecraft) (a .channel) (a .window) (a .vr) (a .buffers) (now (a .state)) (n .new .ensures) (s .start .given .1) (search needs)) (refl, refl)
+    rw (new-short (a .spacecraft) (a .channel) (a .window) (a .vr) (a .buffers) (now (a .state)) (n .new .ensures .0) (s .start .given .1) (search needs)) (refl, refl)
 
 keep-requires : tie.Need-keep-requires
 keep-requires c κs = search needs
@@ -39,7 +39,7 @@ returns-3 c =
     let s = c .before .before .before .before .before .before in
     let n = s .before .before in
     let a = n .before .before .args in
-    rw (new-kept (a .spacecraft) (a .channel) (a .window) (a .vr) (a .buffers) (now (a .state)) (n .new .ensures) (s .start .given .1) (search needs))
+    rw (new-kept (a .spacecraft) (a .channel) (a .window) (a .vr) (a .buffers) (now (a .state)) (n .new .ensures .0) (s .start .given .1) (search needs))
     (refl, c .before .before .keep .ensures)
 
 pub receiver-new-spec : {M : Type 1} → statement M

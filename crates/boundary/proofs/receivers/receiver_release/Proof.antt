@@ -24,7 +24,7 @@ returns : tie.Need-returns
 returns c =
     let r = c .before .before in
     let a = r .before .before .before .args in
-    rw (release-refused (now (a .state)) (r .restore .ensures) (c .enum-told .given .1)) (refl, (refl, refl))
+    rw (release-refused (now (a .state)) (r .restore .ensures .0) (c .enum-told .given .1)) (refl, (refl, refl))
 
 release-requires : tie.Need-release-requires
 release-requires c κs = search needs
@@ -44,7 +44,7 @@ returns-2 c =
     let s = l .before .before in
     let r = s .before .before in
     let a = r .before .before .before .args in
-    let e = release-met (now (a .state)) (r .restore .ensures) (s .start .given .1) (l .release .result) (l .release .ensures) in
+    let e = release-met (now (a .state)) (r .restore .ensures .0) (s .start .given .1) (l .release .result) (l .release .ensures .0) in
     rw (e ∙ ap (λ (x : Released). releasedBy x (now (a .state))) (c .enum-told2 .given .1)) (refl, (refl, refl))
 
 event-number-requires : tie.Need-event-number-requires
@@ -64,9 +64,9 @@ returns-3 c =
     let s = l .before .before in
     let r = s .before .before in
     let a = r .before .before .before .args in
-    let e = release-met (now (a .state)) (r .restore .ensures) (s .start .given .1) (l .release .result) (l .release .ensures) in
+    let e = release-met (now (a .state)) (r .restore .ensures .0) (s .start .given .1) (l .release .result) (l .release .ensures .0) in
     rw (e ∙ ap (λ (x : Released). releasedBy x (now (a .state))) (d .released .given .1))
-    (refl, (k .before .before .event-number .ensures, k .keep .ensures ∙ kept-whole (now (a .state)) (r .restore .ensures) (s .start .given .1) _))
+    (refl, (k .before .before .event-number .ensures, k .keep .ensures ∙ kept-whole (now (a .state)) (r .restore .ensures .0) (s .start .given .1) _))
 
 pub receiver-release-spec : {M : Type 1} → statement M
 receiver-release-spec =

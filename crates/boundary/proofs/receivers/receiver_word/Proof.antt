@@ -21,7 +21,7 @@ returns : tie.Need-returns
 returns c =
     let r = c .before .before in
     let a = r .before .before .before .args in
-    rw (word-refused (now (a .state)) (r .restore .ensures) (c .enum-told .given .1) (length (now (a .output)))) (refl, (refl, refl))
+    rw (word-refused (now (a .state)) (r .restore .ensures .0) (c .enum-told .given .1) (length (now (a .output)))) (refl, (refl, refl))
 
 word-requires : tie.Need-word-requires
 word-requires c κs = search needs
@@ -38,7 +38,7 @@ returns-2 c =
     let s = w .before .before .before in
     let r = s .before .before in
     let a = r .before .before .before .args in
-    rw (word-met (now (a .state)) (r .restore .ensures) (s .start .given .1) (length (now (a .output)))) (told-by (w .word .ensures) (c .told .ensures))
+    rw (word-met (now (a .state)) (r .restore .ensures .0) (s .start .given .1) (length (now (a .output)))) (told-by (w .word .ensures) (c .told .ensures))
 
 pub receiver-word-spec : {M : Type 1} → statement M
 receiver-word-spec =

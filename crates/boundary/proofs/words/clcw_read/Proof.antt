@@ -25,22 +25,22 @@ enum-told-3 c = search needs
 returns : tie.Need-returns
 returns c =
     let r = c .before .before .before .before .before .before .before in
-    let e = sym (r .reading .given .1) ∙ r .before .before .read .ensures in
+    let e = sym (r .reading .given .1) ∙ r .before .before .read .ensures .0 in
     rw (← e) (refl, (refl, c .put-word .ensures))
 
 returns-2 : tie.Need-returns-2
 returns-2 c =
-    let e = sym (c .enum-told .given .1) ∙ c .before .before .read .ensures in
+    let e = sym (c .enum-told .given .1) ∙ c .before .before .read .ensures .0 in
     rw (← e) (refl, (refl, (refl, (refl, (refl, (refl, refl))))))
 
 returns-3 : tie.Need-returns-3
 returns-3 c =
-    let e = sym (c .enum-told2 .given .1) ∙ c .before .before .read .ensures in
+    let e = sym (c .enum-told2 .given .1) ∙ c .before .before .read .ensures .0 in
     rw (← e) (refl, (refl, (refl, (refl, (refl, (refl, refl))))))
 
 returns-4 : tie.Need-returns-4
 returns-4 c =
-    let e = sym (c .enum-told3 .given .1) ∙ c .before .before .read .ensures in
+    let e = sym (c .enum-told3 .given .1) ∙ c .before .before .read .ensures .0 in
     rw (← e) (refl, (refl, (refl, (refl, (refl, (refl, refl))))))
 
 pub clcw-read-spec : {M : Type 1} → statement M

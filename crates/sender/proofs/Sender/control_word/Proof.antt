@@ -51,7 +51,7 @@ returns c =
     let k = e .before .before .before in
     let d = k .before .before in
     let a = d .before .before .before .before .before .args in
-    word-served (a .octets .now) (a .self .fop) (a .store .now) (a .output .now) (d .read .ensures)
+    word-served (a .octets .now) (a .self .fop) (a .store .now) (a .output .now) (d .read .ensures .0)
     (k .reading .given .1) (e .word-event .ensures) (w .serve .ensures)
 
 same-length-3 : tie.Need-same-length-3
@@ -66,7 +66,7 @@ returns-2 c =
     let k = w .before .before .before in
     let d = k .before .before in
     let a = d .before .before .before .before .before .args in
-    reading-told (a .octets .now) (a .self .fop) (a .store .now) (a .output .now) (d .read .ensures)
+    reading-told (a .octets .now) (a .self .fop) (a .store .now) (a .output .now) (d .read .ensures .0)
     (k .enum-told .given .1) (w .serve2 .ensures)
 
 returns-3 : tie.Need-returns-3
@@ -74,7 +74,7 @@ returns-3 c =
     let k = c .before in
     let d = k .before .before in
     let a = d .before .before .before .before .before .args in
-    reading-told (a .octets .now) (a .self .fop) (a .store .now) (a .output .now) (d .read .ensures)
+    reading-told (a .octets .now) (a .self .fop) (a .store .now) (a .output .now) (d .read .ensures .0)
     (k .enum-told2 .given .1) (c .refused .ensures, (refl, refl))
 
 returns-4 : tie.Need-returns-4
@@ -82,7 +82,7 @@ returns-4 c =
     let k = c .before in
     let d = k .before .before in
     let a = d .before .before .before .before .before .args in
-    reading-told (a .octets .now) (a .self .fop) (a .store .now) (a .output .now) (d .read .ensures)
+    reading-told (a .octets .now) (a .self .fop) (a .store .now) (a .output .now) (d .read .ensures .0)
     (k .enum-told3 .given .1) (c .refused2 .ensures, (refl, refl))
 
 pub control-word-spec : {M : Type 1} → statement M
