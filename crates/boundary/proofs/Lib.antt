@@ -1,4 +1,5 @@
 pub mod Narrowed
+pub mod Numbering
 pub mod Told
 pub mod ReceiverCalls
 pub mod SenderCalls

@@ -6,6 +6,7 @@ pub mod receivers;
 pub mod senders;
 pub mod words;
 
+use crate::numbers::flag;
 use cltu::reader::CltuReading;
 use cltu::writer::CltuWritten;
 ghost use mathlib.Core.Path.{_≡_};
@@ -29,10 +30,7 @@ pub extern "C" fn pondreszi_codeblock_error_control(information: &[u8]) -> u8
 pub extern "C" fn pondreszi_codeblock_is_good(block: &[u8]) -> u8
     ensures { λ r. ⌜ r ≡ bitOf (isGood (judged (now (block .entry)))) ⌝ }
 {
-    if codeblock::is_good(block) {
-        return 1;
-    }
-    0
+    flag(codeblock::is_good(block))
 }
 
 #[no_mangle]

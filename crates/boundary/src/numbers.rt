@@ -1,7 +1,10 @@
 // Numbers come as 32 bits, and the crates behind take fewer. What does not fit is handed on as a number that they judge in the same way.
+// Flags go out as 1 or 0.
 use base::LARGEST_CHANNEL;
 use base::LARGEST_SPACECRAFT;
 ghost use mathlib.Core.Path.{_≡_};
+ghost use Prim.Native.Nat.{_≤_};
+ghost use Rattle.base.specs.Flags.{bitOf};
 ghost use Rattle.boundary.specs.Numbers.{largestOctet, largestPair, narrow, withNumber};
 
 // The largest number of one octet, and of two.
@@ -19,6 +22,14 @@ pub(crate) const NO_CHANNEL: u8 = LARGEST_CHANNEL + 1;
 
 // A value beyond the limits of W, buffers, FARM-B counter, K and Timeout_Type.
 pub(crate) const BEYOND: u8 = 255;
+
+// A flag as a number.
+pub(crate) fn flag(set: bool) -> u8
+    ensures number { λ r. ⌜ r ≡ bitOf set ⌝ }
+    ensures small { λ r. ⌜ r ≤ 1 ⌝ }
+{
+    if set { 1 } else { 0 }
+}
 
 // A number in eight bits; another where it does not fit.
 pub(crate) fn narrow_u8(number: u32, otherwise: u8) -> u8

@@ -8,10 +8,10 @@ use crate::numbers::narrow_u8;
 use crate::numbers::narrow_u16;
 use crate::words::told;
 use farm::AcceptedUnit;
-use farm::Event;
 use farm::Receiver;
 use farm::Released;
 use farm::Start;
+use farm::event_number;
 use farm::octets::STATE_OCTETS;
 ghost use mathlib.Core.Path.{_≡_};
 ghost use Prim.Native.Nat.{_≤_};
@@ -22,27 +22,7 @@ ghost use Rattle.frame.specs.Frame.{totalOf, dataField};
 ghost use Rattle.farm.specs.Kept.{octetsOf};
 ghost use Rattle.farm.specs.Receiver.{partFor};
 ghost use Rattle.farm.specs.declared.AcceptedUnit.the-variants.{None};
-ghost use Rattle.farm.specs.Table.{eventNumber};
 ghost use Rattle.boundary.specs.Receivers.{unitNumber, unitPlace, startGiven, newCall, frameCall, releaseCall, wordCall};
-
-// An event of table 7-9 by its number.
-fn event_number(event: Event) -> u8
-    ensures { λ r. ⌜ r ≡ eventNumber event ⌝ }
-{
-    match event {
-        Event::E1 => 1,
-        Event::E2 => 2,
-        Event::E3 => 3,
-        Event::E4 => 4,
-        Event::E5 => 5,
-        Event::E6 => 6,
-        Event::E7 => 7,
-        Event::E8 => 8,
-        Event::E9 => 9,
-        Event::E10 => 10,
-        Event::E11 => 11,
-    }
-}
 
 // The unit accepted as a number, and where it begins in the frame.
 fn unit_number(unit: AcceptedUnit) -> u8

@@ -1,6 +1,7 @@
 // Control words (clause 6.3). Flags cross as 1 or 0; any number but 0 given for a flag is taken as set.
 use crate::numbers::BEYOND;
 use crate::numbers::NO_CHANNEL;
+use crate::numbers::flag;
 use crate::numbers::narrow_u8;
 use crate::numbers::with_number;
 use clcw::Clcw;
@@ -8,10 +9,8 @@ use clcw::ReceivedWord;
 use clcw::WordReading;
 use clcw::WordWritten;
 ghost use mathlib.Core.Path.{_≡_};
-ghost use Prim.Native.Nat.{_≤_};
 ghost use lib.ListN.{length};
 ghost use Rattle.base.specs.Outcome.{answer, after, numberOf, countOf};
-ghost use Rattle.base.specs.Flags.{bitOf};
 ghost use Rattle.clcw.specs.Clcw.{writing};
 ghost use Rattle.clcw.specs.Answers.{writtenAnswer, readingOf, readingNumber};
 ghost use Rattle.boundary.specs.Numbers.{wordGiven, wordValid, wordField, statusTold, rfTold, flagsTold, counterTold, reportTold};
@@ -61,13 +60,6 @@ pub extern "C" fn pondreszi_clcw_write(
     };
     let written = word.write(output);
     told(written, count)
-}
-
-fn flag(set: bool) -> u8
-    ensures number { λ r. ⌜ r ≡ bitOf set ⌝ }
-    ensures small { λ r. ⌜ r ≤ 1 ⌝ }
-{
-    if set { 1 } else { 0 }
 }
 
 // A word that was read, by its fields as numbers.

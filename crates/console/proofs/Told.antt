@@ -1,15 +1,18 @@
 -- What the matches on a session, a line, a start or a release told picks the case of the definition.
 use mathlib.Core.Path.{_≡_, refl, sym, ap, _∙_}
 use mathlib.Core.List.{List, [], _∷_, _++_, append-assoc}
-use Prim.Native.Nat.{ℕ}
+use Prim.Native.Nat.{ℕ, _≤_}
+use native.Mathlib.Omega.{arith}
 use lib.ListN.{length}
 use Rattle.memory.specs.Placed.{placed}
-use Rattle.text.specs.Decimal.{decimal}
+use Rattle.text.specs.Decimal.{decimal, digitsBelow}
 use Rattle.text.specs.Fields.{tab, newline}
 use Rattle.farm.specs.declared.State.{State}
 use Rattle.farm.specs.declared.State.the-variants.{Open, Wait, Lockout}
 use Rattle.farm.specs.Receiver.{startOf, releaseOf}
+use Rattle.farm.specs.Table.{eventNumber}
 use Rattle.farm.specs.declared.Event.{Event}
+use Rattle.farm.specs.declared.Event.the-variants.{E1, E2, E3, E4, E5, E6, E7, E8, E9, E10, E11}
 use Rattle.farm.specs.declared.Variables.{Variables}
 use Rattle.farm.specs.declared.Receiver.{Receiver}
 use Rattle.farm.specs.declared.Received.{Received}
@@ -67,9 +70,25 @@ pub ruleset laters = (later-done, later-none, later-row, later-told)
 pub turn-told : (session session′ : Session) (line : Line) (x : Turn) → session ≡ session′ → x ≡ turnOf session′ line → x ≡ turnOf session line
 turn-told session session′ line x p h = h ∙ ap (λ (s : Session). turnOf s line) (sym p)
 
--- an event's name
-pub event-told : (e e′ : Event) (text : List ℕ) → e ≡ e′ → eventText e′ ≡ text → eventText e ≡ text
-event-told e e′ text p h = ap eventText p ∙ h
+-- an event's name is E and its number
+event-named : (e : Event) → (eventText e ≡ 0x45 ∷ decimal (eventNumber e)) × (eventNumber e ≤ 11)
+unfolding digitsBelow
+event-named E1 = (refl, omega arith)
+event-named E2 = (refl, omega arith)
+event-named E3 = (refl, omega arith)
+event-named E4 = (refl, omega arith)
+event-named E5 = (refl, omega arith)
+event-named E6 = (refl, omega arith)
+event-named E7 = (refl, omega arith)
+event-named E8 = (refl, omega arith)
+event-named E9 = (refl, omega arith)
+event-named E10 = (refl, omega arith)
+event-named E11 = (refl, omega arith)
+
+pub event-told : (e : Event) {r : ℕ} → r ≡ eventNumber e → (eventText e ≡ 0x45 ∷ decimal r) × (r ≤ 11)
+event-told e p =
+    let n = event-named e in
+    (n .0 ∙ ap (λ (x : ℕ). 0x45 ∷ decimal x) (sym p), omega (arith, n .1))
 
 -- a state's name and the end of its field
 pub state-told : (s s′ : State) (row out : List ℕ) (at : ℕ) → s ≡ s′ → out ≡ placed row at (stateText s′ ++ (tab ∷ [])) → out ≡ placed row at (stateText s ++ (tab ∷ []))

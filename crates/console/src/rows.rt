@@ -4,6 +4,7 @@ use crate::ROW_ROOM;
 use farm::Event;
 use farm::State;
 use farm::Variables;
+use farm::event_number;
 use text::NEWLINE;
 use text::NumberWritten;
 use text::TAB;
@@ -44,19 +45,7 @@ pub fn header(out: &mut [u8]) -> NumberWritten
 fn number_of(event: Event) -> u8
     ensures { λ r. ⌜ (eventText event ≡ 0x45 ∷ decimal r) × (r ≤ 11) ⌝ }
 {
-    match event {
-        Event::E1 => 1,
-        Event::E2 => 2,
-        Event::E3 => 3,
-        Event::E4 => 4,
-        Event::E5 => 5,
-        Event::E6 => 6,
-        Event::E7 => 7,
-        Event::E8 => 8,
-        Event::E9 => 9,
-        Event::E10 => 10,
-        Event::E11 => 11,
-    }
+    event_number(event)
 }
 
 fn flag(on: bool) -> u8

@@ -20,7 +20,7 @@ ghost use Rattle.clcw.specs.Clcw.{writing};
 ghost use Rattle.clcw.specs.Answers.{writtenAnswer};
 ghost use Rattle.frame.specs.Answers.{readingNumber};
 ghost use Rattle.farm.specs.declared.Event.the-variants.{E1, E2, E3, E5, E6, E7, E8, E9, E10};
-ghost use Rattle.farm.specs.Table.{stepOf};
+ghost use Rattle.farm.specs.Table.{eventNumber, stepOf};
 ghost use Rattle.farm.specs.Window.{notWait, adEvent};
 ghost use Rattle.farm.specs.Receiver.{startOf, startRefusal, startNumber, unitOf, answered, arrived, receiveOf, unitPart, releaseOf, releaseRefusal, releasedNumber, wordOf};
 
@@ -564,5 +564,24 @@ fn number_of(reading: FrameReading) -> u8
     match reading {
         FrameReading::Frame(_) => 0,
         FrameReading::Refused(number) => number,
+    }
+}
+
+// An event of table 7-9 by its number.
+pub fn event_number(event: Event) -> u8
+    ensures { λ r. ⌜ r ≡ eventNumber event ⌝ }
+{
+    match event {
+        Event::E1 => 1,
+        Event::E2 => 2,
+        Event::E3 => 3,
+        Event::E4 => 4,
+        Event::E5 => 5,
+        Event::E6 => 6,
+        Event::E7 => 7,
+        Event::E8 => 8,
+        Event::E9 => 9,
+        Event::E10 => 10,
+        Event::E11 => 11,
     }
 }
