@@ -4,6 +4,7 @@ use crate::numbers::NO_SPACECRAFT;
 use crate::numbers::narrow_u8;
 use crate::numbers::narrow_u16;
 use crate::numbers::with_number;
+use frame::FrameReading;
 use frame::Kind;
 use frame::writer::FrameWritten;
 ghost use mathlib.Core.Path.{_≡_};

@@ -1,0 +1,4 @@
+pub mod Receiver
+pub mod Responses
+pub mod Ways
+pub mod Directives

@@ -11,10 +11,10 @@ use Rattle.boundary.specs.Senders as sender
 use Rattle.boundary.specs.Receivers as receiver
 
 -- a call that left what was lent as it was
-pub record Unchanged (call : Called) (state store output : List ℕ) : Type 0 where
-  pub state : call .state ≡ state
-  pub store : call .store ≡ store
-  pub output : call .output ≡ output
+pub record Unchanged (call : Called) (oldState oldStore oldOutput : List ℕ) : Type 0 where
+  pub state : call .state ≡ oldState
+  pub store : call .store ≡ oldStore
+  pub output : call .output ≡ oldOutput
 
 -- by exported function
 pub record RefusedKeeps : Type 1 where
