@@ -20,10 +20,11 @@ use Rattle.clcw.specs.declared.ReceivedWord.{ReceivedWord}
 use Rattle.clcw.specs.declared.WordReading.{WordReading}
 use Rattle.clcw.specs.declared.WordReading.the-variants.{Word, Invalid, Address, Length as NotFour}
 
--- the largest number of one octet, and of two
+-- the largest number of one octet
 abbrev pub largestOctet : ℕ
 largestOctet = 255
 
+-- the largest number of two octets
 abbrev pub largestPair : ℕ
 largestPair = 65535
 
