@@ -1,0 +1,162 @@
+-- Demand 3 of the functions that C and Rust call: a caller's two ends are tied to the tables, so crate session's theorem holds of them. The premise
+-- can be met: what `pondreszi_sender_new` gives, told to initiate without check, begins a session, and what `pondreszi_receiver_new` gives is the
+-- receiver of its start.
+use Prim.Native.Nat.{ℕ, _%_, _≤_}
+use mathlib.Core.Path.{_≡_, refl, sym, ap, subst, _∙_}
+use mathlib.Core.Bool.{Bool, true}
+use mathlib.Core.List.{List, [], _∷_, _++_, append-nil}
+use native.Mathlib.Omega.{arith}
+use borrow.Author.Tests.{le-leb, eq-eqb}
+use lib.Dec.{leb, eqb}
+use lib.ListN.{length, drop, drop-of-length-le}
+use Rattle.base.specs.Choice.{must}
+use Rattle.base.specs.Limits.{largestSpacecraft, largestChannel}
+use Rattle.memory.specs.Placed.{placed}
+use Rattle.fop.specs.Limits.{largestK, largestNumber, largestTimer, largestTransmissionLimit}
+use Rattle.fop.specs.Events.{SenderEvent, directive}
+use Rattle.fop_actions.specs.declared.SenderState.{SenderState}
+use Rattle.fop_actions.specs.Start.{startOf}
+use Rattle.fop_view.specs.State.{Good}
+use Rattle.farm.specs.Kept as farm
+use Rattle.farm.specs.Receiver as farmStart
+use Rattle.farm.specs.declared.Start.{Start as FarmStart}
+use Rattle.farm.specs.declared.Start.the-variants.{Ready, Setting as FarmSetting}
+use Rattle.farm.proofs.Restored.{receiver-back}
+use Rattle.session.specs.Ends.{Settings, Within, Tied, startReceiver}
+use Rattle.session.proofs.Theorem.{demand3}
+use Rattle.session.proofs.Strong.{stronger-claims}
+use Rattle.sender.specs.declared.Start.{Start}
+use Rattle.sender.specs.Limits.{smallestStore}
+use Rattle.sender.specs.Start.{startingOf, settingsHold}
+use Rattle.sender_octets.specs.Kept.{stateOctets, octetsOf, stateIn, isState}
+use Rattle.sender_octets.proofs.Judged.{length-octets}
+use Rattle.boundary.specs.Senders as sender
+use Rattle.boundary.specs.Receivers as receiver
+use Rattle.ends.specs.Ours.{Held, stepOf, heldAfter, lentOutput, senderSettings, freshHeld, startHeld, reads, Begins}
+use Rattle.ends.proofs.Theorem.{fresh-good, fresh-begins, receiver-starts}
+use Rattle.boundary_ends.specs.Called.{Kept, callOf, keptAfter, heldIn, BeginsKept, called}
+use Rattle.boundary_ends.specs.Demand.{Demand3, StrongerCalled}
+use Rattle.boundary_ends.proofs.Receiver.{GoodReceiver, keeps-receiver, next-receiver, answer-receiver, word-receiver, start-good}
+use Rattle.boundary_ends.proofs.Sender.{placed-whole, GoodKept, octets-kept, held-is, keeps, next, answers}
+
+-- a caller's two ends are tied to the tables
+pub called-tied : (set : Settings) → Within set → (x : Kept) → BeginsKept set x → Tied set (called set x)
+called-tied set within x b = record {
+  fop = λ y. reads (heldIn y);
+  farm = farm.receiverIn;
+  Good = GoodKept (set .own);
+  GoodReceiver = GoodReceiver;
+  good = record { is = b .is; good = b .begins .good };
+  goodReceiver = start-good set within;
+  keeps = λ e lent y g. keeps (set .own) y g lent e;
+  keepsReceiver = λ e state g. keeps-receiver state g e;
+  start = b .begins .start;
+  startReceiver = receiver-back (startReceiver set);
+  next = λ e lent y g. next (set .own) y g lent e;
+  answer = λ e lent y g. answers (set .own) y g lent e;
+  nextReceiver = λ e state g. next-receiver state g e;
+  answerReceiver = λ e state g. answer-receiver state g e;
+  word = λ lent state g. word-receiver state g lent;
+}
+
+-- demand 3, whole, and what holds besides
+pub demand3-called : Demand3
+demand3-called set within x b es = demand3 set within (called set x) (called-tied set within x b) es
+
+pub stronger-called : StrongerCalled
+stronger-called set within x b es = stronger-claims set within (called set x) (called-tied set within x b) es
+
+-- a sender by the settings of the session, in a buffer of a state's length
+abbrev pub newSender : Settings → List ℕ → List ℕ → sender.New
+newSender set store buffer =
+    sender.newCall (set .k) (set .t1) (set .limit) 0 (set .own .spacecraft) (set .own .channel) (set .n) (set .n) store buffer
+
+-- what is kept of it, and then of directive 1
+abbrev pub newKept : Settings → List ℕ → List ℕ → Kept
+newKept set store buffer = record { state = newSender set store buffer .state; store = store }
+
+abbrev pub startKept : Settings → List ℕ → List ℕ → Kept
+startKept set store buffer = keptAfter (callOf (directive 1 0) (lentOutput 0) (newKept set store buffer))
+
+module _ (set : Settings) (within : Within set) (store : List ℕ) (long : smallestStore ≤ length store) (buffer : List ℕ) (sized : length buffer ≡ stateOctets) where
+  abbrev first : SenderState
+  first = startOf (senderSettings set) (set .n) (set .n)
+
+  started : startingOf (senderSettings set) (set .n) (set .n) (length store) ≡ record { refusal = 0; sender = record { fop = first } }
+  unfolding startingOf
+  started =
+      simp (
+        le-leb 1 (set .k) (within .windowLeast),
+        le-leb (set .k) largestK (within .windowMost),
+        le-leb 1 (set .t1) (within .timerLeast),
+        le-leb 1 (set .limit) (within .limitLeast),
+        le-leb (set .own .spacecraft) largestSpacecraft (within .spacecraft),
+        le-leb (set .own .channel) largestChannel (within .channel),
+        le-leb smallestStore (length store) long,
+      )
+
+  given : sender.startGiven (set .k) (set .t1) (set .limit) 0 (set .own .spacecraft) (set .own .channel) (set .n) (set .n) (length store)
+      ≡ record { refusal = 0; sender = record { fop = first } }
+  unfolding sender.startGiven
+  given =
+      simp (
+        le-leb (set .t1) largestTimer (within .timerMost),
+        le-leb (set .limit) largestTransmissionLimit (within .limitMost),
+        le-leb (set .n) largestNumber (within .number),
+      )
+      started
+
+  held-first : freshHeld set (set .n) store ≡ record { sender = record { fop = first }; store = store }
+  unfolding freshHeld
+  held-first = ap (λ (x : Start). record { sender = x .sender; store = store }) started
+
+  first-good : Good (set .own) first store
+  first-good =
+      subst (λ (x : Held). Good (set .own) (x .sender .fop) (x .store)) held-first (fresh-good set within (set .n) (within .number) store long)
+
+  -- `pondreszi_sender_new` is done, and gives the octets of a fresh sender
+  pub new-done : newSender set store buffer ≡ record { number = 0; state = octetsOf first }
+  unfolding sender.newCall startOf
+  new-done =
+      let l : stateOctets ≤ length buffer = omega arith in
+      ap (λ (x : Start). sender.startedCall x buffer) given
+      ∙ ap (λ (b : Bool). must b (record { number = 11; state = buffer }) (record { number = 0; state = placed buffer 0 (octetsOf first) })) (le-leb stateOctets (length buffer) l)
+      ∙ ap (λ (o : List ℕ). record { number = 0; state = o }) (placed-whole buffer (octetsOf first) (length-octets first refl ∙ sym sized))
+
+  new-held : heldIn (newKept set store buffer) ≡ freshHeld set (set .n) store
+  new-held =
+      ap (λ (x : sender.New). heldIn (record { state = x .state; store = store })) new-done
+      ∙ ap (λ (s : SenderState). record { sender = record { fop = s }; store = store }) (octets-kept (set .own) first store first-good .1)
+      ∙ sym held-first
+
+  new-good : GoodKept (set .own) (newKept set store buffer)
+  new-good = record {
+    is = ap (λ (x : sender.New). isState (x .state)) new-done ∙ octets-kept (set .own) first store first-good .0;
+    good = subst (λ (x : Held). Good (set .own) (x .sender .fop) (x .store)) (sym new-held) (fresh-good set within (set .n) (within .number) store long);
+  }
+
+  -- told to initiate without check, it begins a session at Transmission_Count 1
+  pub fresh-called : set .count ≡ 1 → BeginsKept set (startKept set store buffer)
+  fresh-called one =
+      let h : heldIn (startKept set store buffer) ≡ startHeld set store =
+      held-is (set .own) (newKept set store buffer) new-good 0 (directive 1 0) ∙ ap (λ (x : Held). heldAfter (stepOf (directive 1 0) (lentOutput 0) x)) new-held in
+      record {
+        is = keeps (set .own) (newKept set store buffer) new-good 0 (directive 1 0) .is;
+        begins = subst (Begins set) (sym h) (fresh-begins set within one store long);
+      }
+
+-- `pondreszi_receiver_new` gives the octets of the session's receiver, at a FARM-B counter of 0
+pub fresh-receiver : (set : Settings) → Within set → set .counter ≡ 0 → (buffer : List ℕ) → length buffer ≡ farm.stateOctets
+    → receiver.newCall (set .own .spacecraft) (set .own .channel) (set .w) (set .n) (set .buffers) buffer
+    ≡ record { number = 0; state = farm.octetsOf (startReceiver set) }
+unfolding receiver.newCall receiver.startGiven
+fresh-receiver set within zero buffer sized =
+    let l : farm.stateOctets ≤ length buffer = omega arith in
+    let s : length buffer ≤ farm.stateOctets = omega arith in
+    ap (λ (b : Bool). receiver.starting (must b FarmSetting (farmStart.startOf (set .own .spacecraft) (set .own .channel) (set .w) (set .n) (set .buffers))) buffer)
+    (le-leb (set .n) largestNumber (within .number))
+    ∙ ap (λ (x : FarmStart). receiver.starting x buffer) (receiver-starts set within zero)
+    ∙ ap (λ (b : Bool). must b (record { number = 11; state = buffer }) (record { number = 0; state = farm.octetsOf (startReceiver set) ++ drop farm.stateOctets buffer }))
+    (le-leb farm.stateOctets (length buffer) l)
+    ∙ ap (λ (o : List ℕ). record { number = 0; state = o })
+    (ap (λ (o : List ℕ). farm.octetsOf (startReceiver set) ++ o) (drop-of-length-le buffer {i = farm.stateOctets} s) ∙ append-nil (farm.octetsOf (startReceiver set)))
