@@ -117,7 +117,7 @@ module _ (x : Kept) (is : isState (x .state) ≡ true) (output : List ℕ) where
   way (wordArrives o) = octets-way o _ (words s (x .store) output o)
 
   -- the answer's octets tell the step's answer
-  told-is : (a : SenderAnswer) → Fits a → answerIn (placed lentAnswer 0 (octetsOfAnswer a)) ≡ toldBy a
+  pub told-is : (a : SenderAnswer) → Fits a → answerIn (placed lentAnswer 0 (octetsOfAnswer a)) ≡ toldBy a
   unfolding octetsOfAnswer
   told-is a h = ap answerIn (placed-whole lentAnswer (octetsOfAnswer a) refl) ∙ answer-back a h
 

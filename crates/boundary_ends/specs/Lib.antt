@@ -1,3 +1,4 @@
 pub mod Called
 pub mod Demand
 pub mod Refused
+pub mod Kind
