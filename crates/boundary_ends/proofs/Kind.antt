@@ -1,13 +1,13 @@
 -- The kind that a call tells is the kind of the frame that it hands down, as the frame reads: the kind told is that of what the row hands down, and
 -- a frame written of that kind is read back as one (crate frame, proofs/Back). N(S) is written modulo 256, so no limit of it is needed.
-use Prim.Native.Nat.{ℕ, _+_, _%_, _≤_, _<_}
+use Prim.Native.Nat.{ℕ, _+_, _%_, _≤_}
 use mathlib.Core.Path.{_≡_, refl, sym, ap, ap₂, subst, _∙_}
 use mathlib.Core.Bool.{Bool, true, false}
 use mathlib.Core.List.{List, [], _∷_, _++_, append-nil}
-use mathlib.Core.Option.{Option, none, some}
+use mathlib.Core.Option.{none, some}
 use native.Mathlib.Omega.{arith}
 use borrow.Author.Tests.{leb-true, ne-eqb}
-use lib.Dec.{leb, eqb}
+use lib.Dec.{leb}
 use lib.ListN.{length, take, drop}
 use lib.Seq.{take-append-seam}
 use Rattle.base.specs.Choice.{pick, must}
@@ -25,24 +25,22 @@ use Rattle.frame.specs.declared.FrameReading.{FrameReading}
 use Rattle.frame.proofs.Emitted.{length-frame}
 use Rattle.frame.proofs.Back.{Legal, frame-back}
 use Rattle.fecf.specs.Fecf.{fecfOf, fieldOctets}
-use Rattle.fop.specs.Units.{Own, Frame}
-use Rattle.fop.specs.Events.{SenderEvent}
+use Rattle.fop.specs.Units.{Own}
 use Rattle.fop.specs.Answers.{Answer}
 use Rattle.fop_actions.specs.declared.Handed.{Handed}
 use Rattle.fop_actions.specs.declared.Handed.the-variants as handed
 use Rattle.fop_actions.specs.declared.SenderState.{SenderState}
 use Rattle.fop_actions.specs.declared.Work.{Work}
-use Rattle.fop_view.specs.State.{Good}
 use Rattle.session.specs.Frames.{carried, byReading, read}
 use Rattle.session.proofs.Choices.{none-some}
 use Rattle.sender.specs.Answers.{kindHanded, answered, refusing, Step, stepBy, refusedStep}
 use Rattle.sender.specs.Events.{handedWriting}
-use Rattle.sender_octets.specs.Kept.{isState, stateIn}
-use Rattle.sender_octets.specs.Answer.{kindNumber, Told, answerIn}
+use Rattle.sender_octets.specs.Kept.{stateIn}
+use Rattle.sender_octets.specs.Answer.{kindNumber, Told}
 use Rattle.boundary.specs.Senders.{Called}
-use Rattle.ends.specs.Ours.{stepOf, handedDown, answerBy}
-use Rattle.boundary_ends.specs.Called.{Kept, callOf, answerCalled, heldIn}
-use Rattle.boundary_ends.specs.Kind.{frameNumber, kindCalled, TellsKind, KindTold}
+use Rattle.ends.specs.Ours.{stepOf, handedDown}
+use Rattle.boundary_ends.specs.Called.{callOf, answerCalled, heldIn}
+use Rattle.boundary_ends.specs.Kind.{frameNumber, kindCalled, KindTold}
 use Rattle.boundary_ends.proofs.Ways.{Way, refuses, writes, fits}
 use Rattle.boundary_ends.proofs.Sender.{call-is, way, told-is, answer-is}
 

@@ -10,7 +10,7 @@ use native.Mathlib.Omega.{arith}
 use borrow.Author.Tests.{eqb-true}
 use lib.Dec.{leb, eqb}
 use lib.ListN.{length, drop}
-use Rattle.base.specs.Choice.{pick, must}
+use Rattle.base.specs.Choice.{must}
 use Rattle.base.specs.Outcome.{Outcome, Outcome.done, Outcome.refused, answer, after, numberOf}
 use Rattle.memory.specs.Placed.{placed}
 use Rattle.frame.specs.Answers.{readingOf}
@@ -31,7 +31,7 @@ use Rattle.farm.proofs.Restored as farm-restored
 use Rattle.fop_actions.specs.declared.SenderState.{SenderState}
 use Rattle.sender.specs.declared.Start.{Start}
 use Rattle.sender.specs.Answers.{Step}
-use Rattle.sender.specs.Events.{requestAdOf, requestBdOf, directiveOf, tickOf, lowerLayerOf, controlWordOf}
+use Rattle.sender.specs.Events.{lowerLayerOf}
 use Rattle.sender_octets.specs.Kept.{stateOctets, octetsOf, stateIn, isState, senderIn}
 use Rattle.sender_octets.specs.Answer.{answerOctets}
 use Rattle.sender_octets.proofs.Back.{state-only, refused-no-state}
@@ -39,7 +39,7 @@ use Rattle.boundary.specs.Receivers as receiver
 use Rattle.boundary.specs.Senders as sender
 use Rattle.boundary.specs.Senders.{Called, refusedCall, doneCall, calledBy, lowerNumbered, narrowNumber, narrowValue, startedCall, startGiven}
 use Rattle.boundary_ends.specs.Refused.{Unchanged, RefusedKeeps}
-use Rattle.boundary_ends.proofs.Ways.{Way, Same, refused-same, asks-ad, asks-bd, directs, ticks, lowers, words}
+use Rattle.boundary_ends.proofs.Ways.{Way, refused-same, asks-ad, asks-bd, directs, ticks, lowers, words}
 use Rattle.boundary_ends.proofs.Sender.{placed-whole, reached}
 
 -- what is written, by what comes of it

@@ -1,6 +1,6 @@
 -- The work on an event has room for the numbers of four responses, no more and no fewer: every action keeps their count, so every row does.
 use Prim.Native.Nat.{ℕ, _+_}
-use mathlib.Core.Path.{_≡_, refl, _∙_}
+use mathlib.Core.Path.{_≡_, _∙_}
 use mathlib.Core.Bool.{Bool, true, false}
 use mathlib.Core.List.{List, [], _∷_}
 use mathlib.Core.Option.{Option, none, some}
@@ -25,7 +25,7 @@ use Rattle.fop_actions.specs.Parts.{withSettings, withVariables, withQueues, wi
 use Rattle.fop_actions.specs.Actions as act
 use Rattle.fop_actions.specs.Start.{begun, noneTold}
 use Rattle.fop_actions.specs.View.{stateOf}
-use Rattle.fop_rows.specs.Rows.{declared, declaredReason, octet, done, doneAll, doneCell, rowOf, eventOf, rowIf, rowNumbered}
+use Rattle.fop_rows.specs.Rows.{declaredReason, octet, done, doneAll, doneCell, rowOf, eventOf, rowIf, rowNumbered}
 
 -- the numbers of four responses
 abbrev pub Four : Work → Type 0

@@ -1,34 +1,35 @@
 -- Demand 3 of the functions that C and Rust call: a caller's two ends are tied to the tables, so crate session's theorem holds of them. The premise
 -- can be met: what `pondreszi_sender_new` gives, told to initiate without check, begins a session, and what `pondreszi_receiver_new` gives is the
 -- receiver of its start.
-use Prim.Native.Nat.{ℕ, _%_, _≤_}
+use Prim.Native.Nat.{ℕ, _≤_}
 use mathlib.Core.Path.{_≡_, refl, sym, ap, subst, _∙_}
-use mathlib.Core.Bool.{Bool, true}
-use mathlib.Core.List.{List, [], _∷_, _++_, append-nil}
+use mathlib.Core.Bool.{Bool}
+use mathlib.Core.List.{List, _++_, append-nil}
 use native.Mathlib.Omega.{arith}
-use borrow.Author.Tests.{le-leb, eq-eqb}
-use lib.Dec.{leb, eqb}
+use borrow.Author.Tests.{le-leb}
 use lib.ListN.{length, drop, drop-of-length-le}
 use Rattle.base.specs.Choice.{must}
 use Rattle.base.specs.Limits.{largestSpacecraft, largestChannel}
 use Rattle.memory.specs.Placed.{placed}
 use Rattle.fop.specs.Limits.{largestK, largestNumber, largestTimer, largestTransmissionLimit}
-use Rattle.fop.specs.Events.{SenderEvent, directive}
+use Rattle.fop.specs.Events.{directive}
 use Rattle.fop_actions.specs.declared.SenderState.{SenderState}
 use Rattle.fop_actions.specs.Start.{startOf}
 use Rattle.fop_view.specs.State.{Good}
 use Rattle.farm.specs.Kept as farm
 use Rattle.farm.specs.Receiver as farmStart
 use Rattle.farm.specs.declared.Start.{Start as FarmStart}
-use Rattle.farm.specs.declared.Start.the-variants.{Ready, Setting as FarmSetting}
+use Rattle.farm.specs.declared.Start.the-variants.{Setting as FarmSetting}
 use Rattle.farm.proofs.Restored.{receiver-back}
-use Rattle.session.specs.Ends.{Settings, Within, Tied, startReceiver}
+use Rattle.session.specs.Ends.{Settings, Within, Tied, startReceiver, tables}
+use Rattle.session.specs.Session.{Event, begins, run}
+use Rattle.session.specs.Claims.{Claims}
 use Rattle.session.proofs.Theorem.{demand3}
 use Rattle.session.proofs.Strong.{stronger-claims}
 use Rattle.sender.specs.declared.Start.{Start}
 use Rattle.sender.specs.Limits.{smallestStore}
-use Rattle.sender.specs.Start.{startingOf, settingsHold}
-use Rattle.sender_octets.specs.Kept.{stateOctets, octetsOf, stateIn, isState}
+use Rattle.sender.specs.Start.{startingOf}
+use Rattle.sender_octets.specs.Kept.{stateOctets, octetsOf, isState}
 use Rattle.sender_octets.proofs.Judged.{length-octets}
 use Rattle.boundary.specs.Senders as sender
 use Rattle.boundary.specs.Receivers as receiver
@@ -56,7 +57,7 @@ called-tied set within x b = record {
   answer = λ e lent y g. answers (set .own) y g lent e;
   nextReceiver = λ e state g. next-receiver state g e;
   answerReceiver = λ e state g. answer-receiver state g e;
-  word = λ lent state g. word-receiver state g lent;
+  word = λ lent state g. word-receiver state g lent (lentOutput lent);
 }
 
 -- demand 3, whole, and what holds besides
@@ -144,6 +145,15 @@ module _ (set : Settings) (within : Within set) (store : List ℕ) (long : small
         is = keeps (set .own) (newKept set store buffer) new-good 0 (directive 1 0) .is;
         begins = subst (Begins set) (sym h) (fresh-begins set within one store long);
       }
+
+-- so demand 3 holds from there
+pub demand3-fresh : (set : Settings) → Within set → set .count ≡ 1 → (store : List ℕ) → smallestStore ≤ length store → (buffer : List ℕ)
+    → length buffer ≡ stateOctets → (es : List Event)
+    → Claims set (called set (startKept set store buffer))
+    (run set (called set (startKept set store buffer)) es (begins (called set (startKept set store buffer))))
+    (run set (tables set) es (begins (tables set)))
+demand3-fresh set within one store long buffer sized es =
+    demand3-called set within (startKept set store buffer) (fresh-called set within store long buffer sized one) es
 
 -- `pondreszi_receiver_new` gives the octets of the session's receiver, at a FARM-B counter of 0
 pub fresh-receiver : (set : Settings) → Within set → set .counter ≡ 0 → (buffer : List ℕ) → length buffer ≡ farm.stateOctets
