@@ -65,7 +65,8 @@ digits-octet n =
     let v : valueOf 0 (digitsOf 8 n) ≡ n % 256 = value-digits 8 0 n ∙ omega arith in
     sym (ap₂ digitsOf (sym (length-digits 8 n)) (sym v) ∙ digits-value 0 (digitsOf 8 n) (bits-digits 8 n))
 
-header-octet : (bypass control spacecraft channel total n : ℕ) → headerOf bypass control spacecraft channel total n ≡ headerOf bypass control spacecraft channel total (n % 256)
+header-octet : (bypass control spacecraft channel total n : ℕ)
+    → headerOf bypass control spacecraft channel total n ≡ headerOf bypass control spacecraft channel total (n % 256)
 unfolding headerOf headerFields packed
 header-octet bypass control spacecraft channel total n = rw (digits-octet n)
 
@@ -110,21 +111,26 @@ module _ (own : Own) (u : List ℕ) where
   number-least (kind.SetVr value) = omega arith
 
   -- a frame that is octets is read as its kind
-  module _ (k : Kind) (low : 1 ≤ length (dataOf k u)) (high : length (dataOf k u) ≤ largestUnit) (hs : own .spacecraft ≤ largestSpacecraft) (hc : own .channel ≤ largestChannel) where
+  module _ (k : Kind) (low : 1 ≤ length (dataOf k u)) (high : length (dataOf k u) ≤ largestUnit)
+      (hs : own .spacecraft ≤ largestSpacecraft) (hc : own .channel ≤ largestChannel) where
     read-number : Octets (frame k) → frameNumber (read own (frame k)) ≡ numberOfKind k
     unfolding read
     read-number o =
         let l : Legal (octetKind k) u = legal k (data-octets k o) low high in
         let p : List ℕ = partOf (frame k) (own .spacecraft) (own .channel) in
-        ap (λ (s : List ℕ). frameNumber (byReading (readingOf s (own .spacecraft) (own .channel)) p)) (frame-octet k ∙ sym (append-nil (frame (octetKind k))))
-        ∙ ap (λ (r : FrameReading). frameNumber (byReading r p)) (frame-back (own .spacecraft) (own .channel) (octetKind k) u [] hs hc l (omega arith) tt)
+        ap (λ (s : List ℕ). frameNumber (byReading (readingOf s (own .spacecraft) (own .channel)) p))
+        (frame-octet k ∙ sym (append-nil (frame (octetKind k))))
+        ∙ ap (λ (r : FrameReading). frameNumber (byReading r p))
+        (frame-back (own .spacecraft) (own .channel) (octetKind k) u [] hs hc l (omega arith) tt)
         ∙ carried-number k p
 
     -- it has octets
     frame-down : (output : List ℕ) → handedDown (length (frame k)) (frame k ++ drop (length (frame k)) output) ≡ some (frame k)
     frame-down output =
-        let n : length (frame k) ≡ length (dataOf k u) + 7 = length-frame (bypassOf k) (controlOf k) (numberOf k) (own .spacecraft) (own .channel) (dataOf k u) in
-        ap (λ (b : Bool). pick b none (some (take (length (frame k)) (frame k ++ drop (length (frame k)) output)))) (ne-eqb (length (frame k)) 0 (λ e. omega (arith, n, e)))
+        let n : length (frame k) ≡ length (dataOf k u) + 7 =
+        length-frame (bypassOf k) (controlOf k) (numberOf k) (own .spacecraft) (own .channel) (dataOf k u) in
+        ap (λ (b : Bool). pick b none (some (take (length (frame k)) (frame k ++ drop (length (frame k)) output))))
+        (ne-eqb (length (frame k)) 0 (λ e. omega (arith, n, e)))
         ∙ ap some (take-append-seam (frame k) (drop (length (frame k)) output))
 
 -- a step tells the kind of what it hands down
@@ -157,7 +163,9 @@ module _ (s : SenderState) (store output : List ℕ) where
 
           step : Bool → Bool → Bool → Bool → Bool → Step
           step a b c d e =
-              stepBy event s w (must a (refused 10 0) (must b (refused 10 0) (must c (refused 12 0) (must d (refused 12 0) (must e (refused 11 0) on))))) new store output
+              stepBy event s w
+              (must a (refused 10 0) (must b (refused 10 0) (must c (refused 12 0) (must d (refused 12 0) (must e (refused 11 0) on)))))
+              new store output
 
           written : leb 1 (length (dataOf k u)) ≡ true → leb (length (dataOf k u)) largestUnit ≡ true → leb (at .spacecraft) largestSpacecraft ≡ true
               → leb (at .channel) largestChannel ≡ true → Tells at (stepBy event s w on new store output)
@@ -171,11 +179,13 @@ module _ (s : SenderState) (store output : List ℕ) where
                 nothing = λ e. absurd (none-some (sym e ∙ down));
                 some-down = λ o e h.
                     let q : frame at u k ≡ o = some-same (sym down ∙ e) in
-                    (p ∙ sym (read-number at u k low high hs hc (subst Octets (sym q) h)) ∙ ap (λ (x : List ℕ). frameNumber (read at x)) q, subst (λ (n : ℕ). 1 ≤ n) (sym p) (number-least at u k));
+                    let r = read-number at u k low high hs hc (subst Octets (sym q) h) in
+                    (p ∙ sym r ∙ ap (λ (x : List ℕ). frameNumber (read at x)) q, subst (λ (n : ℕ). 1 ≤ n) (sym p) (number-least at u k));
               }
 
           by : (a : Bool) → leb 1 (length (dataOf k u)) ≡ a → (b : Bool) → leb (length (dataOf k u)) largestUnit ≡ b
-              → (c : Bool) → leb (at .spacecraft) largestSpacecraft ≡ c → (d : Bool) → leb (at .channel) largestChannel ≡ d → (e : Bool) → Tells at (step a b c d e)
+              → (c : Bool) → leb (at .spacecraft) largestSpacecraft ≡ c → (d : Bool) → leb (at .channel) largestChannel ≡ d
+              → (e : Bool) → Tells at (step a b c d e)
           by true pa true pb true pc true pd true = written pa pb pc pd
           by true pa true pb true pc true pd false = refused-tells 11
           by true pa true pb true pc false pd e = refused-tells 12
@@ -184,7 +194,8 @@ module _ (s : SenderState) (store output : List ℕ) where
           by false pa b pb c pc d pd e = refused-tells 10
 
     -- by what the row hands down
-    by-handed : (u : List ℕ) (h : Handed) → w .told .handed ≡ h → Tells at (stepBy event s w (handedWriting (s .settings) h u (length output)) new store output)
+    by-handed : (u : List ℕ) (h : Handed) → w .told .handed ≡ h
+        → Tells at (stepBy event s w (handedWriting (s .settings) h u (length output)) new store output)
     unfolding handedWriting answered
     by-handed u handed.None p = record { nothing = λ e. ap (λ (x : Handed). kindNumber (kindHanded x)) p; some-down = λ o e h. absurd (none-some e) }
     by-handed u (handed.Ad n i) p = frame-tells (kind.Ad n) u (ap (λ (x : Handed). kindNumber (kindHanded x)) p)
@@ -201,9 +212,11 @@ pub kind-told : KindTold
 kind-told own x is good e output =
     let s : SenderState = stateIn (x .state) in
     let y : Step = stepOf e output (heldIn x) in
-    let t : Tells own y = subst (λ (o : Own). Tells o y) (ap₂ (λ (a b : ℕ). record { spacecraft = a; channel = b }) (good .spacecraft) (good .channel))
+    let t : Tells own y = subst (λ (o : Own). Tells o y)
+    (ap₂ (λ (a b : ℕ). record { spacecraft = a; channel = b }) (good .spacecraft) (good .channel))
     (step-tells s (x .store) output y (way x is output e)) in
-    let d : answerCalled (callOf e output x) .down ≡ handedDown (y .answer .down) (y .output) = ap (λ (a : Answer). a .down) (answer-is x is output e) in
+    let d : answerCalled (callOf e output x) .down ≡ handedDown (y .answer .down) (y .output) =
+    ap (λ (a : Answer). a .down) (answer-is x is output e) in
     let k : kindCalled (callOf e output x) ≡ kindNumber (y .answer .kind) =
     ap (λ (c : Called). kindCalled c) (call-is x is output e)
     ∙ ap (λ (a : Told). kindNumber (a .kind)) (told-is x is output (y .answer) (fits s (x .store) output y (way x is output e))) in

@@ -174,10 +174,8 @@ module _ (r : Receiver) (h : WellFormed (aside r)) where
   releases : WellFormed (aside (afterRelease (releaseOf r) r))
   unfolding releaseOf
   releases = by (ltb 0 (r .taken)) refl where
-    left : Receiver → Receiver
-    left x = become (r .taken - 1) (x .variables) x
-
-    by : (b : Bool) → ltb 0 (r .taken) ≡ b → WellFormed (aside (afterRelease (must b NoneTaken (Done (answered 0 E10 0 (become (r .taken - 1) (r .variables) r)))) r))
+    by : (b : Bool) → ltb 0 (r .taken) ≡ b
+        → WellFormed (aside (afterRelease (must b NoneTaken (Done (answered 0 E10 0 (become (r .taken - 1) (r .variables) r)))) r))
     by true e =
         subst WellFormed (sym (answered-aside (become (r .taken - 1) (r .variables) r) 0 0 E10 0))
         (aside-well _ (release-well (aside r) (answered 0 E10 0 (become (r .taken - 1) (unnumbered (r .variables)) r)) h

@@ -66,7 +66,8 @@ read-same : (r : Receiver) (x : FrameReading) → byReading r x .refusal ≢ 0 �
 unfolding byReading arrived answered
 read-same r (reading.Frame fields) h = absurd (h refl)
 read-same r (reading.Refused number) h =
-    ap (λ (n : ℕ). become n (stepOf E9 0 (r .variables)) r) (add-zero (r .taken)) ∙ ap (λ (v : Variables). become (r .taken) v r) (e9-keeps 0 (r .variables))
+    ap (λ (n : ℕ). become n (stepOf E9 0 (r .variables)) r) (add-zero (r .taken))
+    ∙ ap (λ (v : Variables). become (r .taken) v r) (e9-keeps 0 (r .variables))
 
 frame-same : (state frame : List ℕ) → receiver.frameCall state frame .number ≢ 0 → receiver.frameCall state frame .state ≡ state
 unfolding receiver.frameCall receiveOf
@@ -152,7 +153,8 @@ module _ (state store output told : List ℕ) where
       by true e false h = kept 11
       by false e b h = kept 12
 
-  lower-same : (n : ℕ) → sender.lowerCall state n store output told .number ≢ 0 → Unchanged (sender.lowerCall state n store output told) state store output
+  lower-same : (n : ℕ) → sender.lowerCall state n store output told .number ≢ 0
+      → Unchanged (sender.lowerCall state n store output told) state store output
   unfolding sender.lowerCall
   lower-same n = by (leb 1 n) (leb n 6) where
     on : Called
@@ -172,7 +174,8 @@ refused-keeps = record {
   receiverNew = λ spacecraft channel window vr buffers state. starts (receiver.startGiven spacecraft channel window vr buffers) state;
   receiverFrame = frame-same;
   receiverRelease = release-same;
-  senderNew = λ k t1 limit type spacecraft channel vs nnr store state. new-same (startGiven k t1 limit type spacecraft channel vs nnr (length store)) state;
+  senderNew = λ k t1 limit type spacecraft channel vs nnr store state.
+      new-same (startGiven k t1 limit type spacecraft channel vs nnr (length store)) state;
   requestAd = λ state unit store output told. called-same state store output told _ (λ s. asks-ad s store output unit);
   requestBd = λ state unit store output told. called-same state store output told _ (λ s. asks-bd s store output unit);
   directive = λ state d v store output told. called-same state store output told _ (λ s. directs s store output (narrowNumber d v) (narrowValue v));

@@ -118,7 +118,8 @@ module _ (x : Kept) (is : isState (x .state) ≡ true) (output : List ℕ) where
   call-is (wordArrives o) = as-octets o _ (λ t. controlWordOf o t (x .store) output) (called-by (λ t. controlWordOf o t (x .store) output))
 
   -- its step goes one of the two ways, so its answer fits
-  octets-way : (o : List ℕ) (y : Step) → Way s (x .store) output y → Way s (x .store) output (pick (areOctets o) y (refusedStep 10 s (x .store) output))
+  octets-way : (o : List ℕ) (y : Step) → Way s (x .store) output y
+      → Way s (x .store) output (pick (areOctets o) y (refusedStep 10 s (x .store) output))
   octets-way o y p = by (areOctets o) where
     by : (b : Bool) → Way s (x .store) output (pick b y (refusedStep 10 s (x .store) output))
     by true = p
@@ -189,7 +190,9 @@ module _ (own : Own) (x : Kept) (g : GoodKept own x) (lent : ℕ) where
   output = lentOutput lent
 
   state-length : length (x .state) ≡ stateOctets
-  state-length = ap length (sym (state-only (x .state) (g .is))) ∙ length-octets (stateIn (x .state)) (places-all own (stateIn (x .state)) (x .store) (g .good))
+  state-length =
+      ap length (sym (state-only (x .state) (g .is)))
+      ∙ length-octets (stateIn (x .state)) (places-all own (stateIn (x .state)) (x .store) (g .good))
 
   does-step : (e : SenderEvent) → Does own lent e (reads (heldIn x)) (stepOf e output (heldIn x))
   does-step e = does own e lent (heldIn x) (g .good)

@@ -79,7 +79,8 @@ newKept set store buffer = record { state = newSender set store buffer .state; s
 abbrev pub startKept : Settings → List ℕ → List ℕ → Kept
 startKept set store buffer = keptAfter (callOf (directive 1 0) (lentOutput 0) (newKept set store buffer))
 
-module _ (set : Settings) (within : Within set) (store : List ℕ) (long : smallestStore ≤ length store) (buffer : List ℕ) (sized : length buffer ≡ stateOctets) where
+module _ (set : Settings) (within : Within set) (store : List ℕ) (long : smallestStore ≤ length store) (buffer : List ℕ)
+    (sized : length buffer ≡ stateOctets) where
   abbrev first : SenderState
   first = startOf (senderSettings set) (set .n) (set .n)
 
@@ -121,7 +122,8 @@ module _ (set : Settings) (within : Within set) (store : List ℕ) (long : small
   new-done =
       let l : stateOctets ≤ length buffer = omega arith in
       ap (λ (x : Start). sender.startedCall x buffer) given
-      ∙ ap (λ (b : Bool). must b (record { number = 11; state = buffer }) (record { number = 0; state = placed buffer 0 (octetsOf first) })) (le-leb stateOctets (length buffer) l)
+      ∙ ap (λ (b : Bool). must b (record { number = 11; state = buffer }) (record { number = 0; state = placed buffer 0 (octetsOf first) }))
+      (le-leb stateOctets (length buffer) l)
       ∙ ap (λ (o : List ℕ). record { number = 0; state = o }) (placed-whole buffer (octetsOf first) (length-octets first refl ∙ sym sized))
 
   new-held : heldIn (newKept set store buffer) ≡ freshHeld set (set .n) store
@@ -133,14 +135,16 @@ module _ (set : Settings) (within : Within set) (store : List ℕ) (long : small
   new-good : GoodKept (set .own) (newKept set store buffer)
   new-good = record {
     is = ap (λ (x : sender.New). isState (x .state)) new-done ∙ octets-kept (set .own) first store first-good .0;
-    good = subst (λ (x : Held). Good (set .own) (x .sender .fop) (x .store)) (sym new-held) (fresh-good set within (set .n) (within .number) store long);
+    good = subst (λ (x : Held). Good (set .own) (x .sender .fop) (x .store)) (sym new-held)
+        (fresh-good set within (set .n) (within .number) store long);
   }
 
   -- told to initiate without check, it begins a session at Transmission_Count 1
   pub fresh-called : set .count ≡ 1 → BeginsKept set (startKept set store buffer)
   fresh-called one =
       let h : heldIn (startKept set store buffer) ≡ startHeld set store =
-      held-is (set .own) (newKept set store buffer) new-good 0 (directive 1 0) ∙ ap (λ (x : Held). heldAfter (stepOf (directive 1 0) (lentOutput 0) x)) new-held in
+      held-is (set .own) (newKept set store buffer) new-good 0 (directive 1 0)
+      ∙ ap (λ (x : Held). heldAfter (stepOf (directive 1 0) (lentOutput 0) x)) new-held in
       record {
         is = keeps (set .own) (newKept set store buffer) new-good 0 (directive 1 0) .is;
         begins = subst (Begins set) (sym h) (fresh-begins set within one store long);
@@ -163,10 +167,12 @@ unfolding receiver.newCall receiver.startGiven
 fresh-receiver set within zero buffer sized =
     let l : farm.stateOctets ≤ length buffer = omega arith in
     let s : length buffer ≤ farm.stateOctets = omega arith in
-    ap (λ (b : Bool). receiver.starting (must b FarmSetting (farmStart.startOf (set .own .spacecraft) (set .own .channel) (set .w) (set .n) (set .buffers))) buffer)
+    let octets : List ℕ = farm.octetsOf (startReceiver set) in
+    let start : FarmStart = farmStart.startOf (set .own .spacecraft) (set .own .channel) (set .w) (set .n) (set .buffers) in
+    ap (λ (b : Bool). receiver.starting (must b FarmSetting start) buffer)
     (le-leb (set .n) largestNumber (within .number))
     ∙ ap (λ (x : FarmStart). receiver.starting x buffer) (receiver-starts set within zero)
-    ∙ ap (λ (b : Bool). must b (record { number = 11; state = buffer }) (record { number = 0; state = farm.octetsOf (startReceiver set) ++ drop farm.stateOctets buffer }))
+    ∙ ap (λ (b : Bool). must b (record { number = 11; state = buffer }) (record { number = 0; state = octets ++ drop farm.stateOctets buffer }))
     (le-leb farm.stateOctets (length buffer) l)
     ∙ ap (λ (o : List ℕ). record { number = 0; state = o })
-    (ap (λ (o : List ℕ). farm.octetsOf (startReceiver set) ++ o) (drop-of-length-le buffer {i = farm.stateOctets} s) ∙ append-nil (farm.octetsOf (startReceiver set)))
+    (ap (λ (o : List ℕ). octets ++ o) (drop-of-length-le buffer {i = farm.stateOctets} s) ∙ append-nil octets)
