@@ -35,8 +35,9 @@ use Rattle.boundary.specs.Senders as sender
 use Rattle.boundary.specs.Receivers as receiver
 use Rattle.ends.specs.Ours.{Held, stepOf, heldAfter, lentOutput, senderSettings, freshHeld, startHeld, reads, Begins}
 use Rattle.ends.proofs.Theorem.{fresh-good, fresh-begins, receiver-starts}
-use Rattle.boundary_ends.specs.Called.{Kept, callOf, keptAfter, heldIn, BeginsKept, called}
+use Rattle.boundary_ends.specs.Called.{Kept, heldIn, BeginsKept, called}
 use Rattle.boundary_ends.specs.Demand.{Demand3, StrongerCalled}
+use Rattle.boundary_ends.specs.Fresh.{newSender, newKept, startKept, FreshSender, FreshReceiver}
 use Rattle.boundary_ends.proofs.Receiver.{GoodReceiver, keeps-receiver, next-receiver, answer-receiver, word-receiver, start-good}
 use Rattle.boundary_ends.proofs.Sender.{placed-whole, GoodKept, octets-kept, held-is, keeps, next, answers}
 
@@ -67,18 +68,7 @@ demand3-called set within x b es = demand3 set within (called set x) (called-tie
 pub stronger-called : StrongerCalled
 stronger-called set within x b es = stronger-claims set within (called set x) (called-tied set within x b) es
 
--- a sender by the settings of the session, in a buffer of a state's length
-abbrev pub newSender : Settings → List ℕ → List ℕ → sender.New
-newSender set store buffer =
-    sender.newCall (set .k) (set .t1) (set .limit) 0 (set .own .spacecraft) (set .own .channel) (set .n) (set .n) store buffer
-
--- what is kept of it, and then of directive 1
-abbrev pub newKept : Settings → List ℕ → List ℕ → Kept
-newKept set store buffer = record { state = newSender set store buffer .state; store = store }
-
-abbrev pub startKept : Settings → List ℕ → List ℕ → Kept
-startKept set store buffer = keptAfter (callOf (directive 1 0) (lentOutput 0) (newKept set store buffer))
-
+-- a new sender, in a buffer of a state's length
 module _ (set : Settings) (within : Within set) (store : List ℕ) (long : smallestStore ≤ length store) (buffer : List ℕ)
     (sized : length buffer ≡ stateOctets) where
   abbrev first : SenderState
@@ -117,7 +107,7 @@ module _ (set : Settings) (within : Within set) (store : List ℕ) (long : small
       subst (λ (x : Held). Good (set .own) (x .sender .fop) (x .store)) held-first (fresh-good set within (set .n) (within .number) store long)
 
   -- `pondreszi_sender_new` is done, and gives the octets of a fresh sender
-  pub new-done : newSender set store buffer ≡ record { number = 0; state = octetsOf first }
+  new-done : newSender set store buffer ≡ record { number = 0; state = octetsOf first }
   unfolding sender.newCall startOf
   new-done =
       let l : stateOctets ≤ length buffer = omega arith in
@@ -140,8 +130,8 @@ module _ (set : Settings) (within : Within set) (store : List ℕ) (long : small
   }
 
   -- told to initiate without check, it begins a session at Transmission_Count 1
-  pub fresh-called : set .count ≡ 1 → BeginsKept set (startKept set store buffer)
-  fresh-called one =
+  start-begins : set .count ≡ 1 → BeginsKept set (startKept set store buffer)
+  start-begins one =
       let h : heldIn (startKept set store buffer) ≡ startHeld set store =
       held-is (set .own) (newKept set store buffer) new-good 0 (directive 1 0)
       ∙ ap (λ (x : Held). heldAfter (stepOf (directive 1 0) (lentOutput 0) x)) new-held in
@@ -150,6 +140,12 @@ module _ (set : Settings) (within : Within set) (store : List ℕ) (long : small
         begins = subst (Begins set) (sym h) (fresh-begins set within one store long);
       }
 
+pub fresh-called : FreshSender
+fresh-called set within one store long buffer sized = record {
+  number = ap (λ (x : sender.New). x .number) (new-done set within store long buffer sized);
+  begins = start-begins set within store long buffer sized one;
+}
+
 -- so demand 3 holds from there
 pub demand3-fresh : (set : Settings) → Within set → set .count ≡ 1 → (store : List ℕ) → smallestStore ≤ length store → (buffer : List ℕ)
     → length buffer ≡ stateOctets → (es : List Event)
@@ -157,12 +153,10 @@ pub demand3-fresh : (set : Settings) → Within set → set .count ≡ 1 → (st
     (run set (called set (startKept set store buffer)) es (begins (called set (startKept set store buffer))))
     (run set (tables set) es (begins (tables set)))
 demand3-fresh set within one store long buffer sized es =
-    demand3-called set within (startKept set store buffer) (fresh-called set within store long buffer sized one) es
+    demand3-called set within (startKept set store buffer) (fresh-called set within one store long buffer sized .begins) es
 
 -- `pondreszi_receiver_new` gives the octets of the session's receiver, at a FARM-B counter of 0
-pub fresh-receiver : (set : Settings) → Within set → set .counter ≡ 0 → (buffer : List ℕ) → length buffer ≡ farm.stateOctets
-    → receiver.newCall (set .own .spacecraft) (set .own .channel) (set .w) (set .n) (set .buffers) buffer
-    ≡ record { number = 0; state = farm.octetsOf (startReceiver set) }
+pub fresh-receiver : FreshReceiver
 unfolding receiver.newCall receiver.startGiven
 fresh-receiver set within zero buffer sized =
     let l : farm.stateOctets ≤ length buffer = omega arith in
