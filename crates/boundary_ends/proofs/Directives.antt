@@ -18,8 +18,8 @@ use Rattle.fop_actions.specs.declared.SenderState.{SenderState}
 use Rattle.fop_actions.specs.declared.Work.{Work}
 use Rattle.fop_actions.specs.Start.{begun}
 use Rattle.fop_actions.specs.View.{stateOf}
-use Rattle.fop_rows.specs.Rows.{done, doneAll, doneCell, rowOf, rowNumbered}
-use Rattle.fop_events.specs.Events.{eventNumber, variablesOf, directiveNumber}
+use Rattle.fop_rows.specs.Rows.{done, doneAll, doneCell, rowOf}
+use Rattle.fop_events.specs.Events.{eventNumber, directiveNumber}
 use Rattle.session.proofs.Choices.{by-pick, upto, _also_}
 use Rattle.sender.specs.Answers.{Step, refusedStep}
 use Rattle.sender.specs.Limits.{smallestStore}

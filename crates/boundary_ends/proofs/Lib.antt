@@ -5,3 +5,4 @@ pub mod Directives
 pub mod Sender
 pub mod Theorem
 pub mod Refused
+pub mod Kind

@@ -1,7 +1,7 @@
 -- The receiver's half of the tie: the octets that a caller keeps stand for the receiver that they hold. A call keeps them a state whatever
 -- list arrives as a frame, also one that is no octets: what the test of a state looks at does not depend on V(R), and up to V(R) every frame
 -- does what some frame of octets does (`arrives`).
-use Prim.Native.Nat.{ℕ, _+_, _-_, _<_, zero, suc}
+use Prim.Native.Nat.{ℕ, _+_, _-_, zero, suc}
 use mathlib.Core.Path.{_≡_, refl, sym, ap, subst, _∙_}
 use mathlib.Core.Bool.{Bool, true, false}
 use mathlib.Core.List.{List, [], _∷_, _++_, append-nil}
@@ -44,10 +44,9 @@ use Rattle.farm.specs.Window.{adEvent}
 use Rattle.farm.proofs.Cells.{at, by-state, by-event, e9-keeps}
 use Rattle.farm.proofs.Kept.{WellFormed, receive-well, release-well}
 use Rattle.farm.proofs.Restored.{receiver-back, octets-back}
-use Rattle.session.specs.Receiver.{ReceiverEvent, frameArrives, releaseBuffer, ReceiverAnswer, WordAnswer, receiverNext, afterRelease, handedOut, releaseAnswer, receiverAnswer, wordTold, receiverWord}
+use Rattle.session.specs.Receiver.{ReceiverEvent, frameArrives, releaseBuffer, ReceiverAnswer, receiverNext, afterRelease, handedOut, releaseAnswer, receiverAnswer, wordTold, receiverWord}
 use Rattle.session.specs.Ends.{Settings, Within, startReceiver}
 use Rattle.boundary.specs.Receivers.{unitNumber, unitPlace, Frame, received, frameCall, Release, releasedBy, releaseCall, wordCall}
-use Rattle.ends.specs.Ours.{lentOutput}
 use Rattle.boundary_ends.specs.Called.{eventNumbered, unitCalled, receiverCalled, receiverAfter, wordWritten}
 
 -- V(R) set aside
@@ -175,10 +174,8 @@ module _ (r : Receiver) (h : WellFormed (aside r)) where
   releases : WellFormed (aside (afterRelease (releaseOf r) r))
   unfolding releaseOf
   releases = by (ltb 0 (r .taken)) refl where
-    left : Receiver → Receiver
-    left x = become (r .taken - 1) (x .variables) x
-
-    by : (b : Bool) → ltb 0 (r .taken) ≡ b → WellFormed (aside (afterRelease (must b NoneTaken (Done (answered 0 E10 0 (become (r .taken - 1) (r .variables) r)))) r))
+    by : (b : Bool) → ltb 0 (r .taken) ≡ b
+        → WellFormed (aside (afterRelease (must b NoneTaken (Done (answered 0 E10 0 (become (r .taken - 1) (r .variables) r)))) r))
     by true e =
         subst WellFormed (sym (answered-aside (become (r .taken - 1) (r .variables) r) 0 0 E10 0))
         (aside-well _ (release-well (aside r) (answered 0 E10 0 (become (r .taken - 1) (unnumbered (r .variables)) r)) h
@@ -298,22 +295,22 @@ module _ (state : List ℕ) (good : GoodReceiver state) where
       (unit-back (a .unit) s (partOf s (r .spacecraft) (r .channel)) (part-taken s (r .spacecraft) (r .channel)))
   answer-receiver releaseBuffer = ap answerOfRelease (release-is state good) ∙ release-told (receiverIn state) state
 
-  -- the control word: never refused with 0
-  written-told : (c : Clcw) (lent : ℕ) → wordWritten (writing c lent) (lentOutput lent) ≡ wordTold (writing c lent)
+  -- the control word, whatever the output held: it is never refused with 0
+  written-told : (c : Clcw) (lent : ℕ) (output : List ℕ) → wordWritten (writing c lent) output ≡ wordTold (writing c lent)
   unfolding writing
-  written-told c lent = by (leb (c .channel) 63) (leb (c .counter) 3) (leb 4 lent) where
-    by : (x y z : Bool) → wordWritten (must x (refused 12 0) (must y (refused 12 0) (must z (refused 11 0) (done (clcwOf c) tt)))) (lentOutput lent)
+  written-told c lent output = by (leb (c .channel) 63) (leb (c .counter) 3) (leb 4 lent) where
+    by : (x y z : Bool) → wordWritten (must x (refused 12 0) (must y (refused 12 0) (must z (refused 11 0) (done (clcwOf c) tt)))) output
         ≡ wordTold (must x (refused 12 0) (must y (refused 12 0) (must z (refused 11 0) (done (clcwOf c) tt))))
     by true true true =
-        ap (λ (o : List ℕ). record { refusal = 0; word = some o }) (take-append-seam (clcwOf c) (drop (length (clcwOf c)) (lentOutput lent)))
+        ap (λ (o : List ℕ). record { refusal = 0; word = some o }) (take-append-seam (clcwOf c) (drop (length (clcwOf c)) output))
     by true true false = refl
     by true false z = refl
     by false y z = refl
 
-  pub word-receiver : (lent : ℕ) → wordWritten (wordCall state lent) (lentOutput lent) ≡ receiverWord lent (receiverIn state)
+  pub word-receiver : (lent : ℕ) (output : List ℕ) → wordWritten (wordCall state lent) output ≡ receiverWord lent (receiverIn state)
   unfolding receiverWord
-  word-receiver lent =
-      ap (λ (w : Outcome (Unit {0})). wordWritten w (lentOutput lent)) (word-is state good lent) ∙ written-told (wordOf (receiverIn state)) lent
+  word-receiver lent output =
+      ap (λ (w : Outcome (Unit {0})). wordWritten w output) (word-is state good lent) ∙ written-told (wordOf (receiverIn state)) lent output
 
 -- the receiver of the session's start
 pub start-good : (set : Settings) → Within set → GoodReceiver (octetsOf (startReceiver set))

@@ -10,7 +10,7 @@ use native.Mathlib.Omega.{arith}
 use borrow.Author.Tests.{eqb-true}
 use lib.Dec.{leb, eqb}
 use lib.ListN.{length, drop}
-use Rattle.base.specs.Choice.{pick, must}
+use Rattle.base.specs.Choice.{must}
 use Rattle.base.specs.Outcome.{Outcome, Outcome.done, Outcome.refused, answer, after, numberOf}
 use Rattle.memory.specs.Placed.{placed}
 use Rattle.frame.specs.Answers.{readingOf}
@@ -31,7 +31,7 @@ use Rattle.farm.proofs.Restored as farm-restored
 use Rattle.fop_actions.specs.declared.SenderState.{SenderState}
 use Rattle.sender.specs.declared.Start.{Start}
 use Rattle.sender.specs.Answers.{Step}
-use Rattle.sender.specs.Events.{requestAdOf, requestBdOf, directiveOf, tickOf, lowerLayerOf, controlWordOf}
+use Rattle.sender.specs.Events.{lowerLayerOf}
 use Rattle.sender_octets.specs.Kept.{stateOctets, octetsOf, stateIn, isState, senderIn}
 use Rattle.sender_octets.specs.Answer.{answerOctets}
 use Rattle.sender_octets.proofs.Back.{state-only, refused-no-state}
@@ -39,7 +39,7 @@ use Rattle.boundary.specs.Receivers as receiver
 use Rattle.boundary.specs.Senders as sender
 use Rattle.boundary.specs.Senders.{Called, refusedCall, doneCall, calledBy, lowerNumbered, narrowNumber, narrowValue, startedCall, startGiven}
 use Rattle.boundary_ends.specs.Refused.{Unchanged, RefusedKeeps}
-use Rattle.boundary_ends.proofs.Ways.{Way, Same, refused-same, asks-ad, asks-bd, directs, ticks, lowers, words}
+use Rattle.boundary_ends.proofs.Ways.{Way, refused-same, asks-ad, asks-bd, directs, ticks, lowers, words}
 use Rattle.boundary_ends.proofs.Sender.{placed-whole, reached}
 
 -- what is written, by what comes of it
@@ -66,7 +66,8 @@ read-same : (r : Receiver) (x : FrameReading) → byReading r x .refusal ≢ 0 �
 unfolding byReading arrived answered
 read-same r (reading.Frame fields) h = absurd (h refl)
 read-same r (reading.Refused number) h =
-    ap (λ (n : ℕ). become n (stepOf E9 0 (r .variables)) r) (add-zero (r .taken)) ∙ ap (λ (v : Variables). become (r .taken) v r) (e9-keeps 0 (r .variables))
+    ap (λ (n : ℕ). become n (stepOf E9 0 (r .variables)) r) (add-zero (r .taken))
+    ∙ ap (λ (v : Variables). become (r .taken) v r) (e9-keeps 0 (r .variables))
 
 frame-same : (state frame : List ℕ) → receiver.frameCall state frame .number ≢ 0 → receiver.frameCall state frame .state ≡ state
 unfolding receiver.frameCall receiveOf
@@ -152,7 +153,8 @@ module _ (state store output told : List ℕ) where
       by true e false h = kept 11
       by false e b h = kept 12
 
-  lower-same : (n : ℕ) → sender.lowerCall state n store output told .number ≢ 0 → Unchanged (sender.lowerCall state n store output told) state store output
+  lower-same : (n : ℕ) → sender.lowerCall state n store output told .number ≢ 0
+      → Unchanged (sender.lowerCall state n store output told) state store output
   unfolding sender.lowerCall
   lower-same n = by (leb 1 n) (leb n 6) where
     on : Called
@@ -172,7 +174,8 @@ refused-keeps = record {
   receiverNew = λ spacecraft channel window vr buffers state. starts (receiver.startGiven spacecraft channel window vr buffers) state;
   receiverFrame = frame-same;
   receiverRelease = release-same;
-  senderNew = λ k t1 limit type spacecraft channel vs nnr store state. new-same (startGiven k t1 limit type spacecraft channel vs nnr (length store)) state;
+  senderNew = λ k t1 limit type spacecraft channel vs nnr store state.
+      new-same (startGiven k t1 limit type spacecraft channel vs nnr (length store)) state;
   requestAd = λ state unit store output told. called-same state store output told _ (λ s. asks-ad s store output unit);
   requestBd = λ state unit store output told. called-same state store output told _ (λ s. asks-bd s store output unit);
   directive = λ state d v store output told. called-same state store output told _ (λ s. directs s store output (narrowNumber d v) (narrowValue v));

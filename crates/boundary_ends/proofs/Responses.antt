@@ -1,6 +1,6 @@
 -- The work on an event has room for the numbers of four responses, no more and no fewer: every action keeps their count, so every row does.
 use Prim.Native.Nat.{ℕ, _+_}
-use mathlib.Core.Path.{_≡_, refl, _∙_}
+use mathlib.Core.Path.{_≡_, _∙_}
 use mathlib.Core.Bool.{Bool, true, false}
 use mathlib.Core.List.{List, [], _∷_}
 use mathlib.Core.Option.{Option, none, some}
@@ -25,7 +25,7 @@ use Rattle.fop_actions.specs.Parts.{withSettings, withVariables, withQueues, wi
 use Rattle.fop_actions.specs.Actions as act
 use Rattle.fop_actions.specs.Start.{begun, noneTold}
 use Rattle.fop_actions.specs.View.{stateOf}
-use Rattle.fop_rows.specs.Rows.{declared, declaredReason, octet, done, doneAll, doneCell, rowOf, eventOf, rowIf, rowNumbered}
+use Rattle.fop_rows.specs.Rows.{declaredReason, octet, done, doneAll, doneCell, rowOf, eventOf, rowIf, rowNumbered}
 
 -- the numbers of four responses
 abbrev pub Four : Work → Type 0
@@ -104,7 +104,8 @@ module _ (w : Work) (h : Four w) where
   looks-for-fdu : Four (act.lookForFdu w)
   unfolding act.lookForFdu
   looks-for-fdu = by (w .variables .«ad_out») (ltb 0 (w .queues .marked)) (w .queues .waiting) (act.inWindow w) where
-    by : (a m i r : Bool) → Four (pick a (pick m (act.sendMarked w) (pick i (pick r (act.transmitAdFrame (act.respond response.AcceptAdUnit w)) w) w)) w)
+    by : (a m i r : Bool)
+        → Four (pick a (pick m (act.sendMarked w) (pick i (pick r (act.transmitAdFrame (act.respond response.AcceptAdUnit w)) w) w)) w)
     by false m i r = h
     by true true i r = sends-marked w h
     by true false true true = transmits-ad (act.respond response.AcceptAdUnit w) (responds w h response.AcceptAdUnit)
@@ -139,7 +140,8 @@ alerts a w h = purges (act.cancelTimer w) h
 -- each action
 keeps : (a : Action) (n l : ℕ) (w : Work) → Four w → Four (done a n l w)
 unfolding done act.releaseBcFrame act.holdControl act.cancelTimer act.startTimer act.transmitUnlock act.transmitSetVr act.setSuspendState act.suspend
-    act.resumed act.setVs act.setNnr act.setK act.setT1Initial act.setTransmissionLimit act.setTimeoutType act.adOutReady act.bcOutReady act.bdOutReady
+    act.resumed act.setVs act.setNnr act.setK act.setT1Initial act.setTransmissionLimit act.setTimeoutType
+    act.adOutReady act.bcOutReady act.bdOutReady
     withSettings withVariables withQueues withTold
 keeps Ignore n l w h = h
 keeps Accept n l w h = responds w h response.AcceptDirective

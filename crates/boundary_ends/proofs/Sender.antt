@@ -1,14 +1,15 @@
 -- The sender's half of the tie: the octets that a caller keeps stand for the sender that they hold. Each call is the step of that sender, put
 -- into octets (`call-is`); the octets of the next state and of the answer tell what the step has (`after-is`, `answer-is`); so what crate ends
--- proves of the step holds of the call.
-use Prim.Native.Nat.{ℕ, _+_, _≤_}
+-- proves of the step holds of the call. What the lent output and the answer's buffer held is not looked at (`output-free`, `answer-buffer-free`).
+use Prim.Native.Nat.{ℕ, _+_}
 use mathlib.Core.Path.{_≡_, refl, sym, ap, subst, _∙_}
 use mathlib.Core.Bool.{Bool, true, false}
-use mathlib.Core.List.{List, [], _++_, append-nil}
+use mathlib.Core.List.{List, _++_, append-nil}
 use native.Mathlib.Omega.{arith}
+use borrow.Author.Tests.{le-leb}
 use lib.Dec.{leb, eqb}
-use lib.ListN.{length, drop, drop-of-length-le}
-use Rattle.base.specs.Choice.{pick, must, both}
+use lib.ListN.{length, drop-of-length-le}
+use Rattle.base.specs.Choice.{pick, must}
 use Rattle.base.specs.Octets.{same}
 use Rattle.base.proofs.Tests.{both-right, yes}
 use Rattle.memory.specs.Placed.{placed}
@@ -16,7 +17,7 @@ use Rattle.memory.proofs.Laws.{placed-fits}
 use Rattle.fop.specs.Units.{Own, areOctets}
 use Rattle.fop.specs.Events.{SenderEvent, requestAd, requestBd, tick, lower, directive, wordArrives}
 use Rattle.fop.specs.Events as fop
-use Rattle.fop.specs.Answers.{Answer, senderAnswer, senderNext}
+use Rattle.fop.specs.Answers.{senderAnswer, senderNext}
 use Rattle.fop_actions.specs.declared.SenderState.{SenderState}
 use Rattle.fop_actions.specs.Limits.{places}
 use Rattle.fop_actions.specs.Start.{begun}
@@ -27,7 +28,6 @@ use Rattle.fop_view.specs.State.{Good}
 use Rattle.sender.specs.declared.Answer.{Answer as SenderAnswer}
 use Rattle.sender.specs.declared.Start.{Start}
 use Rattle.sender.specs.State.{wellFormed, restoredOf}
-use Rattle.sender.specs.Start.{refusedStart}
 use Rattle.sender.specs.Answers.{Step, refusedStep}
 use Rattle.sender.specs.Events.{requestAdOf, requestBdOf, directiveOf, tickOf, lowerLayerOf, controlWordOf}
 use Rattle.sender_octets.specs.Kept.{stateOctets, octetsOf, stateIn, isState, senderIn}
@@ -35,10 +35,11 @@ use Rattle.sender_octets.specs.Answer.{answerOctets, octetsOfAnswer, Told, told
 use Rattle.sender_octets.proofs.Judged.{length-octets}
 use Rattle.sender_octets.proofs.Back.{Sized, read-back, octets-back, state-only}
 use Rattle.sender_octets.proofs.Answered.{Fits, answer-back}
-use Rattle.boundary.specs.Senders.{Called, refusedCall, doneCall, calledBy, requestAdCall, requestBdCall, tickCall, wordCall, lowerCall, directiveCall, lowerNumbered, narrowNumber, narrowValue}
+use Rattle.boundary.specs.Senders.{Called, refusedCall, doneCall, calledBy, requestAdCall, requestBdCall, tickCall, wordCall, lowerCall, directiveCall, narrowNumber, narrowValue}
 use Rattle.ends.specs.Ours.{Held, stepOf, lowerAnswer, heldAfter, handedDown, answerBy, lentOutput, reads}
 use Rattle.ends.specs.Does.{Does}
 use Rattle.ends.proofs.Events.{does}
+use Rattle.ends.proofs.Output.{output-content-free}
 use Rattle.ends.proofs.Restored.{good-passes}
 use Rattle.boundary_ends.specs.Called.{Kept, lentAnswer, lowerCalled, ifOctets, callOf, keptAfter, answerCalled, heldIn}
 use Rattle.boundary_ends.proofs.Ways.{Way, refuses, fits, asks-ad, asks-bd, directs, ticks, lowers, words}
@@ -62,13 +63,29 @@ module _ (x : Kept) (is : isState (x .state) ≡ true) (output : List ℕ) where
   abbrev s : SenderState
   s = stateIn (x .state)
 
-  called-by : (event : SenderState → Step)
-      → calledBy event (x .state) (x .store) output lentAnswer ≡ doneCall (event s) (x .state) lentAnswer
-  called-by event =
-      ap (λ (t : Start). must (eqb (t .refusal) 0) (refusedCall 12 (x .state) (x .store) output lentAnswer)
-      (must (leb answerOctets (length lentAnswer)) (refusedCall 11 (x .state) (x .store) output lentAnswer)
-      (doneCall (event (t .sender .fop)) (x .state) lentAnswer)))
+  -- with an answer's buffer that has room
+  called-at : (told : List ℕ) → leb answerOctets (length told) ≡ true → (event : SenderState → Step)
+      → calledBy event (x .state) (x .store) output told ≡ doneCall (event s) (x .state) told
+  called-at told room event =
+      ap (λ (t : Start). must (eqb (t .refusal) 0) (refusedCall 12 (x .state) (x .store) output told)
+      (must (leb answerOctets (length told)) (refusedCall 11 (x .state) (x .store) output told) (doneCall (event (t .sender .fop)) (x .state) told)))
       (reached (x .state) is)
+      ∙ ap (λ (b : Bool). must b (refusedCall 11 (x .state) (x .store) output told) (doneCall (event s) (x .state) told)) room
+
+  called-by : (event : SenderState → Step) → calledBy event (x .state) (x .store) output lentAnswer ≡ doneCall (event s) (x .state) lentAnswer
+  called-by event = called-at lentAnswer refl event
+
+  -- what the answer's buffer held is not looked at
+  pub answer-buffer-free : (told : List ℕ) → length told ≡ answerOctets → (event : SenderState → Step)
+      → calledBy event (x .state) (x .store) output told ≡ calledBy event (x .state) (x .store) output lentAnswer
+  unfolding octetsOfAnswer
+  answer-buffer-free told e event =
+      let done : Called = doneCall (event s) (x .state) told in
+      let octets : List ℕ = octetsOfAnswer (event s .answer) in
+      called-at told (le-leb answerOctets (length told) (omega (arith, e))) event
+      ∙ ap (λ (o : List ℕ). record { number = done .number; state = done .state; store = done .store; output = done .output; answer = o })
+      (placed-whole told octets (sym e) ∙ sym (placed-whole lentAnswer octets refl))
+      ∙ sym (called-by event)
 
   -- what is lent as octets
   as-octets : (o : List ℕ) (call : Called) (event : SenderState → Step) → call ≡ doneCall (event s) (x .state) lentAnswer
@@ -101,7 +118,8 @@ module _ (x : Kept) (is : isState (x .state) ≡ true) (output : List ℕ) where
   call-is (wordArrives o) = as-octets o _ (λ t. controlWordOf o t (x .store) output) (called-by (λ t. controlWordOf o t (x .store) output))
 
   -- its step goes one of the two ways, so its answer fits
-  octets-way : (o : List ℕ) (y : Step) → Way s (x .store) output y → Way s (x .store) output (pick (areOctets o) y (refusedStep 10 s (x .store) output))
+  octets-way : (o : List ℕ) (y : Step) → Way s (x .store) output y
+      → Way s (x .store) output (pick (areOctets o) y (refusedStep 10 s (x .store) output))
   octets-way o y p = by (areOctets o) where
     by : (b : Bool) → Way s (x .store) output (pick b y (refusedStep 10 s (x .store) output))
     by true = p
@@ -117,7 +135,7 @@ module _ (x : Kept) (is : isState (x .state) ≡ true) (output : List ℕ) where
   way (wordArrives o) = octets-way o _ (words s (x .store) output o)
 
   -- the answer's octets tell the step's answer
-  told-is : (a : SenderAnswer) → Fits a → answerIn (placed lentAnswer 0 (octetsOfAnswer a)) ≡ toldBy a
+  pub told-is : (a : SenderAnswer) → Fits a → answerIn (placed lentAnswer 0 (octetsOfAnswer a)) ≡ toldBy a
   unfolding octetsOfAnswer
   told-is a h = ap answerIn (placed-whole lentAnswer (octetsOfAnswer a) refl) ∙ answer-back a h
 
@@ -139,6 +157,16 @@ module _ (x : Kept) (is : isState (x .state) ≡ true) (output : List ℕ) where
         denied = runTold (t .denied);
       })
       (told-is (y .answer) (fits s (x .store) output y (way e)))
+
+-- nor is what the output held
+pub output-free : (x : Kept) → isState (x .state) ≡ true → (e : SenderEvent) (a b : List ℕ) → length a ≡ length b
+    → (keptAfter (callOf e a x) ≡ keptAfter (callOf e b x)) × (answerCalled (callOf e a x) ≡ answerCalled (callOf e b x))
+output-free x is e a b l =
+    let same = output-content-free e (heldIn x) a b l in
+    let kept : Held → Kept = λ h. record { state = placed (x .state) 0 (octetsOf (h .sender .fop)); store = h .store } in (
+      ap keptAfter (call-is x is a e) ∙ ap kept (same .0) ∙ sym (ap keptAfter (call-is x is b e)),
+      answer-is x is a e ∙ same .1 ∙ sym (answer-is x is b e),
+    )
 
 -- what a caller keeps: the octets of a state, well-formed with the store
 pub record GoodKept (own : Own) (x : Kept) : Type 0 where
@@ -162,7 +190,9 @@ module _ (own : Own) (x : Kept) (g : GoodKept own x) (lent : ℕ) where
   output = lentOutput lent
 
   state-length : length (x .state) ≡ stateOctets
-  state-length = ap length (sym (state-only (x .state) (g .is))) ∙ length-octets (stateIn (x .state)) (places-all own (stateIn (x .state)) (x .store) (g .good))
+  state-length =
+      ap length (sym (state-only (x .state) (g .is)))
+      ∙ length-octets (stateIn (x .state)) (places-all own (stateIn (x .state)) (x .store) (g .good))
 
   does-step : (e : SenderEvent) → Does own lent e (reads (heldIn x)) (stepOf e output (heldIn x))
   does-step e = does own e lent (heldIn x) (g .good)

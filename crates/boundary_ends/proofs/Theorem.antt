@@ -1,41 +1,43 @@
 -- Demand 3 of the functions that C and Rust call: a caller's two ends are tied to the tables, so crate session's theorem holds of them. The premise
 -- can be met: what `pondreszi_sender_new` gives, told to initiate without check, begins a session, and what `pondreszi_receiver_new` gives is the
 -- receiver of its start.
-use Prim.Native.Nat.{ℕ, _%_, _≤_}
+use Prim.Native.Nat.{ℕ, _≤_}
 use mathlib.Core.Path.{_≡_, refl, sym, ap, subst, _∙_}
-use mathlib.Core.Bool.{Bool, true}
-use mathlib.Core.List.{List, [], _∷_, _++_, append-nil}
+use mathlib.Core.Bool.{Bool}
+use mathlib.Core.List.{List, _++_, append-nil}
 use native.Mathlib.Omega.{arith}
-use borrow.Author.Tests.{le-leb, eq-eqb}
-use lib.Dec.{leb, eqb}
+use borrow.Author.Tests.{le-leb}
 use lib.ListN.{length, drop, drop-of-length-le}
 use Rattle.base.specs.Choice.{must}
 use Rattle.base.specs.Limits.{largestSpacecraft, largestChannel}
 use Rattle.memory.specs.Placed.{placed}
 use Rattle.fop.specs.Limits.{largestK, largestNumber, largestTimer, largestTransmissionLimit}
-use Rattle.fop.specs.Events.{SenderEvent, directive}
+use Rattle.fop.specs.Events.{directive}
 use Rattle.fop_actions.specs.declared.SenderState.{SenderState}
 use Rattle.fop_actions.specs.Start.{startOf}
 use Rattle.fop_view.specs.State.{Good}
 use Rattle.farm.specs.Kept as farm
 use Rattle.farm.specs.Receiver as farmStart
 use Rattle.farm.specs.declared.Start.{Start as FarmStart}
-use Rattle.farm.specs.declared.Start.the-variants.{Ready, Setting as FarmSetting}
+use Rattle.farm.specs.declared.Start.the-variants.{Setting as FarmSetting}
 use Rattle.farm.proofs.Restored.{receiver-back}
-use Rattle.session.specs.Ends.{Settings, Within, Tied, startReceiver}
+use Rattle.session.specs.Ends.{Settings, Within, Tied, startReceiver, tables}
+use Rattle.session.specs.Session.{Event, begins, run}
+use Rattle.session.specs.Claims.{Claims}
 use Rattle.session.proofs.Theorem.{demand3}
 use Rattle.session.proofs.Strong.{stronger-claims}
 use Rattle.sender.specs.declared.Start.{Start}
 use Rattle.sender.specs.Limits.{smallestStore}
-use Rattle.sender.specs.Start.{startingOf, settingsHold}
-use Rattle.sender_octets.specs.Kept.{stateOctets, octetsOf, stateIn, isState}
+use Rattle.sender.specs.Start.{startingOf}
+use Rattle.sender_octets.specs.Kept.{stateOctets, octetsOf, isState}
 use Rattle.sender_octets.proofs.Judged.{length-octets}
 use Rattle.boundary.specs.Senders as sender
 use Rattle.boundary.specs.Receivers as receiver
 use Rattle.ends.specs.Ours.{Held, stepOf, heldAfter, lentOutput, senderSettings, freshHeld, startHeld, reads, Begins}
 use Rattle.ends.proofs.Theorem.{fresh-good, fresh-begins, receiver-starts}
-use Rattle.boundary_ends.specs.Called.{Kept, callOf, keptAfter, heldIn, BeginsKept, called}
+use Rattle.boundary_ends.specs.Called.{Kept, heldIn, BeginsKept, called}
 use Rattle.boundary_ends.specs.Demand.{Demand3, StrongerCalled}
+use Rattle.boundary_ends.specs.Fresh.{newSender, newKept, startKept, FreshSender, FreshReceiver}
 use Rattle.boundary_ends.proofs.Receiver.{GoodReceiver, keeps-receiver, next-receiver, answer-receiver, word-receiver, start-good}
 use Rattle.boundary_ends.proofs.Sender.{placed-whole, GoodKept, octets-kept, held-is, keeps, next, answers}
 
@@ -56,7 +58,7 @@ called-tied set within x b = record {
   answer = λ e lent y g. answers (set .own) y g lent e;
   nextReceiver = λ e state g. next-receiver state g e;
   answerReceiver = λ e state g. answer-receiver state g e;
-  word = λ lent state g. word-receiver state g lent;
+  word = λ lent state g. word-receiver state g lent (lentOutput lent);
 }
 
 -- demand 3, whole, and what holds besides
@@ -66,19 +68,9 @@ demand3-called set within x b es = demand3 set within (called set x) (called-tie
 pub stronger-called : StrongerCalled
 stronger-called set within x b es = stronger-claims set within (called set x) (called-tied set within x b) es
 
--- a sender by the settings of the session, in a buffer of a state's length
-abbrev pub newSender : Settings → List ℕ → List ℕ → sender.New
-newSender set store buffer =
-    sender.newCall (set .k) (set .t1) (set .limit) 0 (set .own .spacecraft) (set .own .channel) (set .n) (set .n) store buffer
-
--- what is kept of it, and then of directive 1
-abbrev pub newKept : Settings → List ℕ → List ℕ → Kept
-newKept set store buffer = record { state = newSender set store buffer .state; store = store }
-
-abbrev pub startKept : Settings → List ℕ → List ℕ → Kept
-startKept set store buffer = keptAfter (callOf (directive 1 0) (lentOutput 0) (newKept set store buffer))
-
-module _ (set : Settings) (within : Within set) (store : List ℕ) (long : smallestStore ≤ length store) (buffer : List ℕ) (sized : length buffer ≡ stateOctets) where
+-- a new sender, in a buffer of a state's length
+module _ (set : Settings) (within : Within set) (store : List ℕ) (long : smallestStore ≤ length store) (buffer : List ℕ)
+    (sized : length buffer ≡ stateOctets) where
   abbrev first : SenderState
   first = startOf (senderSettings set) (set .n) (set .n)
 
@@ -115,12 +107,13 @@ module _ (set : Settings) (within : Within set) (store : List ℕ) (long : small
       subst (λ (x : Held). Good (set .own) (x .sender .fop) (x .store)) held-first (fresh-good set within (set .n) (within .number) store long)
 
   -- `pondreszi_sender_new` is done, and gives the octets of a fresh sender
-  pub new-done : newSender set store buffer ≡ record { number = 0; state = octetsOf first }
+  new-done : newSender set store buffer ≡ record { number = 0; state = octetsOf first }
   unfolding sender.newCall startOf
   new-done =
       let l : stateOctets ≤ length buffer = omega arith in
       ap (λ (x : Start). sender.startedCall x buffer) given
-      ∙ ap (λ (b : Bool). must b (record { number = 11; state = buffer }) (record { number = 0; state = placed buffer 0 (octetsOf first) })) (le-leb stateOctets (length buffer) l)
+      ∙ ap (λ (b : Bool). must b (record { number = 11; state = buffer }) (record { number = 0; state = placed buffer 0 (octetsOf first) }))
+      (le-leb stateOctets (length buffer) l)
       ∙ ap (λ (o : List ℕ). record { number = 0; state = o }) (placed-whole buffer (octetsOf first) (length-octets first refl ∙ sym sized))
 
   new-held : heldIn (newKept set store buffer) ≡ freshHeld set (set .n) store
@@ -132,31 +125,48 @@ module _ (set : Settings) (within : Within set) (store : List ℕ) (long : small
   new-good : GoodKept (set .own) (newKept set store buffer)
   new-good = record {
     is = ap (λ (x : sender.New). isState (x .state)) new-done ∙ octets-kept (set .own) first store first-good .0;
-    good = subst (λ (x : Held). Good (set .own) (x .sender .fop) (x .store)) (sym new-held) (fresh-good set within (set .n) (within .number) store long);
+    good = subst (λ (x : Held). Good (set .own) (x .sender .fop) (x .store)) (sym new-held)
+        (fresh-good set within (set .n) (within .number) store long);
   }
 
   -- told to initiate without check, it begins a session at Transmission_Count 1
-  pub fresh-called : set .count ≡ 1 → BeginsKept set (startKept set store buffer)
-  fresh-called one =
+  start-begins : set .count ≡ 1 → BeginsKept set (startKept set store buffer)
+  start-begins one =
       let h : heldIn (startKept set store buffer) ≡ startHeld set store =
-      held-is (set .own) (newKept set store buffer) new-good 0 (directive 1 0) ∙ ap (λ (x : Held). heldAfter (stepOf (directive 1 0) (lentOutput 0) x)) new-held in
+      held-is (set .own) (newKept set store buffer) new-good 0 (directive 1 0)
+      ∙ ap (λ (x : Held). heldAfter (stepOf (directive 1 0) (lentOutput 0) x)) new-held in
       record {
         is = keeps (set .own) (newKept set store buffer) new-good 0 (directive 1 0) .is;
         begins = subst (Begins set) (sym h) (fresh-begins set within one store long);
       }
 
+pub fresh-called : FreshSender
+fresh-called set within one store long buffer sized = record {
+  number = ap (λ (x : sender.New). x .number) (new-done set within store long buffer sized);
+  begins = start-begins set within store long buffer sized one;
+}
+
+-- so demand 3 holds from there
+pub demand3-fresh : (set : Settings) → Within set → set .count ≡ 1 → (store : List ℕ) → smallestStore ≤ length store → (buffer : List ℕ)
+    → length buffer ≡ stateOctets → (es : List Event)
+    → Claims set (called set (startKept set store buffer))
+    (run set (called set (startKept set store buffer)) es (begins (called set (startKept set store buffer))))
+    (run set (tables set) es (begins (tables set)))
+demand3-fresh set within one store long buffer sized es =
+    demand3-called set within (startKept set store buffer) (fresh-called set within one store long buffer sized .begins) es
+
 -- `pondreszi_receiver_new` gives the octets of the session's receiver, at a FARM-B counter of 0
-pub fresh-receiver : (set : Settings) → Within set → set .counter ≡ 0 → (buffer : List ℕ) → length buffer ≡ farm.stateOctets
-    → receiver.newCall (set .own .spacecraft) (set .own .channel) (set .w) (set .n) (set .buffers) buffer
-    ≡ record { number = 0; state = farm.octetsOf (startReceiver set) }
+pub fresh-receiver : FreshReceiver
 unfolding receiver.newCall receiver.startGiven
 fresh-receiver set within zero buffer sized =
     let l : farm.stateOctets ≤ length buffer = omega arith in
     let s : length buffer ≤ farm.stateOctets = omega arith in
-    ap (λ (b : Bool). receiver.starting (must b FarmSetting (farmStart.startOf (set .own .spacecraft) (set .own .channel) (set .w) (set .n) (set .buffers))) buffer)
+    let octets : List ℕ = farm.octetsOf (startReceiver set) in
+    let start : FarmStart = farmStart.startOf (set .own .spacecraft) (set .own .channel) (set .w) (set .n) (set .buffers) in
+    ap (λ (b : Bool). receiver.starting (must b FarmSetting start) buffer)
     (le-leb (set .n) largestNumber (within .number))
     ∙ ap (λ (x : FarmStart). receiver.starting x buffer) (receiver-starts set within zero)
-    ∙ ap (λ (b : Bool). must b (record { number = 11; state = buffer }) (record { number = 0; state = farm.octetsOf (startReceiver set) ++ drop farm.stateOctets buffer }))
+    ∙ ap (λ (b : Bool). must b (record { number = 11; state = buffer }) (record { number = 0; state = octets ++ drop farm.stateOctets buffer }))
     (le-leb farm.stateOctets (length buffer) l)
     ∙ ap (λ (o : List ℕ). record { number = 0; state = o })
-    (ap (λ (o : List ℕ). farm.octetsOf (startReceiver set) ++ o) (drop-of-length-le buffer {i = farm.stateOctets} s) ∙ append-nil (farm.octetsOf (startReceiver set)))
+    (ap (λ (o : List ℕ). octets ++ o) (drop-of-length-le buffer {i = farm.stateOctets} s) ∙ append-nil octets)

@@ -17,7 +17,6 @@ use Rattle.clcw.specs.Answers.{readingOf}
 use Rattle.clcw.specs.declared.WordReading.{WordReading}
 use Rattle.clcw.specs.declared.WordReading.the-variants as reading
 use Rattle.fop_actions.specs.declared.Response.the-variants.{RejectDirective}
-use Rattle.fop_actions.specs.declared.Responses.{Responses}
 use Rattle.fop_actions.specs.declared.SenderState.{SenderState}
 use Rattle.fop_actions.specs.declared.Work.{Work}
 use Rattle.fop_actions.specs.Actions.{responseNumber, responsesWith}
@@ -28,7 +27,7 @@ use Rattle.fop_rows.specs.Rows.{rowNumbered}
 use Rattle.fop_events.specs.declared.Lower.{Lower}
 use Rattle.fop_events.specs.Events.{wordNumber, directiveNumber, adNumber, bdNumber, lowerNumber}
 use Rattle.sender.specs.declared.Answer.{Answer}
-use Rattle.sender.specs.Answers.{noResponses, refusedResponses, answered, refusing, concluded, Step, stepBy, refusedStep}
+use Rattle.sender.specs.Answers.{noResponses, answered, refusing, concluded, Step, stepBy, refusedStep}
 use Rattle.sender.specs.Limits.{smallestStore}
 use Rattle.sender.specs.Events.{handedWriting, unitBefore, unitOffered, added, servedBy, served, offeredBy, bypassedBy, mustBeUnit, requestAdOf, requestBdOf, directiveOf, ticked, tickNumber, tickOf, lowerLayerOf, wordBy, controlWordOf}
 use Rattle.sender_octets.proofs.Answered.{Fits, down-fits}

@@ -1,3 +1,5 @@
 pub mod Called
 pub mod Demand
+pub mod Fresh
 pub mod Refused
+pub mod Kind
