@@ -391,7 +391,7 @@ mod tests {
         assert_eq!(SenderState::read(&octets), Some(state));
         let bad_octets = [
             [(0, 0x52), (1, 2), (2, 0), (2, 7), (3, 0), (3, 33)],
-            [(6, 0), (8, 4), (10, 64), (11, 233), (16, 32), (18, 1)],
+            [(6, 0), (8, 4), (10, 64), (16, 64), (16, 32), (18, 1)],
             [(7, 1), (15, 0), (17, 1), (19, 1), (20, 3), (22, 1)],
         ];
         for (place, octet) in bad_octets.into_iter().flatten() {
@@ -401,6 +401,9 @@ mod tests {
         }
         assert!(!no_sender_state(&octets));
         assert!(no_sender_state(&octets[..87]));
+        // Any two numbers are a sender's.
+        octets[11] = 233;
+        assert!(!no_sender_state(&octets));
     }
 
     #[test]

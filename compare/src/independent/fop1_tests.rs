@@ -422,13 +422,14 @@ fn starts() {
             assert_eq!(Sender::start(&settings, STORE).is_ok(), good);
         }
     }
-    // V(S) - NN(R) is at most the largest K.
+    // Any two numbers are taken.
     for (v_s, nn_r, good) in [
         (255, 255, true),
         (256, 256, false),
         (31, 255, true),
-        (32, 255, false),
-        (0, 1, false),
+        (32, 255, true),
+        (0, 1, true),
+        (0, 256, false),
     ] {
         let mut settings = settings();
         settings.v_s = v_s;
