@@ -1,7 +1,7 @@
 -- The receiver's half of the tie: the octets that a caller keeps stand for the receiver that they hold. A call keeps them a state whatever
 -- list arrives as a frame, also one that is no octets: what the test of a state looks at does not depend on V(R), and up to V(R) every frame
 -- does what some frame of octets does (`arrives`).
-use Prim.Native.Nat.{ℕ, _+_, _-_, zero, suc}
+use Prim.Native.Nat.{ℕ, _+_, _-_, _≤_, zero, suc}
 use mathlib.Core.Path.{_≡_, refl, sym, ap, subst, _∙_}
 use mathlib.Core.Bool.{Bool, true, false}
 use mathlib.Core.List.{List, [], _∷_, _++_, append-nil}
@@ -42,9 +42,9 @@ use Rattle.farm.specs.declared.Released.{Released}
 use Rattle.farm.specs.declared.Released.the-variants.{Done, NoneTaken}
 use Rattle.farm.specs.Window.{adEvent}
 use Rattle.farm.proofs.Cells.{at, by-state, by-event, e9-keeps}
-use Rattle.farm.proofs.Kept.{WellFormed, receive-well, release-well}
-use Rattle.farm.proofs.Restored.{receiver-back, octets-back}
-use Rattle.session.specs.Receiver.{ReceiverEvent, frameArrives, releaseBuffer, ReceiverAnswer, receiverNext, afterRelease, handedOut, releaseAnswer, receiverAnswer, wordTold, receiverWord}
+use Rattle.farm.proofs.Kept.{WellFormed, receive-well, release-well, word-written}
+use Rattle.farm.proofs.Restored.{receiver-back, octets-back, restored-well}
+use Rattle.session.specs.Receiver.{ReceiverEvent, frameArrives, releaseBuffer, ReceiverAnswer, receiverNext, afterRelease, handedOut, releaseAnswer, receiverAnswer, wordLength, wordTold, receiverWord}
 use Rattle.session.specs.Ends.{Settings, Within, startReceiver}
 use Rattle.boundary.specs.Receivers.{unitNumber, unitPlace, Frame, received, frameCall, Release, releasedBy, releaseCall, wordCall}
 use Rattle.boundary_ends.specs.Called.{eventNumbered, unitCalled, receiverCalled, receiverAfter, wordWritten}
@@ -336,3 +336,10 @@ start-good set within =
       taken = omega arith;
       waitFull = λ w. absurd (apart w);
     })
+
+-- Its control word can always be written: octets that are a state are refused for want of room only.
+pub word-always : (state : List ℕ) (lent : ℕ) → isState state ≡ true → Octets state → wordLength ≤ lent
+    → wordCall state lent ≡ done (clcwOf (wordOf (receiverIn state))) tt
+unfolding wordCall
+word-always state lent e o room =
+    ap (λ (b : Bool). must b (refused 12 0) (writing (wordOf (receiverIn state)) lent)) e ∙ word-written (receiverIn state) lent (restored-well state e o) room

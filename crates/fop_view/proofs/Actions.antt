@@ -20,7 +20,7 @@ use Rattle.fop_actions.proofs.ViewAnswers as answers
 use Rattle.fop_actions.proofs.ViewAnswers.{Room}
 use Rattle.fop_rows.specs.Rows.{done, doneAll, declaredReason}
 use Rattle.fop_view.specs.Rows.{Brings, acknowledging, offering, numbering, widening, clocking, limiting, timing, Needed}
-use Rattle.fop_view.proofs.Mode.{Stored, moved, put, Quiet, started, ceased, released, offered, remaining, sending, bothPurged, Mode, going, half, over, same, same-is, onGoing, onlyIf, taking, turned, answered, repeated, purged, handedDown, controlled, looked, given, after, afterAll}
+use Rattle.fop_view.proofs.Mode.{Stored, moved, put, Idle, started, ceased, released, offered, remaining, sending, bothPurged, Mode, going, half, over, same, same-is, onGoing, onlyIf, taking, turned, answered, repeated, purged, handedDown, controlled, looked, given, after, afterAll}
 use Rattle.fop_view.proofs.Known.{Case, seen, Open, At}
 use Rattle.fop_view.proofs.Onward.{on-fresh, on-going, on-half, only-if, takes}
 use Rattle.fop_view.proofs.Values as values
@@ -30,24 +30,24 @@ use Rattle.fop_view.proofs.First as first
 
 -- The groups of actions.
 module _ (x : Case) (w v : Work) (a : Action) (mode : Mode) (m : machine.Work) (h : At x mode w m) where
-  turned-mode : (Z : Quiet → Quiet) → ((p : Stored) (f : Bool) (z : Quiet) (u : Bool) (l : ℕ) → Open x p f z u l w m → Open x p f (Z z) u l v (perform a m))
+  turned-mode : (Z : Idle → Idle) → ((p : Stored) (f : Bool) (z : Idle) (u : Bool) (l : ℕ) → Open x p f z u l w m → Open x p f (Z z) u l v (perform a m))
       → At x (onGoing (turned Z) mode) v (perform a m)
   turned-mode Z step = on-going x w v m (perform a m) (turned Z) step mode h
 
-  same-mode : ((p : Stored) (f : Bool) (z : Quiet) (u : Bool) (l : ℕ) → Open x p f z u l w m → Open x p f z u l v (perform a m)) → At x (onGoing going mode) v (perform a m)
+  same-mode : ((p : Stored) (f : Bool) (z : Idle) (u : Bool) (l : ℕ) → Open x p f z u l w m → Open x p f z u l v (perform a m)) → At x (onGoing going mode) v (perform a m)
   same-mode step = turned-mode (λ z. z) step
 
-  given-mode : (t : Bool) → (t ≡ true → (p : Stored) (f : Bool) (z : Quiet) (u : Bool) (l : ℕ) → Open x p f z u l w m → Open x p f z u l v (perform a m))
+  given-mode : (t : Bool) → (t ≡ true → (p : Stored) (f : Bool) (z : Idle) (u : Bool) (l : ℕ) → Open x p f z u l w m → Open x p f z u l v (perform a m))
       → At x (onGoing (given t) mode) v (perform a m)
   given-mode t step =
       on-going x w v m (perform a m) (given t) (λ p f z u l g. only-if x w v m (perform a m) t (going p f z u l) (λ y. step y p f z u l g)) mode h
 
-  repeated-mode : ((p : Stored) (z : Quiet) (u : Bool) (l : ℕ) → Open x p true z u l w m → Open x p false (started z) u l v (perform a m)) → At x (onGoing repeated mode) v (perform a m)
+  repeated-mode : ((p : Stored) (z : Idle) (u : Bool) (l : ℕ) → Open x p true z u l w m → Open x p false (started z) u l v (perform a m)) → At x (onGoing repeated mode) v (perform a m)
   repeated-mode step =
       on-going x w v m (perform a m) repeated
       (λ p f z u l g. only-if x w v m (perform a m) f (going p false (started z) u l) (λ y. step p z u l (subst (λ (b : Bool). Open x p b z u l w m) y g))) mode h
 
-  purged-mode : (Z : Quiet → Quiet) → ((p : Stored) (f : Bool) (z : Quiet) (l : ℕ) → Open x p f z true (suc (suc l)) w m → Open x p false (bothPurged (Z z)) false l v (perform a m))
+  purged-mode : (Z : Idle → Idle) → ((p : Stored) (f : Bool) (z : Idle) (l : ℕ) → Open x p f z true (suc (suc l)) w m → Open x p false (bothPurged (Z z)) false l v (perform a m))
       → At x (onGoing (purged Z) mode) v (perform a m)
   purged-mode Z step =
       on-going x w v m (perform a m) (purged Z)

@@ -29,8 +29,8 @@ use Rattle.fop_actions.proofs.ViewValues as values
 use Rattle.fop_rows.specs.Rows.{declared, doneAll, doneCell, inMain}
 use Rattle.fop_view.specs.State.{Good}
 use Rattle.fop_view.specs.Rows.{Brings, nothing, acknowledging, again, offering, numbering, widening, clocking, limiting, timing, suspending, brings, Needed, storeBy, lengthsBy, Shows}
-use Rattle.fop_view.proofs.Mode.{Stored, kept, moved, put, Quiet, Mode, fresh, going, half, over, bad, same, same-is, initial, quietIn, begins, implied, agrees, covers, notPut, putWhere, fits, ends, afterAll, allows}
-use Rattle.fop_view.proofs.Known.{Case, seen, Where, Left, StoreIs, LengthsIs, QuietIs, NoMore, Shut, At, known, where-on, none-below, no-more-first}
+use Rattle.fop_view.proofs.Mode.{Stored, kept, moved, put, Idle, Mode, fresh, going, half, over, bad, same, same-is, initial, idleIn, begins, implied, agrees, covers, notPut, putWhere, fits, ends, afterAll, allows}
+use Rattle.fop_view.proofs.Known.{Case, seen, Where, Left, StoreIs, LengthsIs, IdleIs, NoMore, Shut, At, known, where-on, none-below, no-more-first}
 use Rattle.fop_view.proofs.Actions.{steps}
 
 -- The store and the lengths after the event.
@@ -86,7 +86,7 @@ agrees-is : (a b : Bool) → agrees a b ≡ true → b ≡ a
 agrees-is true b t = t
 agrees-is false b t = not-true b t
 
-covered : (asked z : Quiet) {timer sent : ℕ} {waiting : Bool} {bc : Control} → covers asked z ≡ true → QuietIs z timer sent waiting bc → QuietIs asked timer sent waiting bc
+covered : (asked z : Idle) {timer sent : ℕ} {waiting : Bool} {bc : Control} → covers asked z ≡ true → IdleIs z timer sent waiting bc → IdleIs asked timer sent waiting bc
 covered asked z t q =
     let a : Bool = implied (asked .unsent) (z .unsent) in
     let b : Bool = implied (asked .unasked) (z .unasked) in
@@ -130,13 +130,13 @@ shown x w m store left most h = record {
 }
 
 module _ (x : Case) (good : Good (x .own) (x .sender) (x .store)) where
-  enters : (p : Stored) (z : Quiet) (t : table.State) (w : Work) (m : machine.Work) → fits (brings (x .event)) (inMain (x .sender .state)) p ≡ true
-      → covers (quietIn (declared t)) z ≡ true
+  enters : (p : Stored) (z : Idle) (t : table.State) (w : Work) (m : machine.Work) → fits (brings (x .event)) (inMain (x .sender .state)) p ≡ true
+      → covers (idleIn (declared t)) z ≡ true
       → Shut x p z w m → Shown x (act.toState (declared t) w) (machine.onFop (machine.setState t (m .fop)) m)
   unfolding act.toState begun senderOf
   enters p z t w m a b h =
       let e = h .ended in
-      let q = covered (quietIn (declared t)) z b (e .quiet) in
+      let q = covered (idleIn (declared t)) z b (e .idle) in
       let v = act.toState (declared t) w in
       let to : machine.Work → machine.Work = λ y. machine.onFop (machine.setState t (y .fop)) y in
       let is : to m ≡ seen x (h .c) (h .d) v (h .store) =
@@ -176,11 +176,11 @@ module _ (x : Case) (good : Good (x .own) (x .sender) (x .store)) where
       → Shown x (act.toState (declared t) w) (machine.onFop (machine.setState t (m .fop)) m)
   ended (fresh f z) t w m y h = absurd (apart y)
   ended (going p f z u l) t w m y h =
-      enters p z t w m (both-left _ _ y) (both-right (fits (brings (x .event)) (inMain (x .sender .state)) p) (covers (quietIn (declared t)) z) y)
+      enters p z t w m (both-left _ _ y) (both-right (fits (brings (x .event)) (inMain (x .sender .state)) p) (covers (idleIn (declared t)) z) y)
       (record { store = h .store; c = h .c; d = h .d; is = h .is; formed = h .formed; ended = h .ended })
   ended (half p z u l) t w m y h = absurd (apart y)
   ended (over p z) t w m y h =
-      enters p z t w m (both-left _ _ y) (both-right (fits (brings (x .event)) (inMain (x .sender .state)) p) (covers (quietIn (declared t)) z) y) h
+      enters p z t w m (both-left _ _ y) (both-right (fits (brings (x .event)) (inMain (x .sender .state)) p) (covers (idleIn (declared t)) z) y) h
   ended bad t w m y h = absurd (apart y)
 
   -- Not Applicable: nothing is done
@@ -200,8 +200,8 @@ module _ (x : Case) (good : Good (x .own) (x .sender) (x .store)) where
       omega (arith, n, good .limit)
   few-again false e h = tt
 
-  quiet-first : QuietIs (quietIn (x .sender .state)) (x .sender .variables .timer) (x .sender .queues .sent) (x .sender .queues .waiting) (x .sender .queues .control)
-  quiet-first =
+  idle-first : IdleIs (idleIn (x .sender .state)) (x .sender .variables .timer) (x .sender .queues .sent) (x .sender .queues .waiting) (x .sender .queues .control)
+  idle-first =
       let s = x .sender .state in
       record {
         unsent = where-on (not (inMain s)) (λ t. good .sent-main (not-true (inMain s) t));
@@ -217,7 +217,7 @@ module _ (x : Case) (good : Good (x .own) (x .sender) (x .store)) where
       is = refl;
       good = good;
       few = few-again (same (brings (x .event)) again) refl meets;
-      quiet = quiet-first;
+      idle = idle-first;
     }
 
     acted : (acts : List Action) (t : table.State)

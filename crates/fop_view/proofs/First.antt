@@ -36,7 +36,7 @@ use Rattle.fop_actions.proofs.ViewRuns.{confirmed-run}
 use Rattle.fop_actions.proofs.ViewStart.{room-begun}
 use Rattle.fop_actions.proofs.ViewWaiting as waiting
 use Rattle.fop_view.specs.State.{Good, held}
-use Rattle.fop_view.proofs.Mode.{moved, put, Quiet, offered, remaining}
+use Rattle.fop_view.proofs.Mode.{moved, put, Idle, offered, remaining}
 use Rattle.fop_view.proofs.Known.{Case, Fresh, NoMore, Open, octet-is, held-most, held-waiting, good-settled, good-counted, counts-one, none-below}
 
 -- Remove acknowledged frames, by N(R) from NN(R) to V(S).
@@ -67,7 +67,7 @@ module _ (x : Case) (good : Good (x .own) (x .sender) (x .store)) where
       let w = begun (x .sender) in
       omega (arith, gone-is w (x .store) n (good .formed), least-first (q .sent) (offset (w .variables .vs) n), held-most (staying n w) (q .waiting))
 
-  removes : (f : Bool) (z : Quiet) (m : machine.Work) → Fresh x f z (begun (x .sender)) m → x .value < 256
+  removes : (f : Bool) (z : Idle) (m : machine.Work) → Fresh x f z (begun (x .sender)) m → x .value < 256
       → offset (x .value) (x .sender .variables .nnr) ≤ offset (x .sender .variables .vs) (x .sender .variables .nnr)
       → Open x moved true (remaining z) true largestResponses (act.removeAcknowledgedFrames (x .value) (begun (x .sender))) (perform table.RemoveAcknowledgedFrames m)
   unfolding begun noneTold act.removeAcknowledgedFrames withVariables withQueues withTold
@@ -92,7 +92,7 @@ module _ (x : Case) (good : Good (x .own) (x .sender) (x .store)) where
             of-confirmed = confirmed-run w (x .store) (x .value) (good .formed);
             of-denied = refl;
           };
-          quiet = record { unsent = tt; unasked = h .quiet .unasked; stopped = h .quiet .stopped; frame = h .quiet .frame };
+          idle = record { unsent = tt; unasked = h .idle .unasked; stopped = h .idle .stopped; frame = h .idle .frame };
           below = none-below handed.None _ refl;
         };
         going = record { none = refl; room = room-begun (x .sender); undenied = refl; few = omega arith };
@@ -118,7 +118,7 @@ module _ (x : Case) (good : Good (x .own) (x .sender) (x .store)) where
         let here : i < length (x .sender .queues .lengths) = omega (arith, sent-few, good .formed .all-places) in
         rw (← k, getD-set-same (x .sender .queues .lengths) i (length (x .octets)) 0 here) o
 
-  adds : (f : Bool) (z : Quiet) (m : machine.Work) → Fresh x f z (begun (x .sender)) m → 1 ≤ length (x .octets) → length (x .octets) ≤ largestUnit
+  adds : (f : Bool) (z : Idle) (m : machine.Work) → Fresh x f z (begun (x .sender)) m → 1 ≤ length (x .octets) → length (x .octets) ≤ largestUnit
       → Open x put f (offered z) true largestResponses (act.addToWaitQueue (length (x .octets)) (begun (x .sender))) (perform table.AddToWaitQueue m)
   unfolding begun noneTold act.addToWaitQueue withQueues
   adds f z m h o i =
@@ -142,15 +142,15 @@ module _ (x : Case) (good : Good (x .own) (x .sender) (x .store)) where
           filled = λ j k. subst (λ (ls : List ℕ). 1 ≤ getD ls j 0) longer (filled-set o j k);
           no-more = omega arith;
           runs = record { stored = refl; measured = sym longer; of-confirmed = refl; of-denied = refl };
-          quiet = record { unsent = h .quiet .unsent; unasked = tt; stopped = h .quiet .stopped; frame = h .quiet .frame };
+          idle = record { unsent = h .idle .unsent; unasked = tt; stopped = h .idle .stopped; frame = h .idle .frame };
           below = none-below handed.None _ refl;
         };
         going = record { none = refl; room = room-begun (x .sender); undenied = refl; few = h .few };
       }
 
-module _ (x : Case) (f : Bool) (z : Quiet) (w : Work) (m : machine.Work) (h : Fresh x f z w m) where
+module _ (x : Case) (f : Bool) (z : Idle) (w : Work) (m : machine.Work) (h : Fresh x f z w m) where
   again : Fresh x f z (begun (x .sender)) m
-  again = record { begins = refl; is = h .is; good = h .good; few = h .few; quiet = h .quiet }
+  again = record { begins = refl; is = h .is; good = h .good; few = h .few; idle = h .idle }
 
   pub remove-acknowledged-frames : (x .value < 256) × (offset (x .value) (x .sender .variables .nnr) ≤ offset (x .sender .variables .vs) (x .sender .variables .nnr))
       → Open x moved true (remaining z) true largestResponses (act.removeAcknowledgedFrames (x .value % 256) w) (perform table.RemoveAcknowledgedFrames m)

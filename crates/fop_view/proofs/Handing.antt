@@ -26,8 +26,8 @@ use Rattle.fop_actions.proofs.Kept as well
 use Rattle.fop_actions.proofs.ViewTransmit as transmit
 use Rattle.fop_rows.specs.Rows.{isFrame}
 use Rattle.fop_view.specs.State.{held}
-use Rattle.fop_view.proofs.Mode.{Stored, Quiet, started, framed, sending}
-use Rattle.fop_view.proofs.Known.{Case, seen, Counted, QuietIs, NoMore, EndedOf, Open, Shut, octet-is, less-room, starts, frames, requieted, counts-one}
+use Rattle.fop_view.proofs.Mode.{Stored, Idle, started, framed, sending}
+use Rattle.fop_view.proofs.Known.{Case, seen, Counted, IdleIs, NoMore, EndedOf, Open, Shut, octet-is, less-room, starts, frames, idle-again, counts-one}
 use Rattle.fop_view.proofs.Onward.{shuts}
 
 -- a frame of another type than AD
@@ -42,14 +42,14 @@ not-ad handed.Unlock t sent k i q = let z : _≡_ {A = ℕ} 0 1 = cc in omega ar
 not-ad (handed.SetVr n) t sent k i q = let z : _≡_ {A = ℕ} 0 1 = cc in omega arith
 
 -- Frames of other types.
-module _ (x : Case) (w : Work) (store : List ℕ) (p : Stored) (z : Quiet) (c d : List Fdu) (e : EndedOf x p z store c d w) where
+module _ (x : Case) (w : Work) (store : List ℕ) (p : Stored) (z : Idle) (c d : List Fdu) (e : EndedOf x p z store c d w) where
   other-handed : (down : Handed) → OtherFrame down → EndedOf x p z store c d (act.handDown down w)
   unfolding act.handDown withTold
-  other-handed down t = record { settled = e .settled; counted = e .counted; filled = e .filled; no-more = e .no-more; runs = e .runs; quiet = e .quiet; below = not-ad down t (w .queues .sent) }
+  other-handed down t = record { settled = e .settled; counted = e .counted; filled = e .filled; no-more = e .no-more; runs = e .runs; idle = e .idle; below = not-ad down t (w .queues .sent) }
 
   bc-sent : (k : Control) → isFrame k ≡ true → (down : Handed) → OtherFrame down → EndedOf x p (framed (started z)) store c d (act.transmitBcFrame k down w)
   unfolding act.transmitBcFrame act.startTimer act.handDown act.holdControl withVariables withQueues withTold
-  bc-sent k b down t = requieted (other-handed down t) (counts-one (e .counted .serving)) (frames (starts (e .quiet)) b)
+  bc-sent k b down t = idle-again (other-handed down t) (counts-one (e .counted .serving)) (frames (starts (e .idle)) b)
 
   marked-sent : (down : Handed) → OtherFrame down → EndedOf x p z store c d (act.sendMarkedControl down w)
   unfolding act.sendMarkedControl act.sendControl act.holdControl act.handDown withVariables withQueues withTold
@@ -65,7 +65,7 @@ module _ (x : Case) (w : Work) (store : List ℕ) (p : Stored) (z : Quiet) (c d 
   directive-looked control.Unlock = marked-sent handed.Unlock unlock
   directive-looked (control.SetVr n) = marked-sent (handed.SetVr n) (setVr n)
 
-module _ (x : Case) (w : Work) (m : machine.Work) {p : Stored} {f : Bool} {z : Quiet} {u : Bool} {l : ℕ} (h : Open x p f z u l w m) where
+module _ (x : Case) (w : Work) (m : machine.Work) {p : Stored} {f : Bool} {z : Idle} {u : Bool} {l : ℕ} (h : Open x p f z u l w m) where
   pub transmit-unlock : Shut x p (framed (started z)) (act.transmitUnlock w) (perform table.TransmitUnlock m)
   unfolding act.transmitUnlock act.transmitBcFrame act.startTimer act.handDown act.holdControl withVariables withQueues withTold
   transmit-unlock =
@@ -107,9 +107,9 @@ counted-for sent count {u} k = by (eqb sent 0) where
   by true = counts-one (k .serving)
   by false = k
 
-module _ (x : Case) (w : Work) (store : List ℕ) {p : Stored} {z : Quiet} {c d : List Fdu} (e : EndedOf x p z store c d w) (formed : WellFormed w store) where
-  any-sent : {timer sent : ℕ} {waiting : Bool} → QuietIs (sending z) timer sent waiting (w .queues .control)
-  any-sent = record { unsent = tt; unasked = tt; stopped = tt; frame = e .quiet .frame }
+module _ (x : Case) (w : Work) (store : List ℕ) {p : Stored} {z : Idle} {c d : List Fdu} (e : EndedOf x p z store c d w) (formed : WellFormed w store) where
+  any-sent : {timer sent : ℕ} {waiting : Bool} → IdleIs (sending z) timer sent waiting (w .queues .control)
+  any-sent = record { unsent = tt; unasked = tt; stopped = tt; frame = e .idle .frame }
 
   marked-again : 0 < w .queues .marked → EndedOf x p (sending z) store c d (act.sendMarked w)
   unfolding act.sendMarked act.handDown withVariables withQueues withTold
@@ -122,7 +122,7 @@ module _ (x : Case) (w : Work) (store : List ℕ) {p : Stored} {z : Quiet} {c d 
         filled = e .filled;
         no-more = e .no-more;
         runs = e .runs;
-        quiet = any-sent;
+        idle = any-sent;
         below = λ k i b. omega (arith, here, ad-place (handed.Ad (offset (w .variables .vs) (q .marked)) (offset (q .sent) (q .marked))) _ _ k i refl b);
       }
 
@@ -137,12 +137,12 @@ module _ (x : Case) (w : Work) (store : List ℕ) {p : Stored} {z : Quiet} {c d 
         filled = λ i b. e .filled i (subst (λ (y : Bool). i < held (q .sent) y) (sym t) (omega (arith, more, b)));
         no-more = omega (arith, more, subst (λ (y : Bool). NoMore x (w .told .confirmed .count) (q .sent) y) t (e .no-more));
         runs = e .runs;
-        quiet = any-sent;
+        idle = any-sent;
         below = λ k i b. omega (arith, more, ad-place (handed.Ad (w .variables .vs) (q .sent)) _ _ k i refl b);
       }
 
   same-sent : EndedOf x p (sending z) store c d w
-  same-sent = record { settled = e .settled; counted = e .counted; filled = e .filled; no-more = e .no-more; runs = e .runs; quiet = any-sent; below = e .below }
+  same-sent = record { settled = e .settled; counted = e .counted; filled = e .filled; no-more = e .no-more; runs = e .runs; idle = any-sent; below = e .below }
 
   fdu-looked : EndedOf x p (sending z) store c d (act.lookForFdu w)
   unfolding act.lookForFdu
@@ -155,7 +155,7 @@ module _ (x : Case) (w : Work) (store : List ℕ) {p : Stored} {z : Quiet} {c d 
     by true false y true j false = same-sent
     by true false y false j r = same-sent
 
-pub look-for-fdu : (x : Case) (w : Work) (m : machine.Work) {p : Stored} {f : Bool} {z : Quiet} {u : Bool} {l : ℕ} → Open x p f z u (suc l) w m
+pub look-for-fdu : (x : Case) (w : Work) (m : machine.Work) {p : Stored} {f : Bool} {z : Idle} {u : Bool} {l : ℕ} → Open x p f z u (suc l) w m
     → Shut x p (sending z) (act.lookForFdu w) (perform table.LookForFdu m)
 look-for-fdu x w m {p} {f} {z} {u} {l} h =
     let g = h .going in

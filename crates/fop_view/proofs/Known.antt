@@ -32,7 +32,7 @@ use Rattle.fop_actions.proofs.ViewAnswers.{Room}
 use Rattle.fop_actions.proofs.ViewStart.{room-begun}
 use Rattle.fop_rows.specs.Rows.{isFrame}
 use Rattle.fop_view.specs.State.{Good, held}
-use Rattle.fop_view.proofs.Mode.{Stored, kept, moved, put, Quiet, started, ceased, framed, released, Mode, fresh, going, half, over, bad}
+use Rattle.fop_view.proofs.Mode.{Stored, kept, moved, put, Idle, started, ceased, framed, released, Mode, fresh, going, half, over, bad}
 
 -- an event at a sender and its store
 pub record Case : Type 0 where
@@ -85,7 +85,7 @@ pub record Counted (count suspend : ℕ) : Type 0 where
   pub serving : suspend ≡ 0
 
 -- the queues and the timer
-pub record QuietIs (z : Quiet) (timer sent : ℕ) (waiting : Bool) (bc : Control) : Type 0 where
+pub record IdleIs (z : Idle) (timer sent : ℕ) (waiting : Bool) (bc : Control) : Type 0 where
   pub unsent : Where (z .unsent) (sent ≡ 0)
   pub unasked : Where (z .unasked) (waiting ≡ false)
   pub stopped : Where (z .stopped) (timer ≡ 0)
@@ -103,14 +103,14 @@ abbrev pub NoMore : Case → ℕ → ℕ → Bool → Type 0
 NoMore x count sent waiting = count + held sent waiting ≤ suc (x .sender .queues .sent)
 
 -- what is known all along
-pub record Ended (x : Case) (p : Stored) (z : Quiet) (store : List ℕ) (c d : List Fdu) (g : Settings) (timer count suspend sent : ℕ)
+pub record Ended (x : Case) (p : Stored) (z : Idle) (store : List ℕ) (c d : List Fdu) (g : Settings) (timer count suspend sent : ℕ)
     (waiting : Bool) (bc : Control) (lengths : List ℕ) (down : Handed) (confirmed denied : Run) : Type 0 where
   pub settled : Settled (x .own) g
   pub counted : Counted count suspend
   pub filled : (i : ℕ) → i < held sent waiting → 1 ≤ getD lengths i 0
   pub no-more : NoMore x (confirmed .count) sent waiting
   pub runs : Runs x p store lengths c d confirmed denied
-  pub quiet : QuietIs z timer sent waiting bc
+  pub idle : IdleIs z timer sent waiting bc
   pub below : (k i : ℕ) → down ≡ handed.Ad k i → i < sent
 
 -- what is known besides, while no frame is handed down: f is whether Transmission_Count is below 255, u whether no unit is denied yet,
@@ -121,7 +121,7 @@ pub record Going (f u : Bool) (l : ℕ) (d : List Fdu) (count : ℕ) (down : Han
   pub undenied : Where u (d ≡ [])
   pub few : Where f (count < 255)
 
-abbrev pub EndedOf : Case → Stored → Quiet → List ℕ → List Fdu → List Fdu → Work → Type 0
+abbrev pub EndedOf : Case → Stored → Idle → List ℕ → List Fdu → List Fdu → Work → Type 0
 EndedOf x p z store c d w =
     Ended x p z store c d (w .settings) (w .variables .timer) (w .variables .«transmission_count») (w .variables .«suspend_state») (w .queues .sent) (w .queues .waiting)
     (w .queues .control) (w .queues .lengths) (w .told .handed) (w .told .confirmed) (w .told .denied)
@@ -130,14 +130,14 @@ abbrev pub GoingOf : Bool → Bool → ℕ → List Fdu → Work → Type 0
 GoingOf f u l d w = Going f u l d (w .variables .«transmission_count») (w .told .handed) (w .told .responses)
 
 -- The modes, of the work w and the machine's work m.
-pub record Fresh (x : Case) (f : Bool) (z : Quiet) (w : Work) (m : machine.Work) : Type 0 where
+pub record Fresh (x : Case) (f : Bool) (z : Idle) (w : Work) (m : machine.Work) : Type 0 where
   pub begins : w ≡ begun (x .sender)
   pub is : m ≡ seen x [] [] (begun (x .sender)) (x .store)
   pub good : Good (x .own) (x .sender) (x .store)
   pub few : Where f (x .sender .variables .«transmission_count» < 255)
-  pub quiet : QuietIs z (x .sender .variables .timer) (x .sender .queues .sent) (x .sender .queues .waiting) (x .sender .queues .control)
+  pub idle : IdleIs z (x .sender .variables .timer) (x .sender .queues .sent) (x .sender .queues .waiting) (x .sender .queues .control)
 
-pub record Open (x : Case) (p : Stored) (f : Bool) (z : Quiet) (u : Bool) (l : ℕ) (w : Work) (m : machine.Work) : Type 0 where
+pub record Open (x : Case) (p : Stored) (f : Bool) (z : Idle) (u : Bool) (l : ℕ) (w : Work) (m : machine.Work) : Type 0 where
   pub store : List ℕ
   pub c : List Fdu
   pub d : List Fdu
@@ -146,7 +146,7 @@ pub record Open (x : Case) (p : Stored) (f : Bool) (z : Quiet) (u : Bool) (l : �
   pub ended : EndedOf x p z store c d w
   pub going : GoingOf f u l d w
 
-pub record Half (x : Case) (p : Stored) (z : Quiet) (u : Bool) (l : ℕ) (w : Work) (m : machine.Work) : Type 0 where
+pub record Half (x : Case) (p : Stored) (z : Idle) (u : Bool) (l : ℕ) (w : Work) (m : machine.Work) : Type 0 where
   pub store : List ℕ
   pub c : List Fdu
   pub d : List Fdu
@@ -157,7 +157,7 @@ pub record Half (x : Case) (p : Stored) (z : Quiet) (u : Bool) (l : ℕ) (w : Wo
   pub ended : EndedOf x p z store c d w
   pub going : GoingOf false u l d w
 
-pub record Shut (x : Case) (p : Stored) (z : Quiet) (w : Work) (m : machine.Work) : Type 0 where
+pub record Shut (x : Case) (p : Stored) (z : Idle) (w : Work) (m : machine.Work) : Type 0 where
   pub store : List ℕ
   pub c : List Fdu
   pub d : List Fdu
@@ -201,28 +201,28 @@ where-on true f = f refl
 where-on false f = tt
 
 -- the timer started, and stopped; the type-BC frame put on the Sent_Queue, and taken off it
-module _ {z : Quiet} {timer sent : ℕ} {waiting : Bool} {bc : Control} (q : QuietIs z timer sent waiting bc) where
-  pub starts : {t : ℕ} → QuietIs (started z) t sent waiting bc
+module _ {z : Idle} {timer sent : ℕ} {waiting : Bool} {bc : Control} (q : IdleIs z timer sent waiting bc) where
+  pub starts : {t : ℕ} → IdleIs (started z) t sent waiting bc
   starts = record { unsent = q .unsent; unasked = q .unasked; stopped = tt; frame = q .frame }
 
-  pub stops : QuietIs (ceased z) 0 sent waiting bc
+  pub stops : IdleIs (ceased z) 0 sent waiting bc
   stops = record { unsent = q .unsent; unasked = q .unasked; stopped = refl; frame = q .frame }
 
-  pub frames : {k : Control} → isFrame k ≡ true → QuietIs (framed z) timer sent waiting k
+  pub frames : {k : Control} → isFrame k ≡ true → IdleIs (framed z) timer sent waiting k
   frames t = record { unsent = q .unsent; unasked = q .unasked; stopped = q .stopped; frame = t }
 
-  pub releases : QuietIs (released z) timer sent waiting control.None
+  pub releases : IdleIs (released z) timer sent waiting control.None
   releases = record { unsent = q .unsent; unasked = q .unasked; stopped = q .stopped; frame = refl }
 
 -- other settings; another Transmission_Count, timer or type-BC frame
-module _ {x : Case} {p : Stored} {z : Quiet} {store : List ℕ} {c d : List Fdu} {g : Settings} {timer count suspend sent : ℕ} {waiting : Bool} {bc : Control} {lengths : List ℕ}
+module _ {x : Case} {p : Stored} {z : Idle} {store : List ℕ} {c d : List Fdu} {g : Settings} {timer count suspend sent : ℕ} {waiting : Bool} {bc : Control} {lengths : List ℕ}
     {down : Handed} {confirmed denied : Run} (e : Ended x p z store c d g timer count suspend sent waiting bc lengths down confirmed denied) where
   pub resettled : {g' : Settings} → Settled (x .own) g' → Ended x p z store c d g' timer count suspend sent waiting bc lengths down confirmed denied
-  resettled s = record { settled = s; counted = e .counted; filled = e .filled; no-more = e .no-more; runs = e .runs; quiet = e .quiet; below = e .below }
+  resettled s = record { settled = s; counted = e .counted; filled = e .filled; no-more = e .no-more; runs = e .runs; idle = e .idle; below = e .below }
 
-  pub requieted : {z' : Quiet} {t n s : ℕ} {k : Control} → Counted n s → QuietIs z' t sent waiting k
+  pub idle-again : {z' : Idle} {t n s : ℕ} {k : Control} → Counted n s → IdleIs z' t sent waiting k
       → Ended x p z' store c d g t n s sent waiting k lengths down confirmed denied
-  requieted n q = record { settled = e .settled; counted = n; filled = e .filled; no-more = e .no-more; runs = e .runs; quiet = q; below = e .below }
+  idle-again n q = record { settled = e .settled; counted = n; filled = e .filled; no-more = e .no-more; runs = e .runs; idle = q; below = e .below }
 
 -- the settings and the count of a well-formed sender
 pub good-settled : {own : Own} {s : SenderState} {store : List ℕ} → Good own s store → Settled own (s .settings)
@@ -254,7 +254,7 @@ none-below down sent h k i q = let z : _≡_ {A = ℕ} 0 1 = cc in omega arith
 pub no-more-first : (x : Case) → NoMore x 0 (x .sender .queues .sent) (x .sender .queues .waiting)
 no-more-first x = omega (arith, held-most (x .sender .queues .sent) (x .sender .queues .waiting))
 
-opens : (x : Case) (f : Bool) (z : Quiet) (m : machine.Work) → Fresh x f z (begun (x .sender)) m → Open x kept f z true largestResponses (begun (x .sender)) m
+opens : (x : Case) (f : Bool) (z : Idle) (m : machine.Work) → Fresh x f z (begun (x .sender)) m → Open x kept f z true largestResponses (begun (x .sender)) m
 unfolding begun noneTold
 opens x f z m h =
     let g = h .good in
@@ -270,13 +270,13 @@ opens x f z m h =
         filled = g .filled;
         no-more = no-more-first x;
         runs = record { stored = (refl, refl); measured = (refl, refl); of-confirmed = refl; of-denied = refl };
-        quiet = h .quiet;
+        idle = h .idle;
         below = none-below handed.None (x .sender .queues .sent) refl;
       };
       going = record { none = refl; room = room-begun (x .sender); undenied = refl; few = h .few };
     }
 
-pub opened : (x : Case) (f : Bool) (z : Quiet) (w : Work) (m : machine.Work) → Fresh x f z w m → Open x kept f z true largestResponses w m
+pub opened : (x : Case) (f : Bool) (z : Idle) (w : Work) (m : machine.Work) → Fresh x f z w m → Open x kept f z true largestResponses w m
 opened x f z w m h =
     subst (λ (v : Work). Open x kept f z true largestResponses v m) (sym (h .begins))
-    (opens x f z m (record { begins = refl; is = h .is; good = h .good; few = h .few; quiet = h .quiet }))
+    (opens x f z m (record { begins = refl; is = h .is; good = h .good; few = h .few; idle = h .idle }))

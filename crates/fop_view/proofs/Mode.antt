@@ -26,56 +26,56 @@ pub data Stored : Type 0 where
 
 -- what is known of the queues and the timer: whether the Sent_Queue has no unit, no unit waits, and the timer is stopped, each of which
 -- counts where it is true; and whether a type-BC frame is on the Sent_Queue, which is known either way
-pub record Quiet : Type 0 where
+pub record Idle : Type 0 where
   pub unsent : Bool
   pub unasked : Bool
   pub stopped : Bool
   pub frame : Bool
 
 -- the timer started, and stopped
-abbrev pub started : Quiet → Quiet
+abbrev pub started : Idle → Idle
 started z = record { unsent = z .unsent; unasked = z .unasked; stopped = false; frame = z .frame }
 
-abbrev pub ceased : Quiet → Quiet
+abbrev pub ceased : Idle → Idle
 ceased z = record { unsent = z .unsent; unasked = z .unasked; stopped = true; frame = z .frame }
 
 -- the type-BC frame put on the Sent_Queue, and taken off it
-abbrev pub framed : Quiet → Quiet
+abbrev pub framed : Idle → Idle
 framed z = record { unsent = z .unsent; unasked = z .unasked; stopped = z .stopped; frame = true }
 
-abbrev pub released : Quiet → Quiet
+abbrev pub released : Idle → Idle
 released z = record { unsent = z .unsent; unasked = z .unasked; stopped = z .stopped; frame = false }
 
 -- a unit put on the Wait_Queue
-abbrev pub offered : Quiet → Quiet
+abbrev pub offered : Idle → Idle
 offered z = record { unsent = z .unsent; unasked = false; stopped = z .stopped; frame = z .frame }
 
 -- units left on the Sent_Queue; one put on it, from the Wait_Queue
-abbrev pub remaining : Quiet → Quiet
+abbrev pub remaining : Idle → Idle
 remaining z = record { unsent = false; unasked = z .unasked; stopped = z .stopped; frame = z .frame }
 
-abbrev pub sending : Quiet → Quiet
+abbrev pub sending : Idle → Idle
 sending z = record { unsent = false; unasked = false; stopped = false; frame = z .frame }
 
 -- the Sent_Queue purged, the Wait_Queue, and both
-abbrev pub sentPurged : Quiet → Quiet
+abbrev pub sentPurged : Idle → Idle
 sentPurged z = record { unsent = true; unasked = z .unasked; stopped = z .stopped; frame = false }
 
-abbrev pub waitPurged : Quiet → Quiet
+abbrev pub waitPurged : Idle → Idle
 waitPurged z = record { unsent = z .unsent; unasked = true; stopped = z .stopped; frame = z .frame }
 
-abbrev pub bothPurged : Quiet → Quiet
+abbrev pub bothPurged : Idle → Idle
 bothPurged z = waitPurged (sentPurged z)
 
 pub data Mode : Type 0 where
   -- the work as it begins; whether Transmission_Count is below 255, and what is known of the queues and the timer
-  fresh : Bool → Quiet → Mode
+  fresh : Bool → Idle → Mode
   -- no frame is handed down yet; the store, the same two, whether no unit is denied yet, and the room left for responses
-  going : Stored → Bool → Quiet → Bool → ℕ → Mode
+  going : Stored → Bool → Idle → Bool → ℕ → Mode
   -- V(S) is set, with the Sent_Queue empty, and NN(R) not yet
-  half : Stored → Quiet → Bool → ℕ → Mode
+  half : Stored → Idle → Bool → ℕ → Mode
   -- a frame may be handed down; the store, and what is known of the queues and the timer
-  over : Stored → Quiet → Mode
+  over : Stored → Idle → Mode
   -- an action that is not allowed was done
   bad : Mode
 
@@ -115,21 +115,21 @@ unfolding same
 same-is b c t = sym (coded b) ∙ ap uncode (eqb-true (code b) (code c) t) ∙ coded c
 
 -- the mode after an action that is done only from some modes
-abbrev pub onFresh : (Bool → Quiet → Mode) → Mode → Mode
+abbrev pub onFresh : (Bool → Idle → Mode) → Mode → Mode
 onFresh F (fresh f z) = F f z
 onFresh F (going p f z u l) = bad
 onFresh F (half p z u l) = bad
 onFresh F (over p z) = bad
 onFresh F bad = bad
 
-abbrev pub onGoing : (Stored → Bool → Quiet → Bool → ℕ → Mode) → Mode → Mode
+abbrev pub onGoing : (Stored → Bool → Idle → Bool → ℕ → Mode) → Mode → Mode
 onGoing F (fresh f z) = F kept f z true largestResponses
 onGoing F (going p f z u l) = F p f z u l
 onGoing F (half p z u l) = bad
 onGoing F (over p z) = bad
 onGoing F bad = bad
 
-abbrev pub onHalf : (Stored → Quiet → Bool → ℕ → Mode) → Mode → Mode
+abbrev pub onHalf : (Stored → Idle → Bool → ℕ → Mode) → Mode → Mode
 onHalf F (fresh f z) = bad
 onHalf F (going p f z u l) = bad
 onHalf F (half p z u l) = F p z u l
@@ -145,28 +145,28 @@ taking zero F = bad
 taking (suc l) F = F l
 
 -- the mode after each group of actions
-abbrev pub turned : (Quiet → Quiet) → Stored → Bool → Quiet → Bool → ℕ → Mode
+abbrev pub turned : (Idle → Idle) → Stored → Bool → Idle → Bool → ℕ → Mode
 turned Z p f z u l = going p f (Z z) u l
 
-abbrev pub answered : Stored → Bool → Quiet → Bool → ℕ → Mode
+abbrev pub answered : Stored → Bool → Idle → Bool → ℕ → Mode
 answered p f z u l = taking l (going p f z u)
 
-abbrev pub repeated : Stored → Bool → Quiet → Bool → ℕ → Mode
+abbrev pub repeated : Stored → Bool → Idle → Bool → ℕ → Mode
 repeated p f z u l = onlyIf f (going p false (started z) u l)
 
-abbrev pub purged : (Quiet → Quiet) → Stored → Bool → Quiet → Bool → ℕ → Mode
+abbrev pub purged : (Idle → Idle) → Stored → Bool → Idle → Bool → ℕ → Mode
 purged Z p f z u l = onlyIf u (taking l (λ k. taking k (going p false (bothPurged (Z z)) false)))
 
-abbrev pub handedDown : Stored → Bool → Quiet → Bool → ℕ → Mode
+abbrev pub handedDown : Stored → Bool → Idle → Bool → ℕ → Mode
 handedDown p f z u l = over p z
 
-abbrev pub controlled : Stored → Bool → Quiet → Bool → ℕ → Mode
+abbrev pub controlled : Stored → Bool → Idle → Bool → ℕ → Mode
 controlled p f z u l = over p (framed (started z))
 
-abbrev pub looked : Stored → Bool → Quiet → Bool → ℕ → Mode
+abbrev pub looked : Stored → Bool → Idle → Bool → ℕ → Mode
 looked p f z u l = taking l (λ k. over p (sending z))
 
-abbrev pub given : Bool → Stored → Bool → Quiet → Bool → ℕ → Mode
+abbrev pub given : Bool → Stored → Bool → Idle → Bool → ℕ → Mode
 given t p f z u l = onlyIf t (going p f z u l)
 
 unfoldable pub after : Brings → Action → Mode → Mode
@@ -219,12 +219,12 @@ initial state.S4 = false
 initial state.S5 = false
 initial state.S6 = true
 
-abbrev pub quietIn : State → Quiet
-quietIn x = record { unsent = not (inMain x); unasked = not (inMain x); stopped = initial x; frame = withFrame x }
+abbrev pub idleIn : State → Idle
+idleIn x = record { unsent = not (inMain x); unasked = not (inMain x); stopped = initial x; frame = withFrame x }
 
 -- the mode in which an event begins
 abbrev pub begins : Brings → State → Mode
-begins b x = fresh (same b again) (quietIn x)
+begins b x = fresh (same b again) (idleIn x)
 
 -- what is known is all that is asked
 abbrev pub implied : Bool → Bool → Bool
@@ -235,7 +235,7 @@ abbrev pub agrees : Bool → Bool → Bool
 agrees true known = known
 agrees false known = not known
 
-abbrev pub covers : Quiet → Quiet → Bool
+abbrev pub covers : Idle → Idle → Bool
 covers asked z =
     both (implied (asked .unsent) (z .unsent))
     (both (implied (asked .unasked) (z .unasked)) (both (implied (asked .stopped) (z .stopped)) (agrees (asked .frame) (z .frame))))
@@ -268,9 +268,9 @@ fits suspending x p = notPut p
 
 abbrev pub ends : Brings → State → table.State → Mode → Bool
 ends b x s (fresh f z) = false
-ends b x s (going p f z u l) = both (fits b (inMain x) p) (covers (quietIn (declared s)) z)
+ends b x s (going p f z u l) = both (fits b (inMain x) p) (covers (idleIn (declared s)) z)
 ends b x s (half p z u l) = false
-ends b x s (over p z) = both (fits b (inMain x) p) (covers (quietIn (declared s)) z)
+ends b x s (over p z) = both (fits b (inMain x) p) (covers (idleIn (declared s)) z)
 ends b x s bad = false
 
 -- the actions of a cell are allowed, and leave the store, the queues and the timer as they must; with Suspend_State 0 "IF SS = 0" holds

@@ -10,19 +10,19 @@ use Rattle.fop.specs.Machine.{perform}
 use Rattle.fop_actions.specs.declared.Work.{Work}
 use Rattle.fop_actions.specs.Limits.{largestResponses}
 use Rattle.fop_actions.specs.View.{WellFormed}
-use Rattle.fop_view.proofs.Mode.{Stored, kept, Quiet, Mode, fresh, going, half, over, bad, onFresh, onGoing, onHalf, onlyIf, taking}
+use Rattle.fop_view.proofs.Mode.{Stored, kept, Idle, Mode, fresh, going, half, over, bad, onFresh, onGoing, onHalf, onlyIf, taking}
 use Rattle.fop_view.proofs.Known.{Case, seen, EndedOf, GoingOf, Fresh, Open, Half, Shut, At, opened}
 
 -- By the mode.
 module _ (x : Case) (w v : Work) (m k : machine.Work) where
-  pub on-fresh : (F : Bool → Quiet → Mode) → ((f : Bool) (z : Quiet) → Fresh x f z w m → At x (F f z) v k) → (mode : Mode) → At x mode w m → At x (onFresh F mode) v k
+  pub on-fresh : (F : Bool → Idle → Mode) → ((f : Bool) (z : Idle) → Fresh x f z w m → At x (F f z) v k) → (mode : Mode) → At x mode w m → At x (onFresh F mode) v k
   on-fresh F step (fresh f z) h = step f z h
   on-fresh F step (going p f z u l) h = tt
   on-fresh F step (half p z u l) h = tt
   on-fresh F step (over p z) h = tt
   on-fresh F step bad h = tt
 
-  pub on-going : (F : Stored → Bool → Quiet → Bool → ℕ → Mode) → ((p : Stored) (f : Bool) (z : Quiet) (u : Bool) (l : ℕ) → Open x p f z u l w m → At x (F p f z u l) v k)
+  pub on-going : (F : Stored → Bool → Idle → Bool → ℕ → Mode) → ((p : Stored) (f : Bool) (z : Idle) (u : Bool) (l : ℕ) → Open x p f z u l w m → At x (F p f z u l) v k)
       → (mode : Mode) → At x mode w m → At x (onGoing F mode) v k
   on-going F step (fresh f z) h = step kept f z true largestResponses (opened x f z w m h)
   on-going F step (going p f z u l) h = step p f z u l h
@@ -30,7 +30,7 @@ module _ (x : Case) (w v : Work) (m k : machine.Work) where
   on-going F step (over p z) h = tt
   on-going F step bad h = tt
 
-  pub on-half : (F : Stored → Quiet → Bool → ℕ → Mode) → ((p : Stored) (z : Quiet) (u : Bool) (l : ℕ) → Half x p z u l w m → At x (F p z u l) v k) → (mode : Mode) → At x mode w m
+  pub on-half : (F : Stored → Idle → Bool → ℕ → Mode) → ((p : Stored) (z : Idle) (u : Bool) (l : ℕ) → Half x p z u l w m → At x (F p z u l) v k) → (mode : Mode) → At x mode w m
       → At x (onHalf F mode) v k
   on-half F step (fresh f z) h = tt
   on-half F step (going p f z u l) h = tt
@@ -47,8 +47,8 @@ module _ (x : Case) (w v : Work) (m k : machine.Work) where
   takes P (suc l) F h step = step l h
 
 -- The action a leads from the work w to v, and denies the units d'.
-module _ {x : Case} {p : Stored} {f : Bool} {z : Quiet} {u : Bool} {l : ℕ} {w : Work} {m : machine.Work} (h : Open x p f z u l w m) (a : Action) (v : Work) where
-  pub goes-on : {f' : Bool} {z' : Quiet} {u' : Bool} {l' : ℕ} (d' : List Fdu) → perform a (seen x (h .c) (h .d) w (h .store)) ≡ seen x (h .c) d' v (h .store)
+module _ {x : Case} {p : Stored} {f : Bool} {z : Idle} {u : Bool} {l : ℕ} {w : Work} {m : machine.Work} (h : Open x p f z u l w m) (a : Action) (v : Work) where
+  pub goes-on : {f' : Bool} {z' : Idle} {u' : Bool} {l' : ℕ} (d' : List Fdu) → perform a (seen x (h .c) (h .d) w (h .store)) ≡ seen x (h .c) d' v (h .store)
       → WellFormed v (h .store) → EndedOf x p z' (h .store) (h .c) d' v → GoingOf f' u' l' d' v → Open x p f' z' u' l' v (perform a m)
   goes-on d' law well ended free = record {
     store = h .store;
@@ -60,6 +60,6 @@ module _ {x : Case} {p : Stored} {f : Bool} {z : Quiet} {u : Bool} {l : ℕ} {w 
     going = free;
   }
 
-  pub shuts : {z' : Quiet} → perform a (seen x (h .c) (h .d) w (h .store)) ≡ seen x (h .c) (h .d) v (h .store) → WellFormed v (h .store)
+  pub shuts : {z' : Idle} → perform a (seen x (h .c) (h .d) w (h .store)) ≡ seen x (h .c) (h .d) v (h .store) → WellFormed v (h .store)
       → EndedOf x p z' (h .store) (h .c) (h .d) v → Shut x p z' v (perform a m)
   shuts law well ended = record { store = h .store; c = h .c; d = h .d; is = ap (perform a) (h .is) ∙ law; formed = well; ended = ended }

@@ -28,8 +28,8 @@ use Rattle.fop_actions.proofs.ViewRelease as release
 use Rattle.fop_actions.proofs.ViewRuns.{denied-run}
 use Rattle.fop_rows.specs.Rows.{declaredReason}
 use Rattle.fop_view.specs.State.{held}
-use Rattle.fop_view.proofs.Mode.{Stored, Quiet, ceased, sentPurged, waitPurged, bothPurged}
-use Rattle.fop_view.proofs.Known.{Case, EndedOf, GoingOf, Open, held-least, held-waiting, less-room, requieted, stops, counts-one, none-below}
+use Rattle.fop_view.proofs.Mode.{Stored, Idle, ceased, sentPurged, waitPurged, bothPurged}
+use Rattle.fop_view.proofs.Known.{Case, EndedOf, GoingOf, Open, held-least, held-waiting, less-room, idle-again, stops, counts-one, none-below}
 use Rattle.fop_view.proofs.Onward.{goes-on}
 
 -- the units on the Sent_Queue
@@ -72,7 +72,7 @@ module _ {u : Bool} {l : ℕ} {d : List Fdu} where
     by true = answered (act.notWaiting w) RejectAdUnit g
     by false = unanswered w g
 
-module _ {x : Case} {p : Stored} {z : Quiet} {store : List ℕ} {c d : List Fdu} where
+module _ {x : Case} {p : Stored} {z : Idle} {store : List ℕ} {c d : List Fdu} where
   denied-ended : (k : Control) (w : Work) → EndedOf x p z store c d w → EndedOf x p z store c d (act.denyControl k w)
   unfolding act.denyControl act.respond withTold
   denied-ended control.None w e = e
@@ -89,14 +89,14 @@ module _ {x : Case} {p : Stored} {z : Quiet} {store : List ℕ} {c d : List Fdu}
       filled = λ i h. e .filled i (held-waiting (w .queues .sent) i (w .queues .waiting) h);
       no-more = omega (arith, e .no-more, held-least (w .queues .sent) (w .queues .waiting));
       runs = e .runs;
-      quiet = record { unsent = e .quiet .unsent; unasked = refl; stopped = e .quiet .stopped; frame = e .quiet .frame };
+      idle = record { unsent = e .idle .unsent; unasked = refl; stopped = e .idle .stopped; frame = e .idle .frame };
       below = e .below;
     }
     by false t =
-        requieted e (e .counted) (record { unsent = e .quiet .unsent; unasked = t; stopped = e .quiet .stopped; frame = e .quiet .frame })
+        idle-again e (e .counted) (record { unsent = e .idle .unsent; unasked = t; stopped = e .idle .stopped; frame = e .idle .frame })
 
 -- Both queues purged, with nothing denied before.
-module _ {x : Case} {p : Stored} {f : Bool} {z : Quiet} {l : ℕ} {store : List ℕ} {c d : List Fdu} (w : Work) (e : EndedOf x p z store c d w) (g : GoingOf f true (suc (suc l)) d w) where
+module _ {x : Case} {p : Stored} {f : Bool} {z : Idle} {l : ℕ} {store : List ℕ} {c d : List Fdu} (w : Work) (e : EndedOf x p z store c d w) (g : GoingOf f true (suc (suc l)) d w) where
   emptied-ended : EndedOf x p (sentPurged z) store c (d ++ units w store) (act.emptied w)
   unfolding act.emptied act.releaseBcFrame act.holdControl withQueues withTold
   emptied-ended = record {
@@ -110,7 +110,7 @@ module _ {x : Case} {p : Stored} {f : Bool} {z : Quiet} {l : ℕ} {store : List 
       of-confirmed = e .runs .of-confirmed;
       of-denied = ap (λ (y : List Fdu). runOf (y ++ units w store)) (g .undenied) ∙ units-run w store;
     };
-    quiet = record { unsent = refl; unasked = e .quiet .unasked; stopped = e .quiet .stopped; frame = refl };
+    idle = record { unsent = refl; unasked = e .idle .unasked; stopped = e .idle .stopped; frame = refl };
     below = none-below (w .told .handed) 0 (g .none);
   }
 
@@ -129,10 +129,10 @@ module _ {x : Case} {p : Stored} {f : Bool} {z : Quiet} {l : ℕ} {store : List 
       wait-going (act.denyControl (w .queues .control) (act.emptied w)) (denied-going (w .queues .control) (act.emptied w) emptied-going)
 
 -- Transmission_Count 1 and Suspend_State 0
-serving : {x : Case} {p : Stored} {z : Quiet} {store : List ℕ} {c d : List Fdu} (v : Work) → EndedOf x p z store c d v
+serving : {x : Case} {p : Stored} {z : Idle} {store : List ℕ} {c d : List Fdu} (v : Work) → EndedOf x p z store c d v
     → EndedOf x p z store c d (act.setSuspendState 0 (act.countOne v))
 unfolding act.setSuspendState act.countOne withVariables
-serving v e = requieted e (counts-one refl) (e .quiet)
+serving v e = idle-again e (counts-one refl) (e .idle)
 
 reason-is : (r : table.Reason) → reasonOf (declaredReason r) ≡ some r
 reason-is table.synch = refl
@@ -144,14 +144,14 @@ reason-is table.t1 = refl
 reason-is table.term = refl
 reason-is table.llif = refl
 
-module _ (x : Case) (w : Work) (m : machine.Work) {p : Stored} {f : Bool} {z : Quiet} {l : ℕ} (h : Open x p f z true (suc (suc l)) w m) where
+module _ (x : Case) (w : Work) (m : machine.Work) {p : Stored} {f : Bool} {z : Idle} {l : ℕ} (h : Open x p f z true (suc (suc l)) w m) where
   room : Room 2 (w .told .responses)
   room = less-room 2 (suc (suc l)) (w .told .responses) (omega arith) (h .going .room)
 
   pub alerts : (r : table.Reason) → Open x p false (bothPurged (ceased z)) false l (act.alert (declaredReason r) w) (perform (table.Alert r) m)
   unfolding act.alert act.notify act.cancelTimer withVariables withTold
   alerts r =
-      let e : EndedOf x p (ceased z) (h .store) (h .c) (h .d) (act.cancelTimer w) = requieted (h .ended) (h .ended .counted) (stops (h .ended .quiet)) in
+      let e : EndedOf x p (ceased z) (h .store) (h .c) (h .d) (act.cancelTimer w) = idle-again (h .ended) (h .ended .counted) (stops (h .ended .idle)) in
       goes-on h (table.Alert r) (act.alert (declaredReason r) w) (h .d ++ units w (h .store))
       (release.alert _ _ _ _ _ w (h .store) room (declaredReason r) r (reason-is r)) (well.alert w (h .store) (declaredReason r) (h .formed))
       (purged-ended (act.cancelTimer w) e (h .going)) (purged-going (act.cancelTimer w) e (h .going))

@@ -21,11 +21,11 @@ use Rattle.fop_actions.proofs.Kept as well
 use Rattle.fop_actions.proofs.ViewValues as values
 use Rattle.fop_actions.proofs.ViewAnswers.{Room, room-more}
 use Rattle.fop_actions.proofs.ViewTransmit as transmit
-use Rattle.fop_view.proofs.Mode.{Stored, Quiet, started, ceased, released}
-use Rattle.fop_view.proofs.Known.{Case, seen, EndedOf, Open, Half, octet-is, less-room, known, starts, stops, releases, resettled, requieted, counts-more}
+use Rattle.fop_view.proofs.Mode.{Stored, Idle, started, ceased, released}
+use Rattle.fop_view.proofs.Known.{Case, seen, EndedOf, Open, Half, octet-is, less-room, known, starts, stops, releases, resettled, idle-again, counts-more}
 use Rattle.fop_view.proofs.Onward.{goes-on}
 
-module _ (x : Case) (w : Work) (m : machine.Work) {p : Stored} {f : Bool} {z : Quiet} {u : Bool} {l : ℕ} (h : Open x p f z u l w m) where
+module _ (x : Case) (w : Work) (m : machine.Work) {p : Stored} {f : Bool} {z : Idle} {u : Bool} {l : ℕ} (h : Open x p f z u l w m) where
   abbrev e : EndedOf x p z (h .store) (h .c) (h .d) w
   e = h .ended
 
@@ -36,12 +36,12 @@ module _ (x : Case) (w : Work) (m : machine.Work) {p : Stored} {f : Bool} {z : Q
   pub cancel-timer : Open x p f (ceased z) u l (act.cancelTimer w) (perform table.CancelTimer m)
   unfolding act.cancelTimer withVariables
   cancel-timer =
-      goes-on h table.CancelTimer (act.cancelTimer w) (h .d) (values.cancel-timer _ _ _ _ _ w (h .store)) (h .formed) (requieted e (e .counted) (stops (e .quiet))) (h .going)
+      goes-on h table.CancelTimer (act.cancelTimer w) (h .d) (values.cancel-timer _ _ _ _ _ w (h .store)) (h .formed) (idle-again e (e .counted) (stops (e .idle))) (h .going)
 
   pub start-timer : Open x p f (started z) u l (act.startTimer w) (perform table.StartTimer m)
   unfolding act.startTimer withVariables
   start-timer =
-      goes-on h table.StartTimer (act.startTimer w) (h .d) (values.start-timer _ _ _ _ _ w (h .store)) (h .formed) (requieted e (e .counted) (starts (e .quiet))) (h .going)
+      goes-on h table.StartTimer (act.startTimer w) (h .d) (values.start-timer _ _ _ _ _ w (h .store)) (h .formed) (idle-again e (e .counted) (starts (e .idle))) (h .going)
 
   pub ad-out-ready : Open x p f z u l (act.adOutReady w) (perform table.AdOutReady m)
   unfolding act.adOutReady withVariables
@@ -59,7 +59,7 @@ module _ (x : Case) (w : Work) (m : machine.Work) {p : Stored} {f : Bool} {z : Q
   unfolding act.releaseBcFrame act.holdControl withQueues
   release-bc-frame =
       goes-on h table.ReleaseBcFrame (act.releaseBcFrame w) (h .d) (values.release-bc-frame _ _ _ _ _ w (h .store)) (h .formed)
-      (requieted e (e .counted) (releases (e .quiet))) (h .going)
+      (idle-again e (e .counted) (releases (e .idle))) (h .going)
 
   -- The settings, within their limits.
   pub set-k : (1 ≤ x .value) × (x .value ≤ largestK) → Open x p f z u l (act.setK (x .value % 256) w) (perform table.SetK m)
@@ -136,7 +136,7 @@ module _ (x : Case) (w : Work) (m : machine.Work) {p : Stored} {f : Bool} {z : Q
       })) (h .going)
 
 -- A response, where there is room.
-pub respond : (x : Case) (w : Work) (m : machine.Work) {p : Stored} {f : Bool} {z : Quiet} {u : Bool} {l : ℕ} (h : Open x p f z u (suc l) w m) (a : Action) (r : Response)
+pub respond : (x : Case) (w : Work) (m : machine.Work) {p : Stored} {f : Bool} {z : Idle} {u : Bool} {l : ℕ} (h : Open x p f z u (suc l) w m) (a : Action) (r : Response)
     → ((c d : List Fdu) (store : List ℕ) → Room 1 (w .told .responses) → perform a (seen x c d w store) ≡ seen x c d (act.respond r w) store)
     → Open x p f z u l (act.respond r w) (perform a m)
 unfolding act.respond withTold
@@ -146,10 +146,10 @@ respond x w m {p} {f} {z} {u} {l} h a r law =
     (record { none = g .none; room = room-more l (responseNumber r) (w .told .responses) (g .room); undenied = g .undenied; few = g .few })
 
 -- The retransmissions, with Transmission_Count below 255.
-module _ (x : Case) (w : Work) (m : machine.Work) {p : Stored} {z : Quiet} {u : Bool} {l : ℕ} (h : Open x p true z u l w m) where
+module _ (x : Case) (w : Work) (m : machine.Work) {p : Stored} {z : Idle} {u : Bool} {l : ℕ} (h : Open x p true z u l w m) where
   counted-again : EndedOf x p (started z) (h .store) (h .c) (h .d) (act.again w)
   unfolding act.again act.startTimer act.abort withVariables withTold
-  counted-again = requieted (h .ended) (counts-more (h .going .few) (h .ended .counted)) (starts (h .ended .quiet))
+  counted-again = idle-again (h .ended) (counts-more (h .going .few) (h .ended .counted)) (starts (h .ended .idle))
 
   pub initiate-ad-retransmission : Open x p false (started z) u l (act.initiateAdRetransmission w) (perform table.InitiateAdRetransmission m)
   unfolding act.initiateAdRetransmission act.again act.startTimer act.abort withVariables withQueues withTold
@@ -166,12 +166,12 @@ module _ (x : Case) (w : Work) (m : machine.Work) {p : Stored} {z : Quiet} {u : 
       (h .formed) counted-again (record { none = g .none; room = g .room; undenied = g .undenied; few = tt })
 
 -- V(S) and then NN(R), with the Sent_Queue empty.
-pub set-vs : (x : Case) (w : Work) (m : machine.Work) {p : Stored} {f : Bool} {z : Quiet} {u : Bool} {l : ℕ} → x .value < 256 → z .unsent ≡ true → Open x p f z u l w m
+pub set-vs : (x : Case) (w : Work) (m : machine.Work) {p : Stored} {f : Bool} {z : Idle} {u : Bool} {l : ℕ} → x .value < 256 → z .unsent ≡ true → Open x p f z u l w m
     → Half x p z u l (act.setVs (x .value % 256) w) (perform table.SetVs m)
 unfolding act.setVs act.setNnr withVariables
 set-vs x w m n t h =
     let g = h .going in
-    let empty : w .queues .sent ≡ 0 = known t (h .ended .quiet .unsent) in
+    let empty : w .queues .sent ≡ 0 = known t (h .ended .idle .unsent) in
     record {
       store = h .store;
       c = h .c;
@@ -186,7 +186,7 @@ set-vs x w m n t h =
       going = record { none = g .none; room = g .room; undenied = g .undenied; few = tt };
     }
 
-pub set-nnr : (x : Case) (w : Work) (m : machine.Work) {p : Stored} {z : Quiet} {u : Bool} {l : ℕ} → Half x p z u l w m
+pub set-nnr : (x : Case) (w : Work) (m : machine.Work) {p : Stored} {z : Idle} {u : Bool} {l : ℕ} → Half x p z u l w m
     → Open x p false z u l (act.setNnr (x .value % 256) w) (perform table.SetNnr m)
 unfolding act.setNnr withVariables
 set-nnr x w m h = record {
