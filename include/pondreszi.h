@@ -405,9 +405,10 @@ enum pondreszi_response {
 /*
  * The directives by number. A value that a directive has no use for is not looked at.
  *
- * Before SET_VS and before every INITIATE after the first: no AD or BC frame is under way any more, and a control word has come in that was
- * made after that. Otherwise an old unit can be accepted on board under the number of a new one, and the new one be confirmed.
- * docs/OPERATIONS.md, "Before the service begins again", says why and how a ground station knows it.
+ * Before a new sender begins, before SET_VS, before every INITIATE, and before a sender goes on from a state that was kept: no AD or BC
+ * frame is under way any more, whoever handed it down; a control word has come in that was made after that; and V(S) is, or by SET_VS
+ * becomes, its report value, or INITIATE_WITH_SET_VR is used. Otherwise an old unit can be on board under the number of a new one, and the
+ * new one be confirmed. docs/OPERATIONS.md, "Before the service begins again", says why and how a ground station knows it.
  */
 enum pondreszi_directive {
     PONDRESZI_INITIATE_WITHOUT_CHECK = 1,

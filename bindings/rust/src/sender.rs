@@ -52,11 +52,12 @@ numbered! {
 
 /// The directives of table 7-3.
 ///
-/// Before `SetVs` and before every Initiate after the first: no AD or BC frame is under way any
-/// more, and a control word has come in that was made after that. Otherwise an old unit can be
-/// accepted on board under the number of a new one, and the new one be confirmed.
-/// docs/OPERATIONS.md, "Before the service begins again", says why and how a ground station
-/// knows it.
+/// Before a new sender begins, before `SetVs`, before every Initiate, and before a sender goes on
+/// from a state that was kept: no AD or BC frame is under way any more, whoever handed it down; a
+/// control word has come in that was made after that; and V(S) is, or by `SetVs` becomes, its
+/// report value, or `InitiateWithSetVr` is used. Otherwise an old unit can be on board under the
+/// number of a new one, and the new one be confirmed. docs/OPERATIONS.md, "Before the service
+/// begins again", says why and how a ground station knows it.
 #[derive(Clone, Copy, PartialEq, Eq, Debug)]
 pub enum Directive {
     /// Initiate AD service without CLCW check.

@@ -32,7 +32,7 @@ pub record Kept : Type 0 where
   pub state : List ℕ
   pub store : List ℕ
 
--- an answer's buffer; what it held is not looked at (proofs/Sender, `answer-buffer-free`)
+-- an answer's buffer of exactly its length; what it held is not looked at (proofs/Sender, `answer-buffer-free`)
 abbrev pub lentAnswer : List ℕ
 lentAnswer = replicate answerOctets 0
 

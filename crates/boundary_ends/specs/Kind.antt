@@ -26,7 +26,8 @@ frameNumber (Refused number) = 0
 abbrev pub kindCalled : Called → ℕ
 kindCalled call = kindNumber (answerIn (call .answer) .kind)
 
--- 0 where no frame is handed down, and only there; else the kind of the frame, which is octets, as it reads at the address of both ends
+-- 0 where no frame is handed down, and only there; else the kind of the frame as it reads at the address of both ends, where it is octets (the
+-- output's type sees to that)
 pub record TellsKind (own : Own) (call : Called) : Type 0 where
   pub nothing : answerCalled call .down ≡ none → kindCalled call ≡ 0
   pub frame : (s : List ℕ) → answerCalled call .down ≡ some s → Octets s → (kindCalled call ≡ frameNumber (read own s)) × (1 ≤ kindCalled call)

@@ -83,7 +83,7 @@ answerOf a output = record {
 abbrev pub answerBy : Step → Answer
 answerBy step = answerOf (step .answer) (step .output)
 
--- output of this length, whatever it holds
+-- output of this length; what it held is not looked at (proofs/Output, `output-content-free`)
 abbrev pub lentOutput : ℕ → List ℕ
 lentOutput lent = replicate lent 0
 

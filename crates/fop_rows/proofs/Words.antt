@@ -1,6 +1,6 @@
 -- Table 7-8's two words that no action reads. Where the code's data is compared (proofs/Cells), a cell is filled up with Ignore, and Not Applicable
 -- is a cell of Ignores that keeps the state; so the words themselves are computed here, over every event and state: a cell has an action, Ignore
--- stands alone, and Not Applicable stands where the event can't arise and nowhere else.
+-- stands alone, and Not Applicable stands in the cells of `applies` and in no other.
 use mathlib.Core.Bool.{Bool, true, false, not}
 use mathlib.Core.List.{List, [], _∷_}
 use mathlib.Core.Option.{Option, none, some}
@@ -60,16 +60,16 @@ wellWorded [] = false
 wellWorded (a ∷ []) = true
 wellWorded (a ∷ b ∷ more) = noIgnore (a ∷ b ∷ more)
 
--- Not Applicable where the event can't arise, otherwise actions
+-- Not Applicable where the event does not apply, otherwise actions
 abbrev pub wellWordedCell : Bool → Cell → Bool
-wellWordedCell arises NotApplicable = not arises
-wellWordedCell arises (cell acts next) = both arises (wellWorded acts)
-wellWordedCell arises (ifNotSuspended acts others next) = both arises (both (wellWorded acts) (wellWorded others))
+wellWordedCell applies NotApplicable = not applies
+wellWordedCell applies (cell acts next) = both applies (wellWorded acts)
+wellWordedCell applies (ifNotSuspended acts others next) = both applies (both (wellWorded acts) (wellWorded others))
 
 abbrev within : ℕ → ℕ → ℕ → Bool
 within first last k = both (leb first k) (leb k last)
 
--- the service is being initialised: nothing is on the Sent_Queue
+-- the service is being initialised
 abbrev initialising : State → Bool
 initialising S1 = false
 initialising S2 = false
@@ -86,10 +86,11 @@ initial S4 = false
 initial S5 = false
 initial S6 = true
 
--- the event with this number arises in the state. A word that finds a frame on the Sent_Queue (E2, E5 to E12, E101 to E103): not where the service
--- is being initialised. An expiry of the timer (E16 to E18, E104): not in the Initial state. Resume while suspended (E31 to E34): there only.
-abbrev pub arises : ℕ → State → Bool
-arises k s =
+-- the event with this number applies in the state, as the table has it: a word that acknowledges units, or some of several outstanding (E2, E5 to
+-- E12, E101 to E103), not while the service is being initialised; an expiry of the timer (E16 to E18, E104) not in the Initial state; Resume while
+-- suspended (E31 to E34) there only. (V(S) other than NN(R) can still bring such a word: docs/DECISIONS.md, "Cells marked Not Applicable".)
+abbrev pub applies : ℕ → State → Bool
+applies k s =
     pick (eqb k 2) (not (initialising s))
     (pick (within 5 12 k) (not (initialising s))
     (pick (within 101 103 k) (not (initialising s))
@@ -102,7 +103,7 @@ wellWordedRow k (some e) =
     both (at S1) (both (at S2) (both (at S3) (both (at S4) (both (at S5) (at S6)))))
   where
     at : State → Bool
-    at s = wellWordedCell (arises k s) (cell78 (table78 e) s)
+    at s = wellWordedCell (applies k s) (cell78 (table78 e) s)
 
 -- the rows of E1 to E46 and E101 to E104
 pub words : (k : ℕ) → k < 105 → T (wellWordedRow k (eventOf k))

@@ -101,11 +101,11 @@ pub record Stronger (set : Settings) (m : Ends) (σ : Linked m) (γ : Linked (ta
       → w .lockout ≡ false → w .wait ≡ false → w .retransmit ≡ true → w .nr ≡ advanced (set .n) (length (σ .history .confirmed)) → IsOutstanding (σ .history) i
       → Resends set (getD (σ .history .sent) i noUnit) σ (step set m (wordIn lent) σ)
       ⊎ Marked (getD (σ .history .sent) i noUnit) ((step set (tables set) (wordIn lent) γ) .sender)
-  -- every AD frame handed down is the next new unit, or an outstanding unit, its octets unchanged
+  -- every AD frame handed down carries the next new number, or is an outstanding unit, its octets unchanged
   pub handed : (e : SenderEvent) (lent : ℕ) → InSession (σ .words) e → (o : List ℕ) (u : Fdu)
       → (m .answer e lent (σ .sender)) .down ≡ some o → read (set .own) o ≡ AD u
       → (u .ns ≡ nextNumber set (σ .history)) ⊎ ((i : ℕ) × IsOutstanding (σ .history) i × (u ≡ getD (σ .history .sent) i noUnit))
-  -- at a transmission limit of 1 it is the next new unit: nothing is handed down twice
+  -- at a transmission limit of 1 it carries the next new number: nothing is handed down twice
   pub once : set .limit ≡ 1 → (e : SenderEvent) (lent : ℕ) → InSession (σ .words) e → (o : List ℕ) (u : Fdu)
       → (m .answer e lent (σ .sender)) .down ≡ some o → read (set .own) o ≡ AD u → u .ns ≡ nextNumber set (σ .history)
   -- and is handed down only by an event that leaves the sender active or resending without wait
