@@ -15,6 +15,7 @@ use Rattle.base.specs.Choice.{pick, must, both}
 use Rattle.base.specs.Modulo.{offset}
 use Rattle.base.specs.Octets.{Octets, same}
 use Rattle.base.specs.Outcome.{Outcome, Outcome.done, Outcome.refused}
+use Rattle.base.specs.Limits.{largestChannel}
 use Rattle.base.proofs.Lists.{same-self}
 use Rattle.base.proofs.Tests.{apart, both-right}
 use Rattle.clcw.specs.Clcw.{writing, clcwOf}
@@ -298,7 +299,7 @@ module _ (state : List ℕ) (good : GoodReceiver state) where
   -- the control word, whatever the output held: it is never refused with 0
   written-told : (c : Clcw) (lent : ℕ) (output : List ℕ) → wordWritten (writing c lent) output ≡ wordTold (writing c lent)
   unfolding writing
-  written-told c lent output = by (leb (c .channel) 63) (leb (c .counter) 3) (leb 4 lent) where
+  written-told c lent output = by (leb (c .channel) largestChannel) (leb (c .counter) 3) (leb 4 lent) where
     by : (x y z : Bool) → wordWritten (must x (refused 12 0) (must y (refused 12 0) (must z (refused 11 0) (done (clcwOf c) tt)))) output
         ≡ wordTold (must x (refused 12 0) (must y (refused 12 0) (must z (refused 11 0) (done (clcwOf c) tt))))
     by true true true =

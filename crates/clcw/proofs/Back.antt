@@ -14,6 +14,7 @@ use Rattle.base.proofs.Fields.{value-field, bits-packed, bits-octets, length-oc
 use Rattle.base.proofs.Lists.{octets-at}
 use Rattle.base.specs.Flags.{bitOf}
 use Rattle.base.specs.Octets.{Octets}
+use Rattle.base.specs.Limits.{largestChannel}
 use Rattle.clcw.specs.declared.Clcw.{Clcw}
 use Rattle.clcw.specs.declared.WordReading.{WordReading}
 use Rattle.clcw.specs.declared.WordReading.the-variants.{Word, Invalid, Address, Length as NotFour}
@@ -44,7 +45,7 @@ module _ (word : Clcw) where
   unfolding isValid wordFields packed digitsOf valueOf
   valid-back = simp field-back
 
-  module _ (hc : word .channel ≤ 63) (hn : word .counter ≤ 3) (hr : word .report < 256) where
+  module _ (hc : word .channel ≤ largestChannel) (hn : word .counter ≤ 3) (hr : word .report < 256) where
     channel-back : fieldAt virtualChannel (clcwOf word) ≡ word .channel
     unfolding wordFields packed digitsOf valueOf
     channel-back = field-back virtualChannel ∙ value-field 6 (word .channel) (omega arith)
@@ -102,7 +103,7 @@ isWord Address = false
 isWord NotFour = false
 
 -- "an own address beyond these matches no frame or word"
-pub own-beyond : (octets : List ℕ) (channel : ℕ) → Octets octets → 63 < channel → isWord (readingOf octets channel) ≡ false
+pub own-beyond : (octets : List ℕ) (channel : ℕ) → Octets octets → largestChannel < channel → isWord (readingOf octets channel) ≡ false
 own-beyond octets channel h beyond = by (reading-cases octets channel)
   where
     by : Case octets channel → isWord (readingOf octets channel) ≡ false

@@ -11,6 +11,7 @@ use lib.Seq.{sets-eq}
 use Rattle.base.specs.Choice.{must}
 use Rattle.base.specs.Fields.{fieldAt, octetsOf}
 use Rattle.base.specs.Outcome.{Outcome.done, Outcome.refused}
+use Rattle.base.specs.Limits.{largestChannel}
 use Rattle.clcw.specs.declared.Clcw.{Clcw}
 use Rattle.clcw.specs.declared.WordReading.{WordReading}
 use Rattle.clcw.specs.declared.WordReading.the-variants.{Word, Invalid, Address, Length as NotFour}
@@ -18,21 +19,21 @@ use Rattle.clcw.specs.Clcw.{virtualChannel, clcwOf, writing, isValid}
 use Rattle.clcw.specs.Answers.{receivedOf, readingOf, refusalOf, readingNumber}
 
 module _ (word : Clcw) (room : ℕ) where
-  pub writing-channel : 63 < word .channel → writing word room ≡ refused 12 0
+  pub writing-channel : largestChannel < word .channel → writing word room ≡ refused 12 0
   unfolding writing
-  writing-channel h = simp (lt-leb (word .channel) 63 h)
+  writing-channel h = simp (lt-leb (word .channel) largestChannel h)
 
-  pub writing-counter : word .channel ≤ 63 → 3 < word .counter → writing word room ≡ refused 12 0
+  pub writing-counter : word .channel ≤ largestChannel → 3 < word .counter → writing word room ≡ refused 12 0
   unfolding writing
-  writing-counter h k = simp (le-leb (word .channel) 63 h, lt-leb (word .counter) 3 k)
+  writing-counter h k = simp (le-leb (word .channel) largestChannel h, lt-leb (word .counter) 3 k)
 
-  pub writing-room : word .channel ≤ 63 → word .counter ≤ 3 → room < 4 → writing word room ≡ refused 11 0
+  pub writing-room : word .channel ≤ largestChannel → word .counter ≤ 3 → room < 4 → writing word room ≡ refused 11 0
   unfolding writing
-  writing-room h k r = simp (le-leb (word .channel) 63 h, le-leb (word .counter) 3 k, lt-leb 4 room r)
+  writing-room h k r = simp (le-leb (word .channel) largestChannel h, le-leb (word .counter) 3 k, lt-leb 4 room r)
 
-  pub writing-done : word .channel ≤ 63 → word .counter ≤ 3 → 4 ≤ room → writing word room ≡ done (clcwOf word) tt
+  pub writing-done : word .channel ≤ largestChannel → word .counter ≤ 3 → 4 ≤ room → writing word room ≡ done (clcwOf word) tt
   unfolding writing
-  writing-done h k r = simp (le-leb (word .channel) 63 h, le-leb (word .counter) 3 k, le-leb 4 room r)
+  writing-done h k r = simp (le-leb (word .channel) largestChannel h, le-leb (word .counter) 3 k, le-leb 4 room r)
 
 module _ (octets : List ℕ) (channel : ℕ) where
   pub reading-length : (length octets ≡ 4 → ⊥) → readingOf octets channel ≡ NotFour

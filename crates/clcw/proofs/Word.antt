@@ -16,6 +16,7 @@ use Rattle.base.specs.Fields.{digitsOf, valueOf, packed, octetsOf, fieldAt, at}
 use Rattle.base.proofs.Fields.{value-field, field-in-octet, field-joined}
 use Rattle.base.proofs.Tests.{bit-le}
 use Rattle.base.specs.Flags.{bitOf}
+use Rattle.base.specs.Limits.{largestChannel}
 use Rattle.clcw.specs.declared.Clcw.{Clcw}
 use Rattle.clcw.specs.Clcw.{controlWordType, versionNumber, statusField, copInEffect, virtualChannel, firstSpare, noRfAvailable, noBitLock, lockoutFlag, waitFlag, retransmitFlag, farmBCounter, secondSpare, reportValue, wordFields, clcwOf, isValid, wordOf}
 use Rattle.clcw.specs.Answers.{receivedOf}
@@ -109,7 +110,7 @@ module _ (s : List ℕ) (four : length s ≡ 4) (octet : (i : ℕ) → getD s i 
       simp (u, f, b)
 
 -- the second octet's fields, and the third's
-second : (channel : ℕ) → channel ≤ 63 → valueOf 0 (digitsOf 6 channel ++ digitsOf 2 0) ≡ channel * 4
+second : (channel : ℕ) → channel ≤ largestChannel → valueOf 0 (digitsOf 6 channel ++ digitsOf 2 0) ≡ channel * 4
 unfolding valueOf digitsOf
 second channel h = omega (arith, value-field 6 channel (omega arith))
 
@@ -120,7 +121,7 @@ unfolding valueOf digitsOf
 third l w r counter hl hw hr hc = omega arith
 
 -- the octets of a word whose values fit their fields
-pub octets-are : (word : Clcw) → word .channel ≤ 63 → word .counter ≤ 3 → word .report < 256
+pub octets-are : (word : Clcw) → word .channel ≤ largestChannel → word .counter ≤ 3 → word .report < 256
     → clcwOf word
     ≡ 0x01
     ∷ (word .channel * 4)

@@ -1,10 +1,11 @@
 -- A computed example of each outcome of reading and of each refusal of writing, and document 01's exact needs 26 and 306.
 use mathlib.Core.Path.{_≡_, refl}
 use mathlib.Core.List.{List, [], _∷_, _++_}
-use Prim.Native.Nat.{ℕ}
+use Prim.Native.Nat.{ℕ, _+_}
 use lib.ListN.{replicate}
 use Rattle.base.specs.Outcome.{answer, numberOf}
 use Rattle.base.specs.Register.{shiftBit, shiftBits, register}
+use Rattle.base.specs.Limits.{largestFrame, largestInput}
 use Rattle.codeblock.specs.Codeblock.{parity, errorControl, codeblockOf, judged}
 use Rattle.randomizer.specs.Randomizer.{nextBit, later, octet, randomized}
 use Rattle.cltu.specs.Cltu.{filled, encoded, informationFor, cltuOf, need, writing, starts, startOf, goodRun, informationIn, correctedIn, readingRun, reading, startSequence}
@@ -22,13 +23,13 @@ pub readings :
     × (readNumber [] 14 ≡ 1)
     × (readNumber (startSequence ++ replicate 8 0) 14 ≡ 2)
     × (readNumber startSequence 14 ≡ 3)
-    × (readNumber (replicate 4097 0) 14 ≡ 10)
+    × (readNumber (replicate (largestInput + 1) 0) 14 ≡ 10)
     × (readNumber (cltuOf frame) 13 ≡ 11)
 unfolding reading readingRun correctedIn informationIn goodRun startOf starts cltuOf informationFor encoded filled randomized octet later nextBit judged codeblockOf errorControl parity register shiftBits shiftBit
 readings = (refl, refl, refl, refl, refl, refl)
 
 -- length; room
-pub writings : (numberOf (answer (writing (replicate 7 0) 306)) ≡ 10) × (numberOf (answer (writing frame 25)) ≡ 11)
+pub writings : (numberOf (answer (writing (replicate 7 0) (need largestFrame))) ≡ 10) × (numberOf (answer (writing frame 25)) ≡ 11)
 unfolding writing
 writings = (refl, refl)
 

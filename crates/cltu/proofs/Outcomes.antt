@@ -6,44 +6,46 @@ use native.Mathlib.Omega.{arith}
 use borrow.Author.Tests.{lt-ltb, le-ltb, le-leb, lt-leb}
 use lib.ListN.{length, take, drop}
 use Rattle.base.specs.Outcome.{Outcome.done, Outcome.refused}
+use Rattle.base.specs.Limits.{largestFrame, largestInput, smallestFrame}
 use Rattle.base.proofs.Lists.{rest}
 use Rattle.randomizer.specs.Randomizer.{randomized}
 use Rattle.cltu.specs.Cltu.{need, cltuOf, writing, startOf, goodRun, informationIn, readingRun, readingAfter, reading}
 use Rattle.cltu.proofs.Scan.{corrected-none}
 
 module _ (frame : List ℕ) (room : ℕ) where
-  pub writing-short : length frame < 8 → writing frame room ≡ refused 10 0
+  pub writing-short : length frame < smallestFrame → writing frame room ≡ refused 10 0
   unfolding writing
-  writing-short h = simp (lt-leb 8 (length frame) h)
+  writing-short h = simp (lt-leb smallestFrame (length frame) h)
 
-  pub writing-long : 8 ≤ length frame → 256 < length frame → writing frame room ≡ refused 10 0
+  pub writing-long : smallestFrame ≤ length frame → largestFrame < length frame → writing frame room ≡ refused 10 0
   unfolding writing
-  writing-long l h = simp (le-leb 8 (length frame) l, lt-leb (length frame) 256 h)
+  writing-long l h = simp (le-leb smallestFrame (length frame) l, lt-leb (length frame) largestFrame h)
 
-  pub writing-room : 8 ≤ length frame → length frame ≤ 256 → room < need (length frame) → writing frame room ≡ refused 11 0
+  pub writing-room : smallestFrame ≤ length frame → length frame ≤ largestFrame → room < need (length frame) → writing frame room ≡ refused 11 0
   unfolding writing
-  writing-room l h r = simp (le-leb 8 (length frame) l, le-leb (length frame) 256 h, lt-leb (need (length frame)) room r)
+  writing-room l h r = simp (le-leb smallestFrame (length frame) l, le-leb (length frame) largestFrame h, lt-leb (need (length frame)) room r)
 
-  pub writing-done : 8 ≤ length frame → length frame ≤ 256 → need (length frame) ≤ room → writing frame room ≡ done (cltuOf frame) tt
+  pub writing-done : smallestFrame ≤ length frame → length frame ≤ largestFrame → need (length frame) ≤ room
+      → writing frame room ≡ done (cltuOf frame) tt
   unfolding writing
-  writing-done l h r = simp (le-leb 8 (length frame) l, le-leb (length frame) 256 h, le-leb (need (length frame)) room r)
+  writing-done l h r = simp (le-leb smallestFrame (length frame) l, le-leb (length frame) largestFrame h, le-leb (need (length frame)) room r)
 
 module _ (s : List ℕ) (room : ℕ) where
-  pub reading-long : 4096 < length s → reading s room ≡ refused 10 0
+  pub reading-long : largestInput < length s → reading s room ≡ refused 10 0
   unfolding reading
-  reading-long h = simp (lt-leb (length s) 4096 h)
+  reading-long h = simp (lt-leb (length s) largestInput h)
 
-  pub reading-none : length s ≤ 4096 → length s ≤ startOf s → reading s room ≡ refused 1 (length s)
+  pub reading-none : length s ≤ largestInput → length s ≤ startOf s → reading s room ≡ refused 1 (length s)
   unfolding reading
-  reading-none h l = simp (le-leb (length s) 4096 h, le-ltb (startOf s) (length s) l)
+  reading-none h l = simp (le-leb (length s) largestInput h, le-ltb (startOf s) (length s) l)
 
   -- past the start sequence, with its offset and the part as the code has them
-  pub reading-found : (first : ℕ) → length s ≤ 4096 → first < length s → first ≡ startOf s
+  pub reading-found : (first : ℕ) → length s ≤ largestInput → first < length s → first ≡ startOf s
       → reading s room ≡ readingAfter (first + 2) (take (length s - (first + 2)) (drop (first + 2) s)) room
   unfolding reading
   reading-found first h l e =
       let b : startOf s < length s = omega arith in
-      simp (le-leb (length s) 4096 h, lt-ltb (startOf s) (length s) b)
+      simp (le-leb (length s) largestInput h, lt-ltb (startOf s) (length s) b)
       (ap (λ (k : ℕ). readingAfter (k + 2) (drop (k + 2) s) room) (sym e)
       ∙ ap (λ (l : List ℕ). readingAfter (first + 2) l room) (sym (rest s (first + 2))))
 

@@ -13,6 +13,7 @@ use lib.Seq.{take-at, drop-at, drop-append-add}
 use Rattle.base.specs.Choice.{pick}
 use Rattle.base.specs.Outcome.{Outcome.done}
 use Rattle.base.specs.Register.{shiftBit, shiftBits, register}
+use Rattle.base.specs.Limits.{largestInput}
 use Rattle.base.proofs.Tests.{both-false}
 use Rattle.codeblock.specs.Codeblock.{parity, errorControl, codeblockOf, Judged, Judged.bad, judged, isGood, informationOf}
 use Rattle.codeblock.proofs.Codeblock.{judged-codeblock}
@@ -81,7 +82,7 @@ information-encoded (suc n) information t e =
     (ap (informationIn n) (other-blocks n information t (omega arith)) ∙ information-encoded n (drop 7 information) t (simp length-drop (omega (arith, mul-suc 7 n))))
     ∙ take-append-drop 7 information
 
--- a frame of any length that fits, so every frame of 8 to 256 octets
+-- a frame of any length that fits, so every frame of smallestFrame to largestFrame octets
 module _ (before frame behind : List ℕ) (room : ℕ) where
   abbrev input : List ℕ
   input = before ++ (cltuOf frame ++ behind)
@@ -106,7 +107,7 @@ module _ (before frame behind : List ℕ) (room : ℕ) where
       ∙ ap₂ _+_ (length-encoded (codeblocks (length frame)) (informationFor frame) enough) (length-append tailSequence behind)
       ∙ (omega arith)
 
-  pub round-trip : startOf before ≡ length before → 1 ≤ length frame → length (before ++ (cltuOf frame ++ behind)) ≤ 4096
+  pub round-trip : startOf before ≡ length before → 1 ≤ length frame → length (before ++ (cltuOf frame ++ behind)) ≤ largestInput
       → 7 * codeblocks (length frame) ≤ room
       → reading (before ++ (cltuOf frame ++ behind)) room
       ≡ done (filled frame) (record { place = length before + 2 + 8 * codeblocks (length frame); corrected = 0 })

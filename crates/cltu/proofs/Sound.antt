@@ -13,6 +13,7 @@ use lib.ListN.{length, take, drop, length-take, length-drop}
 use lib.Seq.{take-add, take-take, take-at, drop-at, drop-drop}
 use Rattle.base.specs.Choice.{pick}
 use Rattle.base.specs.Outcome.{Outcome, Outcome.done, Outcome.refused}
+use Rattle.base.specs.Limits.{largestInput}
 use Rattle.base.proofs.Lists.{rest}
 use Rattle.codeblock.specs.Codeblock.{codeblockOf, judged, isGood}
 use Rattle.codeblock.proofs.Codeblock.{good-is}
@@ -35,23 +36,23 @@ behindRun input = startOf input + 2 + 8 * run input
 
 -- the outcome, with what holds of the input
 pub data Case (input : List ℕ) (room : ℕ) : Type 0 where
-  too-long : 4096 < length input → reading input room ≡ refused 10 0 → Case input room
-  no-start : length input ≤ 4096 → length input ≤ startOf input → reading input room ≡ refused 1 (length input) → Case input room
-  no-block : length input ≤ 4096 → startOf input < length input → run input < length (afterStart input) / 8 → run input ≡ 0
+  too-long : largestInput < length input → reading input room ≡ refused 10 0 → Case input room
+  no-start : length input ≤ largestInput → length input ≤ startOf input → reading input room ≡ refused 1 (length input) → Case input room
+  no-block : length input ≤ largestInput → startOf input < length input → run input < length (afterStart input) / 8 → run input ≡ 0
       → reading input room ≡ refused 2 (startOf input + 2) → Case input room
-  no-end : length input ≤ 4096 → startOf input < length input → length (afterStart input) / 8 ≤ run input
+  no-end : length input ≤ largestInput → startOf input < length input → length (afterStart input) / 8 ≤ run input
       → reading input room ≡ refused 3 (behindRun input) → Case input room
-  no-room : length input ≤ 4096 → startOf input < length input → run input < length (afterStart input) / 8 → 0 < run input → room < 7 * run input
-      → reading input room ≡ refused 11 0 → Case input room
-  read : length input ≤ 4096 → startOf input < length input → run input < length (afterStart input) / 8 → 0 < run input → 7 * run input ≤ room
+  no-room : length input ≤ largestInput → startOf input < length input → run input < length (afterStart input) / 8 → 0 < run input
+      → room < 7 * run input → reading input room ≡ refused 11 0 → Case input room
+  read : length input ≤ largestInput → startOf input < length input → run input < length (afterStart input) / 8 → 0 < run input → 7 * run input ≤ room
       → reading input room ≡ done (randomized 0 (informationIn (run input) (afterStart input))) (record { place = behindRun input; corrected = 0 })
       → Case input room
 
 module _ (input : List ℕ) (room : ℕ) where
-  found : length input ≤ 4096 → startOf input < length input → reading input room ≡ readingAfter (startOf input + 2) (afterStart input) room
+  found : length input ≤ largestInput → startOf input < length input → reading input room ≡ readingAfter (startOf input + 2) (afterStart input) room
   found h s = reading-found input room (startOf input) h s refl ∙ ap (λ (l : List ℕ). readingAfter (startOf input + 2) l room) (rest input (startOf input + 2))
 
-  module _ (h : length input ≤ 4096) (s : startOf input < length input) where
+  module _ (h : length input ≤ largestInput) (s : startOf input < length input) where
     at-room : (b : Bool) → leb (7 * run input) room ≡ b → run input < length (afterStart input) / 8 → 0 < run input → Case input room
     at-room true e l z = read h s l z (leb-true (7 * run input) room e)
         (found h s ∙ after-done (startOf input + 2) (afterStart input) room (run input) refl l z (leb-true (7 * run input) room e))
@@ -70,18 +71,18 @@ module _ (input : List ℕ) (room : ℕ) where
         let l : length (afterStart input) / 8 ≤ run input = ltb-false (run input) (length (afterStart input) / 8) e in
         no-end h s l (found h s ∙ after-end (startOf input + 2) (afterStart input) room (run input) refl l)
 
-  at-start : (b : Bool) → ltb (startOf input) (length input) ≡ b → length input ≤ 4096 → Case input room
+  at-start : (b : Bool) → ltb (startOf input) (length input) ≡ b → length input ≤ largestInput → Case input room
   at-start true e h = at-end h (ltb-true (startOf input) (length input) e) (ltb (run input) (length (afterStart input) / 8)) refl
   at-start false e h =
       let l : length input ≤ startOf input = ltb-false (startOf input) (length input) e in
       no-start h l (reading-none input room h l)
 
-  at-length : (b : Bool) → leb (length input) 4096 ≡ b → Case input room
-  at-length true e = at-start (ltb (startOf input) (length input)) refl (leb-true (length input) 4096 e)
-  at-length false e = too-long (leb-false (length input) 4096 e) (reading-long input room (leb-false (length input) 4096 e))
+  at-length : (b : Bool) → leb (length input) largestInput ≡ b → Case input room
+  at-length true e = at-start (ltb (startOf input) (length input)) refl (leb-true (length input) largestInput e)
+  at-length false e = too-long (leb-false (length input) largestInput e) (reading-long input room (leb-false (length input) largestInput e))
 
   pub cases : Case input room
-  cases = at-length (leb (length input) 4096) refl
+  cases = at-length (leb (length input) largestInput) refl
 
 -- a start sequence stands where it is found
 found-starts : (s : List ℕ) → startOf s < length s → starts (drop (startOf s) s) ≡ true

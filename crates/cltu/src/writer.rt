@@ -84,7 +84,7 @@ fn put(frame: &[u8], sequence: &[u8], out: &mut [u8], n: usize)
     }
 }
 
-// Writes the CLTU of a frame of 8 to 256 octets. A refusal changes nothing.
+// Writes the CLTU of a frame of SMALLEST_FRAME to LARGEST_FRAME octets. A refusal changes nothing.
 pub fn write(frame: &[u8], out: &mut [u8]) -> CltuWritten
     ensures answer { λ r. ⌜ writtenAnswer r ≡ answer (writing (now (frame .entry)) (length (now (out .entry)))) ⌝ }
     ensures memory { λ r. ⌜ now (out .exit) ≡ after (writing (now (frame .entry)) (length (now (out .entry)))) (now (out .entry)) ⌝ }

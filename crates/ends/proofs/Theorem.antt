@@ -9,6 +9,7 @@ use mathlib.Core.List.{List, [], _∷_}
 use native.Mathlib.Omega.{arith}
 use borrow.Author.Tests.{le-leb, eq-eqb}
 use lib.ListN.{length, length-replicate}
+use Rattle.base.specs.Limits.{largestSpacecraft, largestChannel}
 use Rattle.fop.specs.Limits.{largestK, largestNumber}
 use Rattle.fop.specs.Units.{Own}
 use Rattle.fop.specs.Table as table
@@ -85,8 +86,8 @@ module _ (set : Settings) (within : Within set) (v : ℕ) (octet : v ≤ largest
         le-leb (set .k) largestK (within .windowMost),
         le-leb 1 (set .t1) (within .timerLeast),
         le-leb 1 (set .limit) (within .limitLeast),
-        le-leb (set .own .spacecraft) 1023 (within .spacecraft),
-        le-leb (set .own .channel) 63 (within .channel),
+        le-leb (set .own .spacecraft) largestSpacecraft (within .spacecraft),
+        le-leb (set .own .channel) largestChannel (within .channel),
       )
 
   starts : startingOf (senderSettings set) v v (length store) .sender .fop ≡ first
@@ -146,8 +147,8 @@ pub receiver-starts : (set : Settings) → Within set → set .counter ≡ 0
 unfolding farm.startOf startReceiver
 receiver-starts set within zero =
     simp (
-      le-leb (set .own .spacecraft) 1023 (within .spacecraft),
-      le-leb (set .own .channel) 63 (within .channel),
+      le-leb (set .own .spacecraft) largestSpacecraft (within .spacecraft),
+      le-leb (set .own .channel) largestChannel (within .channel),
       eq-eqb (set .w % 2) 0 (within .even),
       le-leb 2 (set .w) (within .farmLeast),
       le-leb (set .w) 254 (within .farmMost),

@@ -24,6 +24,7 @@ use Rattle.fop_actions.specs.declared.Handed.{Handed}
 use Rattle.fop_actions.specs.declared.Handed.the-variants as handed
 use Rattle.fop_actions.specs.View.{unitAt, framesOf}
 use Rattle.sender.specs.Events.{handedWriting}
+use Rattle.sender.specs.Limits.{smallestStore}
 
 -- the octets of a frame, none where there is none
 abbrev pub octetsIn : Option (List ℕ) → List ℕ
@@ -54,7 +55,7 @@ module _ (spacecraft channel : ℕ) (s : spacecraft ≤ largestSpacecraft) (c : 
         (omega (arith, leb-false (length (frameOf spacecraft channel k u)) lent e, long))
 
 -- a unit of the store, at a place that holds one
-pub unit-fits : (lengths store : List ℕ) (i : ℕ) → i ≤ largestK → 1 ≤ getD lengths i 0 → getD lengths i 0 ≤ largestUnit → largestUnit * 33 ≤ length store
+pub unit-fits : (lengths store : List ℕ) (i : ℕ) → i ≤ largestK → 1 ≤ getD lengths i 0 → getD lengths i 0 ≤ largestUnit → smallestStore ≤ length store
     → Fits (unitAt lengths i store)
 unit-fits lengths store i p a b r =
     let l : length (drop (largestUnit * i) store) ≡ length store - largestUnit * i = length-drop (largestUnit * i) store in

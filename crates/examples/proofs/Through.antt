@@ -7,6 +7,7 @@ use native.Mathlib.Omega.{arith}
 use lib.ListN.{length, replicate, length-replicate}
 use Rattle.base.specs.Octets.{Octets}
 use Rattle.base.specs.Outcome.{Outcome.done}
+use Rattle.base.specs.Limits.{largestInput, largestSpacecraft, largestChannel}
 use Rattle.cltu.specs.Cltu.{codeblocks, fillOctet, filled, cltuOf, startOf, reading}
 use Rattle.cltu.proofs.RoundTrip.{round-trip}
 use Rattle.frame.specs.Frame.{bypassOf, controlOf, numberOf, dataOf, frameOf}
@@ -29,7 +30,7 @@ pub record Through (before behind : List ℕ) (spacecraft channel : ℕ) (kind :
       ≡ Frame (record { kind = kind; spacecraft = spacecraft; channel = channel; total = length (dataOf kind unit) + 7; field = length (dataOf kind unit) })
   pub data-part : partOf octets spacecraft channel ≡ dataOf kind unit
 
-module _ (before behind : List ℕ) (spacecraft channel : ℕ) (kind : Kind) (unit : List ℕ) (room : ℕ) (hs : spacecraft ≤ 1023) (hc : channel ≤ 63) (legal : Legal kind unit) where
+module _ (before behind : List ℕ) (spacecraft channel : ℕ) (kind : Kind) (unit : List ℕ) (room : ℕ) (hs : spacecraft ≤ largestSpacecraft) (hc : channel ≤ largestChannel) (legal : Legal kind unit) where
   abbrev frame : List ℕ
   frame = frameOf spacecraft channel kind unit
 
@@ -42,7 +43,7 @@ module _ (before behind : List ℕ) (spacecraft channel : ℕ) (kind : Kind) (un
   size : length frame ≡ length (dataOf kind unit) + 7
   size = length-frame (bypassOf kind) (controlOf kind) (numberOf kind) spacecraft channel (dataOf kind unit)
 
-  pub through : startOf before ≡ length before → length (before ++ (cltuOf frame ++ behind)) ≤ 4096 → 7 * codeblocks (length frame) ≤ room
+  pub through : startOf before ≡ length before → length (before ++ (cltuOf frame ++ behind)) ≤ largestInput → 7 * codeblocks (length frame) ≤ room
       → Through before behind spacecraft channel kind unit room
   unfolding filled
   through none h r = record {

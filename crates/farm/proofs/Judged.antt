@@ -16,6 +16,7 @@ use Rattle.base.proofs.Computed.{tabulate, below}
 use Rattle.base.proofs.Lists.{same-equal, same-self}
 use Rattle.base.proofs.Tests.{not-so, bit-le}
 use Rattle.base.specs.Flags.{bitOf, isSet}
+use Rattle.base.specs.Limits.{largestSpacecraft, largestChannel}
 use Rattle.farm.specs.declared.State.{State}
 use Rattle.farm.specs.declared.State.the-variants.{Open, Wait, Lockout}
 use Rattle.farm.specs.declared.Receiver.{Receiver}
@@ -133,7 +134,8 @@ alike (false ∷ checks) test r = refl
 -- document 01, "Limits"
 abbrev settings : Receiver → List Bool
 settings r =
-    leb (r .spacecraft) 1023 ∷ leb (r .channel) 63 ∷ eqb (r .window % 2) 0 ∷ leb 2 (r .window) ∷ leb (r .window) 254 ∷ leb 1 (r .buffers) ∷ leb (r .buffers) 8 ∷ []
+    leb (r .spacecraft) largestSpacecraft ∷ leb (r .channel) largestChannel ∷ eqb (r .window % 2) 0
+    ∷ leb 2 (r .window) ∷ leb (r .window) 254 ∷ leb 1 (r .buffers) ∷ leb (r .buffers) 8 ∷ []
 
 module _ (r : Receiver) (start : Start) (e : start ≡ startOf (r .spacecraft) (r .channel) (r .window) (r .variables .vr) (r .buffers)) where
   well-formed-is : wellFormed r ≡ behind (running r) start

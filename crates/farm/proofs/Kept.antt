@@ -13,6 +13,7 @@ use Rattle.base.specs.Modulo.{offset}
 use Rattle.base.specs.Octets.{Octets, same}
 use Rattle.base.specs.Fields.{fieldAt}
 use Rattle.base.specs.Outcome.{Outcome.done}
+use Rattle.base.specs.Limits.{largestSpacecraft, largestChannel}
 use Rattle.base.proofs.Lists.{octets-at, below-take, below-drop}
 use Rattle.base.proofs.Tests.{apart, both-true, both-false}
 use Rattle.clcw.specs.Clcw.{clcwOf, writing}
@@ -134,8 +135,8 @@ open-runs v h p w = apart (sym (rw (p, w) at (h .wait)))
 
 -- document 01, "Limits"
 pub record Legal (spacecraft channel window buffers : ℕ) : Type 0 where
-  pub spacecraftFits : spacecraft ≤ 1023
-  pub channelFits : channel ≤ 63
+  pub spacecraftFits : spacecraft ≤ largestSpacecraft
+  pub channelFits : channel ≤ largestChannel
   pub even : window % 2 ≡ 0
   pub narrow : 2 ≤ window
   pub wide : window ≤ 254
@@ -240,8 +241,8 @@ passed false on r e =
 pub start-well : (spacecraft channel window vr buffers : ℕ) (r : Receiver) → vr < 256 → startOf spacecraft channel window vr buffers ≡ Ready r → WellFormed r
 unfolding startOf
 start-well spacecraft channel window vr buffers r hv e =
-    let a = passed (leb spacecraft 1023) _ r e in
-    let b = passed (leb channel 63) _ r (a .1) in
+    let a = passed (leb spacecraft largestSpacecraft) _ r e in
+    let b = passed (leb channel largestChannel) _ r (a .1) in
     let c = passed (eqb (window % 2) 0) _ r (b .1) in
     let d = passed (leb 2 window) _ r (c .1) in
     let f = passed (leb window 254) _ r (d .1) in
@@ -250,8 +251,8 @@ start-well spacecraft channel window vr buffers r hv e =
     let p : atStart spacecraft channel window vr buffers ≡ r = cc (i .1) in
     subst WellFormed p (record {
       settings = record {
-        spacecraftFits = leb-true spacecraft 1023 (a .0);
-        channelFits = leb-true channel 63 (b .0);
+        spacecraftFits = leb-true spacecraft largestSpacecraft (a .0);
+        channelFits = leb-true channel largestChannel (b .0);
         even = eqb-true (window % 2) 0 (c .0);
         narrow = leb-true 2 window (d .0);
         wide = leb-true window 254 (f .0);
@@ -279,4 +280,8 @@ room-is-room r h = go (r .variables .state) refl
 pub word-written : (r : Receiver) (room : ℕ) → WellFormed r → 4 ≤ room → writing (wordOf r) room ≡ done (clcwOf (wordOf r)) tt
 unfolding writing wordOf
 word-written r room h k =
-    rw (le-leb (r .channel) 63 (h .settings .channelFits), le-leb (r .variables .counter) 3 (omega (arith, h .variables .counter)), le-leb 4 room k)
+    rw (
+      le-leb (r .channel) largestChannel (h .settings .channelFits),
+      le-leb (r .variables .counter) 3 (omega (arith, h .variables .counter)),
+      le-leb 4 room k,
+    )

@@ -12,6 +12,7 @@ use Rattle.base.specs.Octets.{Octets, same}
 use Rattle.base.proofs.Lists.{octets-at, same-equal, same-self}
 use Rattle.base.proofs.Tests.{apart, both-left, both-right}
 use Rattle.base.specs.Flags.{isSet}
+use Rattle.base.specs.Limits.{largestSpacecraft, largestChannel}
 use Rattle.farm.specs.declared.State.{State}
 use Rattle.farm.specs.declared.State.the-variants.{Open, Wait, Lockout}
 use Rattle.farm.specs.declared.Receiver.{Receiver}
@@ -79,8 +80,8 @@ module _ (r : Receiver) where
       let s = h .settings in
       let f = flags-hold (v .state) (v .lockout) (v .wait) (v .retransmit) (h .variables .lockout) (h .variables .wait) (h .variables .retransmit) in
       rw (
-        le-leb (r .spacecraft) 1023 (s .spacecraftFits),
-        le-leb (r .channel) 63 (s .channelFits),
+        le-leb (r .spacecraft) largestSpacecraft (s .spacecraftFits),
+        le-leb (r .channel) largestChannel (s .channelFits),
         eq-eqb (r .window % 2) 0 (s .even),
         le-leb 2 (r .window) (s .narrow),
         le-leb (r .window) 254 (s .wide),
@@ -96,8 +97,8 @@ module _ (r : Receiver) where
   unfolding wellFormed
   was-well-formed e vr =
       let v = r .variables in
-      let e1 = both-right (leb (r .spacecraft) 1023) _ e in
-      let e2 = both-right (leb (r .channel) 63) _ e1 in
+      let e1 = both-right (leb (r .spacecraft) largestSpacecraft) _ e in
+      let e2 = both-right (leb (r .channel) largestChannel) _ e1 in
       let e3 = both-right (eqb (r .window % 2) 0) _ e2 in
       let e4 = both-right (leb 2 (r .window)) _ e3 in
       let e5 = both-right (leb (r .window) 254) _ e4 in
@@ -108,8 +109,8 @@ module _ (r : Receiver) where
       let e9 = both-right (ltb (v .counter) 4) _ e8 in
       record {
         settings = record {
-          spacecraftFits = leb-true (r .spacecraft) 1023 (both-left _ _ e);
-          channelFits = leb-true (r .channel) 63 (both-left _ _ e1);
+          spacecraftFits = leb-true (r .spacecraft) largestSpacecraft (both-left _ _ e);
+          channelFits = leb-true (r .channel) largestChannel (both-left _ _ e1);
           even = eqb-true (r .window % 2) 0 (both-left _ _ e2);
           narrow = leb-true 2 (r .window) (both-left _ _ e3);
           wide = leb-true (r .window) 254 (both-left _ _ e4);

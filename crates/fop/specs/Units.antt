@@ -51,7 +51,7 @@ abbrev pub areOctets : List ℕ → Bool
 areOctets [] = true
 areOctets (x ∷ xs) = ltb x 256 && areOctets xs
 
--- "Legal: within the limits": a unit of 1 to 249 octets. A list with a number above 255 is no unit.
+-- "Legal: within the limits": a unit of 1 to largestUnit octets. A list with a number above 255 is no unit.
 unfoldable pub legal : List ℕ → Bool
 legal o = leb 1 (length o) && (leb (length o) largestUnit && areOctets o)
 

@@ -9,6 +9,7 @@ use borrow.Author.Tests.{lt-leb, le-leb, eqb-true, eqb-false}
 use Rattle.base.specs.Choice.{pick, must}
 use Rattle.fop.specs.Table.{FopEvent, E25, E26, E27, E28, E30, E31, E32, E33, E34, E35, E36, E37, E38, E39, E40}
 use Rattle.fop.specs.Events.{directiveEvent}
+use Rattle.fop.specs.Limits.{largestK, largestTransmissionLimit, largestTimer, largestNumber}
 use Rattle.fop_actions.specs.declared.SenderState.{SenderState}
 use Rattle.fop_actions.specs.Start.{begun}
 use Rattle.fop_events.specs.Events.{eventNumber, directiveNumber}
@@ -64,7 +65,7 @@ module _ (d v : ℕ) (s : SenderState) where
   initiated-by-bc e l h =
       let ready : Bool = s .variables .«bc_out» in
       let P : ℕ → Type 0 = λ n. initiate n v ready ≡ directiveNumber n v s in
-      let set-vr : P 4 = ap (must (leb v 255) 40) (by-flag ready E27 E28) ∙ within (leb v 255) (pick ready E27 E28) in
+      let set-vr : P 4 = ap (must (leb v largestNumber) 40) (by-flag ready E27 E28) ∙ within (leb v largestNumber) (pick ready E27 E28) in
       e ∙ from P 3 d (by-flag ready E25 E26) (λ g. only P 4 d set-vr g (omega arith)) l
 
   -- Terminate AD service (5)
@@ -84,15 +85,16 @@ module _ (d v : ℕ) (s : SenderState) where
   unfolding directiveNumber directiveEvent setNumber
   number-set e l h =
       let P : ℕ → Type 0 = λ n. setNumber n v ≡ directiveNumber n v s in
-      e ∙ from P 7 d (within (leb v 255) E35) (λ g. only P 8 d (within-both (leb 1 v) (leb v 32) E36) g (omega arith)) l
+      e ∙ from P 7 d (within (leb v largestNumber) E35) (λ g. only P 8 d (within-both (leb 1 v) (leb v largestK) E36) g (omega arith)) l
 
   -- Set timer (9), Set transmission limit (10), Set Timeout_Type (11)
   pub limit-set : {r : ℕ} → r ≡ setLimit d v → v < 65536 → 9 ≤ d → d < 12 → r ≡ directiveNumber d v s
   unfolding directiveNumber directiveEvent setLimit
   limit-set e t l h =
       let P : ℕ → Type 0 = λ n. setLimit n v ≡ directiveNumber n v s in
-      let timer : P 9 = ap (λ b. must (leb 1 v) 40 (must b 40 37)) (sym (le-leb v 65535 (omega arith))) ∙ within-both (leb 1 v) (leb v 65535) E37 in
-      let limit : P 10 = within-both (leb 1 v) (leb v 255) E38 in
+      let timer : P 9 =
+      ap (λ b. must (leb 1 v) 40 (must b 40 37)) (sym (le-leb v largestTimer (omega arith))) ∙ within-both (leb 1 v) (leb v largestTimer) E37 in
+      let limit : P 10 = within-both (leb 1 v) (leb v largestTransmissionLimit) E38 in
       e ∙ from P 9 d timer (λ g. from P 10 d limit (λ k. only P 11 d (timeout (eqb v 0)) k (omega arith)) g) l
     where
       timeout : (b : Bool) → pick b 39 40 ≡ eventNumber (pick (not b) E40 E39)

@@ -13,6 +13,7 @@ use lib.Seq.{take-add, getD-take, getD-drop, getD-set-other, length-take-le}
 use Rattle.base.specs.Choice.{pick, both}
 use Rattle.base.specs.Fields.{fieldAt}
 use Rattle.base.specs.Octets.{Octets, same}
+use Rattle.base.specs.Limits.{largestFrame}
 use Rattle.base.proofs.Lists.{same-equal, take-next, octets-at}
 use Rattle.base.proofs.Tests.{apart}
 use Rattle.fecf.specs.Fecf.{fecfOf, syndromeOf, fieldOctets}
@@ -138,7 +139,7 @@ module _ (octets : List ℕ) (spacecraft channel : ℕ) (h : Octets octets) (e :
   unfolding dataField
   fits number hn =
       let l : 8 ≤ totalOf octets = y .low in
-      let m : totalOf octets ≤ 256 = y .high in
+      let m : totalOf octets ≤ largestFrame = y .high in
       record {
         flag = omega (arith, bypass-here);
         type = told-here .ordered;
@@ -161,7 +162,7 @@ module _ (octets : List ℕ) (spacecraft channel : ℕ) (h : Octets octets) (e :
   written-body number hn =
       let unit = dataField octets (totalOf octets) in
       let l : 8 ≤ totalOf octets = y .low in
-      let m : totalOf octets ≤ 256 = y .high in
+      let m : totalOf octets ≤ largestFrame = y .high in
       let v : o octets 0 / 64 ≡ 0 = sym (version-is octets at (y .lent)) ∙ y .versionZero in
       let r : o octets 0 / 4 % 4 ≡ 0 = sym (spare-is octets at (y .lent)) ∙ y .spareZero in
       let s : o octets 0 % 4 * 256 + o octets 1 ≡ spacecraft = sym (spacecraft-is octets at (y .lent)) ∙ y .ourSpacecraft in

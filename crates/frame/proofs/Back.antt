@@ -12,6 +12,7 @@ use lib.ListN.{length, getD}
 use Rattle.base.specs.Choice.{pick, must}
 use Rattle.base.specs.Fields.{contiguous}
 use Rattle.base.specs.Octets.{Octets, same}
+use Rattle.base.specs.Limits.{largestUnit, largestSpacecraft, largestChannel}
 use Rattle.base.proofs.Lists.{octets-at}
 use Rattle.frame.specs.Header.{headerFields}
 use Rattle.frame.specs.Frame.{bypassOf, controlOf, numberOf, unlockCommand, dataOf, frameOf, totalOf, dataField, isCommand, refusalOf, kindOf}
@@ -23,15 +24,15 @@ use Rattle.frame.proofs.Octets.{spacecraft-is, channel-is}
 use Rattle.frame.proofs.Accepted.{accepted, reading-frame, part-frame}
 use Rattle.frame.proofs.Written.{Fits, fitting, total-back, field-back, refusal-left, kind-left}
 
--- what may be written: N(S) and the value of Set V(R) are octets, a unit has 1 to 249 octets
+-- what may be written: N(S) and the value of Set V(R) are octets, a unit has 1 to largestUnit octets
 abbrev pub Legal : Kind → List ℕ → Type 0
-Legal (Ad number) unit = (number < 256) × (1 ≤ length unit) × (length unit ≤ 249) × Octets unit
-Legal Bd unit = (1 ≤ length unit) × (length unit ≤ 249) × Octets unit
+Legal (Ad number) unit = (number < 256) × (1 ≤ length unit) × (length unit ≤ largestUnit) × Octets unit
+Legal Bd unit = (1 ≤ length unit) × (length unit ≤ largestUnit) × Octets unit
 Legal Unlock unit = Unit {0}
 Legal (SetVr value) unit = value < 256
 
 -- it fits, and reads back as itself
-pub legal-fits : (spacecraft channel : ℕ) (kind : Kind) (unit : List ℕ) → spacecraft ≤ 1023 → channel ≤ 63 → Legal kind unit
+pub legal-fits : (spacecraft channel : ℕ) (kind : Kind) (unit : List ℕ) → spacecraft ≤ largestSpacecraft → channel ≤ largestChannel → Legal kind unit
     → Fits (bypassOf kind) (controlOf kind) (numberOf kind) spacecraft channel (dataOf kind unit)
 legal-fits spacecraft channel (Ad number) unit hs hv l = fitting (omega arith) (omega arith) (l .0) hs hv (l .1) (l .2) (l .3)
 legal-fits spacecraft channel Bd unit hs hv l = fitting (omega arith) (omega arith) (omega arith) hs hv (l .0) (l .1) (l .2)
@@ -54,7 +55,7 @@ kind-same Bd unit = refl
 kind-same Unlock unit = refl
 kind-same (SetVr value) unit = refl
 
-module _ (spacecraft channel : ℕ) (kind : Kind) (unit fill : List ℕ) (hs : spacecraft ≤ 1023) (hv : channel ≤ 63) (legal : Legal kind unit) (few : length fill ≤ 6) (hf : Octets fill) where
+module _ (spacecraft channel : ℕ) (kind : Kind) (unit fill : List ℕ) (hs : spacecraft ≤ largestSpacecraft) (hv : channel ≤ largestChannel) (legal : Legal kind unit) (few : length fill ≤ 6) (hf : Octets fill) where
   fits : Fits (bypassOf kind) (controlOf kind) (numberOf kind) spacecraft channel (dataOf kind unit)
   fits = legal-fits spacecraft channel kind unit hs hv legal
 
@@ -91,7 +92,8 @@ module _ (spacecraft channel : ℕ) (kind : Kind) (unit fill : List ℕ) (hs : s
       go false e = refl
 
 -- an own address beyond the limits
-pub own-beyond : (octets : List ℕ) (s′ c′ : ℕ) → Octets octets → (1023 < s′ → refusalOf octets s′ c′ ≡ 0 → ⊥) × (63 < c′ → refusalOf octets s′ c′ ≡ 0 → ⊥)
+pub own-beyond : (octets : List ℕ) (s′ c′ : ℕ) → Octets octets
+    → (largestSpacecraft < s′ → refusalOf octets s′ c′ ≡ 0 → ⊥) × (largestChannel < c′ → refusalOf octets s′ c′ ≡ 0 → ⊥)
 own-beyond octets s′ c′ h = (
   (λ l e.
       let y = accepted octets s′ c′ e in

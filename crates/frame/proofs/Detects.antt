@@ -15,6 +15,7 @@ use lib.Seq.{take-at, split-at, set-split, getD-set-same, getD-set-other}
 use Rattle.base.specs.Fields.{digitsOf, valueOf, packed, octetsOf, fieldAt}
 use Rattle.base.specs.Octets.{Octets, bitsOf, octetBits}
 use Rattle.base.specs.Register.{shiftBit, shiftBits, register}
+use Rattle.base.specs.Limits.{largestSpacecraft, largestChannel}
 use Rattle.base.proofs.Computed.{below, is-true}
 use Rattle.base.proofs.Lists.{octets-at, below-append, below-take, below-drop, below-set}
 use Rattle.base.proofs.Xor.{xor-undo}
@@ -123,7 +124,7 @@ before-length b outside e = go (leb 22 b) refl
     go true t = absurd (outside (leb-true 22 b t) (omega arith))
     go false t = omega (arith, leb-false 22 b t)
 
-module _ (spacecraft channel : ℕ) (kind : Kind) (unit fill : List ℕ) (hs : spacecraft ≤ 1023) (hv : channel ≤ 63) (legal : Legal kind unit) (few : length fill ≤ 6) (hf : Octets fill) where
+module _ (spacecraft channel : ℕ) (kind : Kind) (unit fill : List ℕ) (hs : spacecraft ≤ largestSpacecraft) (hv : channel ≤ largestChannel) (legal : Legal kind unit) (few : length fill ≤ 6) (hf : Octets fill) where
   fits : Fits (bypassOf kind) (controlOf kind) (numberOf kind) spacecraft channel (dataOf kind unit)
   fits = legal-fits spacecraft channel kind unit hs hv legal
 

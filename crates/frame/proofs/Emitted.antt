@@ -12,6 +12,7 @@ use Rattle.memory.specs.Placed.{placed}
 use Rattle.memory.proofs.Laws.{placed-behind}
 use Rattle.fecf.specs.Fecf.{fecfOf, fieldOctets}
 use Rattle.base.specs.Fields.{packed}
+use Rattle.base.specs.Limits.{largestUnit, largestSpacecraft, largestChannel}
 use Rattle.frame.specs.Header.{headerFields, headerOf}
 use Rattle.frame.specs.Frame.{bodyOf, rawFrame, rawWriting}
 
@@ -60,25 +61,40 @@ module _ (bypass control number spacecraft channel : ℕ) (field : List ℕ) whe
     unfolding rawWriting
     writing-empty h = simp (lt-leb 1 (length field) h)
 
-    pub writing-long : 1 ≤ length field → 249 < length field → outcome ≡ refused 10 0
+    pub writing-long : 1 ≤ length field → largestUnit < length field → outcome ≡ refused 10 0
     unfolding rawWriting
-    writing-long l h = simp (le-leb 1 (length field) l, lt-leb (length field) 249 h)
+    writing-long l h = simp (le-leb 1 (length field) l, lt-leb (length field) largestUnit h)
 
-    pub writing-spacecraft : 1 ≤ length field → length field ≤ 249 → 1023 < spacecraft → outcome ≡ refused 12 0
+    pub writing-spacecraft : 1 ≤ length field → length field ≤ largestUnit → largestSpacecraft < spacecraft → outcome ≡ refused 12 0
     unfolding rawWriting
-    writing-spacecraft l h s = simp (le-leb 1 (length field) l, le-leb (length field) 249 h, lt-leb spacecraft 1023 s)
+    writing-spacecraft l h s = simp (le-leb 1 (length field) l, le-leb (length field) largestUnit h, lt-leb spacecraft largestSpacecraft s)
 
-    pub writing-channel : 1 ≤ length field → length field ≤ 249 → spacecraft ≤ 1023 → 63 < channel → outcome ≡ refused 12 0
+    pub writing-channel : 1 ≤ length field → length field ≤ largestUnit → spacecraft ≤ largestSpacecraft → largestChannel < channel
+        → outcome ≡ refused 12 0
     unfolding rawWriting
-    writing-channel l h s c = simp (le-leb 1 (length field) l, le-leb (length field) 249 h, le-leb spacecraft 1023 s, lt-leb channel 63 c)
+    writing-channel l h s c =
+        simp (le-leb 1 (length field) l, le-leb (length field) largestUnit h, le-leb spacecraft largestSpacecraft s, lt-leb channel largestChannel c)
 
-    pub writing-room : 1 ≤ length field → length field ≤ 249 → spacecraft ≤ 1023 → channel ≤ 63 → room < length field + 7 → outcome ≡ refused 11 0
+    pub writing-room : 1 ≤ length field → length field ≤ largestUnit → spacecraft ≤ largestSpacecraft → channel ≤ largestChannel
+        → room < length field + 7 → outcome ≡ refused 11 0
     unfolding rawWriting
     writing-room l h s c r =
-        simp (le-leb 1 (length field) l, le-leb (length field) 249 h, le-leb spacecraft 1023 s, le-leb channel 63 c, lt-leb (length field + 7) room r)
+        simp (
+          le-leb 1 (length field) l,
+          le-leb (length field) largestUnit h,
+          le-leb spacecraft largestSpacecraft s,
+          le-leb channel largestChannel c,
+          lt-leb (length field + 7) room r,
+        )
 
-    pub writing-done : 1 ≤ length field → length field ≤ 249 → spacecraft ≤ 1023 → channel ≤ 63 → length field + 7 ≤ room
-        → outcome ≡ done (rawFrame bypass control number spacecraft channel field) tt
+    pub writing-done : 1 ≤ length field → length field ≤ largestUnit → spacecraft ≤ largestSpacecraft → channel ≤ largestChannel
+        → length field + 7 ≤ room → outcome ≡ done (rawFrame bypass control number spacecraft channel field) tt
     unfolding rawWriting
     writing-done l h s c r =
-        simp (le-leb 1 (length field) l, le-leb (length field) 249 h, le-leb spacecraft 1023 s, le-leb channel 63 c, le-leb (length field + 7) room r)
+        simp (
+          le-leb 1 (length field) l,
+          le-leb (length field) largestUnit h,
+          le-leb spacecraft largestSpacecraft s,
+          le-leb channel largestChannel c,
+          le-leb (length field + 7) room r,
+        )

@@ -1,12 +1,13 @@
 -- A computed example of each number that reading answers, and of each refusal of writing.
 use mathlib.Core.Path.{_≡_, refl}
 use mathlib.Core.List.{List, [], _∷_, _++_}
-use Prim.Native.Nat.{ℕ}
+use Prim.Native.Nat.{ℕ, _+_}
 use lib.ListN.{take, replicate}
 use Rattle.base.specs.Fields.{valueOf, fieldAt}
 use Rattle.base.specs.Octets.{bitsOf, octetBits}
 use Rattle.base.specs.Outcome.{answer, numberOf}
 use Rattle.base.specs.Register.{shiftBit, shiftBits, register}
+use Rattle.base.specs.Limits.{largestFrame, largestSpacecraft}
 use Rattle.fecf.specs.Fecf.{fecfOf, syndromeOf, fieldOctets}
 use Rattle.frame.specs.Frame.{rawWriting, writing, totalOf, dataField, isCommand, commandHeld, headerRefusal, contentRefusal, refusalOf}
 use Rattle.frame.specs.declared.Kind.{Kind}
@@ -40,6 +41,9 @@ abbrev writtenNumber : ℕ → ℕ → Kind → List ℕ → ℕ → ℕ
 writtenNumber spacecraft channel kind unit room = numberOf (answer (writing spacecraft channel kind unit room))
 
 -- an empty unit; a spacecraft beyond its limit; room
-pub writings : (writtenNumber 1 0 Bd [] 256 ≡ 10) × (writtenNumber 1024 0 Unlock [] 8 ≡ 12) × (writtenNumber 1 0 Unlock [] 7 ≡ 11)
+pub writings :
+    (writtenNumber 1 0 Bd [] largestFrame ≡ 10)
+    × (writtenNumber (largestSpacecraft + 1) 0 Unlock [] 8 ≡ 12)
+    × (writtenNumber 1 0 Unlock [] 7 ≡ 11)
 unfolding rawWriting
 writings = (refl, refl, refl)

@@ -5,6 +5,7 @@ use Prim.Native.Nat.{ℕ, _+_, _-_, _*_, _/_, _%_, _<_, _≤_}
 use native.Mathlib.Omega.{arith}
 use lib.ListN.{take, drop}
 use Rattle.base.specs.Fields.{digitsOf, valueOf, packed, octetsOf}
+use Rattle.base.specs.Limits.{largestSpacecraft, largestChannel}
 use Rattle.base.proofs.Fields.{value-digits, value-append}
 use Rattle.frame.specs.Header.{headerFields, headerOf}
 
@@ -15,7 +16,7 @@ eight value = value-digits 8 0 value ∙ omega arith
 five : {a b c d e a′ b′ c′ d′ e′ : ℕ} → a ≡ a′ → b ≡ b′ → c ≡ c′ → d ≡ d′ → e ≡ e′ → _≡_ {A = List ℕ} (a ∷ b ∷ c ∷ d ∷ e ∷ []) (a′ ∷ b′ ∷ c′ ∷ d′ ∷ e′ ∷ [])
 five p q r s t = cc
 
-module _ (bypass control spacecraft channel total number : ℕ) (hb : bypass ≤ 1) (hc : control ≤ 1) (hs : spacecraft ≤ 1023) (hv : channel ≤ 63) (low : 8 ≤ total) (high : total ≤ 1024) (hn : number < 256) where
+module _ (bypass control spacecraft channel total number : ℕ) (hb : bypass ≤ 1) (hc : control ≤ 1) (hs : spacecraft ≤ largestSpacecraft) (hv : channel ≤ largestChannel) (low : 8 ≤ total) (high : total ≤ 1024) (hn : number < 256) where
   abbrev bits : List ℕ
   bits = packed (headerFields bypass control spacecraft channel total number)
 

@@ -11,6 +11,7 @@ use Rattle.base.specs.Choice.{must}
 use Rattle.base.specs.Fields.{digitsOf, valueOf, packed, octetsOf, fieldAt}
 use Rattle.base.specs.Octets.{Octets, bitsOf, octetBits}
 use Rattle.base.specs.Register.{shiftBit, shiftBits, register}
+use Rattle.base.specs.Limits.{largestFrame, largestUnit, largestSpacecraft, largestChannel}
 use Rattle.fecf.specs.Fecf.{fecfOf, syndromeOf}
 use Rattle.frame.specs.Header.{spacecraftIdentifier, headerFields, headerOf}
 use Rattle.frame.specs.Frame.{bodyOf, rawFrame, totalOf, dataField, isCommand, commandHeld, headerRefusal, contentRefusal, refusalOf, kindOf}
@@ -28,7 +29,8 @@ refuses-all reader never agrees = never unlock 1 0 (agrees unlock 1 0 ∙ accept
 
 -- a reader that looks at N(S) of a type-B frame: one that refuses any BD frame for its number, whatever the number is
 pub number-of-type-b : (reader : List ℕ → ℕ → ℕ → ℕ) (number spacecraft channel : ℕ) (unit fill : List ℕ)
-    → number < 256 → spacecraft ≤ 1023 → channel ≤ 63 → 1 ≤ length unit → length unit ≤ 249 → Octets unit → length fill ≤ 6 → Octets fill
+    → number < 256 → spacecraft ≤ largestSpacecraft → channel ≤ largestChannel → 1 ≤ length unit → length unit ≤ largestUnit → Octets unit
+    → length fill ≤ 6 → Octets fill
     → (reader (rawFrame 1 0 number spacecraft channel unit ++ fill) spacecraft channel ≡ 0 → ⊥) → Agrees reader → ⊥
 number-of-type-b reader number spacecraft channel unit fill hn hs hv low high hu few hf refuses agrees =
     refuses
@@ -48,7 +50,7 @@ numbered-is = (refl, refl, refl)
 not-seven : (s : List ℕ) (spacecraft channel : ℕ) → (syndromeOf (take (totalOf s) s) ≡ 0 → ⊥) → refusalOf s spacecraft channel ≡ 7 → ⊥
 unfolding refusalOf contentRefusal
 not-seven s spacecraft channel d e =
-    go (leb 8 (length s)) (leb 8 (totalOf s)) (leb (totalOf s) 256) (leb (totalOf s) (length s)) (leb (length s) (totalOf s + 6))
+    go (leb 8 (length s)) (leb 8 (totalOf s)) (leb (totalOf s) largestFrame) (leb (totalOf s) (length s)) (leb (length s) (totalOf s + 6))
     (rw (ne-eqb (syndromeOf (take (totalOf s) s)) 0 d) at e)
   where
     go : (a b c d f : Bool) → _≡_ {A = ℕ} (must a 4 (must b 4 (must c 10 (must d 4 (must f 5 8))))) 7 → ⊥

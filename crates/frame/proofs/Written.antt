@@ -11,6 +11,7 @@ use lib.Seq.{take-at}
 use Rattle.base.specs.Choice.{pick, must, both}
 use Rattle.base.specs.Fields.{fieldAt}
 use Rattle.base.specs.Octets.{Octets, same}
+use Rattle.base.specs.Limits.{largestFrame, largestUnit, largestSpacecraft, largestChannel}
 use Rattle.base.proofs.Lists.{octets-at, below-append}
 use Rattle.base.proofs.Tests.{both-left, both-right, not-so}
 use Rattle.fecf.specs.Fecf.{fecfOf, syndromeOf, fieldOctets}
@@ -23,25 +24,26 @@ use Rattle.frame.proofs.Packed.{header-octets}
 use Rattle.frame.proofs.Emitted.{length-frame}
 
 -- octets whose lengths are right are judged by their content
-pub lengths-right : (s : List ℕ) (n spacecraft channel : ℕ) → totalOf s ≡ n → 8 ≤ n → n ≤ 256 → n ≤ length s → length s ≤ n + 6
+pub lengths-right : (s : List ℕ) (n spacecraft channel : ℕ) → totalOf s ≡ n → 8 ≤ n → n ≤ largestFrame → n ≤ length s → length s ≤ n + 6
     → refusalOf s spacecraft channel ≡ contentRefusal s n spacecraft channel
 unfolding refusalOf
 lengths-right s n spacecraft channel e low high whole few =
-    rw (e, le-leb 8 (length s) (omega arith), le-leb 8 n low, le-leb n 256 high, le-leb n (length s) whole, le-leb (length s) (n + 6) few)
+    rw (e, le-leb 8 (length s) (omega arith), le-leb 8 n low, le-leb n largestFrame high, le-leb n (length s) whole, le-leb (length s) (n + 6) few)
 
 -- what a frame is written of: its parts within their limits, and no type (0,1)
 pub record Fits (bypass control number spacecraft channel : ℕ) (field : List ℕ) : Type 0 where
   pub flag : bypass ≤ 1
   pub type : control ≤ bypass
   pub ns : number < 256
-  pub address : spacecraft ≤ 1023
-  pub virtual : channel ≤ 63
+  pub address : spacecraft ≤ largestSpacecraft
+  pub virtual : channel ≤ largestChannel
   pub low : 1 ≤ length field
-  pub high : length field ≤ 249
+  pub high : length field ≤ largestUnit
   pub octets : Octets field
 
-pub fitting : {bypass control number spacecraft channel : ℕ} {field : List ℕ} → bypass ≤ 1 → control ≤ bypass → number < 256 → spacecraft ≤ 1023 → channel ≤ 63
-    → 1 ≤ length field → length field ≤ 249 → Octets field → Fits bypass control number spacecraft channel field
+pub fitting : {bypass control number spacecraft channel : ℕ} {field : List ℕ} → bypass ≤ 1 → control ≤ bypass → number < 256
+    → spacecraft ≤ largestSpacecraft → channel ≤ largestChannel
+    → 1 ≤ length field → length field ≤ largestUnit → Octets field → Fits bypass control number spacecraft channel field
 fitting flag type ns address virtual low high octets = record {
   flag = flag;
   type = type;

@@ -1,8 +1,8 @@
 // Clauses 7.2.2, 7.4 and 7.9.2, table 7-8: FOP-1, the sender. Its events, each with its whole answer; document 01, "FOP-1".
 //
 // The sender's state goes in by value and comes back in the answer. The units lie in a store that the host lends at every event, the
-// same one each time and written by nobody else: units of 249 octets from offset 0 on, the oldest first, the unit waiting behind the sent
-// ones. The frame handed down to the lower layer is written at the front of the lent output. A refusal changes nothing.
+// same one each time and written by nobody else: one in each place of LARGEST_UNIT octets from offset 0 on, the oldest first, the unit
+// waiting behind the sent ones. The frame handed down to the lower layer is written at the front of the lent output. A refusal changes nothing.
 mod answers;
 mod frames;
 mod state;
@@ -52,7 +52,7 @@ ghost use Rattle.sender.specs.Start.{refusedStart, startingOf};
 ghost use Rattle.sender.specs.State.{restoredOf};
 ghost use Rattle.sender.specs.Events.{handedWriting, unitOffered, servedBy, served, mustBeUnit, offeredBy, added, ticked, tickNumber, requestAdOf, requestBdOf, directiveOf, tickOf, lowerLayerOf, controlWordOf};
 
-// Document 01: 32 units of 249 octets sent and one waiting.
+// Document 01: a place for each sent unit of the largest K, and one for the unit waiting.
 pub const SMALLEST_STORE: usize = LARGEST_UNIT * PLACES;
 
 // The sender's state. No other crate can write one: a start gives one, and each answer the next.

@@ -31,8 +31,8 @@ use Rattle.sender.specs.declared.FrameKind.the-variants as kind
 use Rattle.sender_octets.specs.Answer.{alertNumber, alertNumbered, kindNumber, kindNumbered, octetsOfAnswer, toldBy, answerIn}
 use Rattle.sender_octets.proofs.Back.{state-back}
 
--- what the answer's struct and the frame's limit see to: four responses, and a frame of 256 octets at the most. That the other numbers fit
--- their octets is not needed: none is cut on the way, which the contract of `octets_of_answer` says
+-- what the answer's struct and the frame's limit see to: four responses, and a frame of largestFrame octets at the most. That the other numbers
+-- fit their octets is not needed: none is cut on the way, which the contract of `octets_of_answer` says
 pub record Fits (a : Answer) : Type 0 where
   pub numbers : length (a .responses .numbers) ≡ largestResponses
   pub down : a .down ≤ largestFrame

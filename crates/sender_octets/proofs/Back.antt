@@ -19,7 +19,7 @@ use Rattle.fop_actions.specs.declared.Control.the-variants as control
 use Rattle.fop_actions.specs.declared.SenderState.{SenderState}
 use Rattle.sender.specs.State.{wellFormed}
 use Rattle.sender.specs.Start.{refusedStart}
-use Rattle.sender_octets.specs.Kept.{octetsOf, stateIn, isState, senderIn, stateNumber, stateNumbered, controlNumber, controlValue, controlNumbered, pairsFrom}
+use Rattle.sender_octets.specs.Kept.{numberOctets, octetsOf, stateIn, isState, senderIn, stateNumber, stateNumbered, controlNumber, controlValue, controlNumbered, pairsFrom}
 use Rattle.sender_octets.proofs.Pairs.{pair-back, pairs-back}
 use Rattle.sender_octets.proofs.Parts.{settings-by, variables-by, queues-by, state-by}
 
@@ -81,9 +81,9 @@ module _ (s : SenderState) where
       variables-by (octetsOf s) (sym (pair-back (v .timer))) (f .0) (f .1) (f .2)
 
   module _ (h : Sized s) where
-    lengths-back : s .queues .lengths ≡ pairsFrom (octetsOf s) 22 places
+    lengths-back : s .queues .lengths ≡ pairsFrom (octetsOf s) numberOctets places
     unfolding octetsOf
-    lengths-back = sym (pairs-back (octetsOf s) 22 (s .queues .lengths) refl) ∙ ap (pairsFrom (octetsOf s) 22) (h .lengths)
+    lengths-back = sym (pairs-back (octetsOf s) numberOctets (s .queues .lengths) refl) ∙ ap (pairsFrom (octetsOf s) numberOctets) (h .lengths)
 
     queues-back : s .queues ≡ stateIn (octetsOf s) .queues
     unfolding octetsOf

@@ -14,7 +14,7 @@ use Rattle.fop_actions.specs.declared.SenderState.{SenderState}
 use Rattle.sender.specs.State.{wellFormed, restoredOf}
 use Rattle.sender.specs.Start.{refusedStart}
 use Rattle.sender.specs.declared.Start.{Start}
-use Rattle.sender_octets.specs.Kept.{stateOctets, octetsOf, stateIn, isState, senderIn}
+use Rattle.sender_octets.specs.Kept.{numberOctets, stateOctets, octetsOf, stateIn, isState, senderIn}
 use Rattle.sender_octets.proofs.Pairs.{length-pairs, length-from}
 
 pub length-octets : (s : SenderState) → length (s .queues .lengths) ≡ places → length (octetsOf s) ≡ stateOctets
@@ -33,7 +33,7 @@ restored-where s = twice (wellFormed s) _ _
 module _ (o : List ℕ) where
   length-in : length (octetsOf (stateIn o)) ≡ stateOctets
   unfolding stateIn
-  length-in = length-octets (stateIn o) (length-from o 22 places)
+  length-in = length-octets (stateIn o) (length-from o numberOctets places)
 
   pub no-length : (length o ≡ stateOctets → ⊥) → same o (octetsOf (stateIn o)) ≡ false
   no-length h = same-length-not o (octetsOf (stateIn o)) (λ e. h (e ∙ length-in))

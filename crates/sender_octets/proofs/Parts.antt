@@ -13,7 +13,7 @@ use Rattle.fop_actions.specs.declared.Queues.{Queues}
 use Rattle.fop_actions.specs.declared.Control.{Control}
 use Rattle.fop_actions.specs.declared.SenderState.{SenderState}
 use Rattle.sender.specs.declared.Answer.{Answer}
-use Rattle.sender_octets.specs.Kept.{octetsOf, stateIn, stateNumber, stateNumbered, controlNumber, controlValue, controlNumbered, flagsOf, pairs, pairAt, pairsFrom}
+use Rattle.sender_octets.specs.Kept.{numberOctets, octetsOf, stateIn, stateNumber, stateNumbered, controlNumber, controlValue, controlNumbered, flagsOf, pairs, pairAt, pairsFrom}
 use Rattle.sender_octets.specs.Answer.{octetsOfAnswer, alertNumber, kindNumber}
 
 -- the octets before the lengths, with the state's number, the flags and the type-BC frame given
@@ -93,7 +93,7 @@ module _ (o : List ℕ) where
   }
 
   pub queues-by : {waiting : Bool} {control : Control} {marked : Bool} {lengths : List ℕ} → waiting ≡ isSet (getD o 16 0) 8
-      → control ≡ controlNumbered (getD o 20 0) (getD o 21 0) → marked ≡ isSet (getD o 16 0) 16 → lengths ≡ pairsFrom o 22 places
+      → control ≡ controlNumbered (getD o 20 0) (getD o 21 0) → marked ≡ isSet (getD o 16 0) 16 → lengths ≡ pairsFrom o numberOctets places
       → queuesWith waiting control marked lengths ≡ stateIn o .queues
   unfolding stateIn
   queues-by {marked = marked} {lengths = lengths} ew ec em el =

@@ -1,10 +1,10 @@
--- The sender's state as 88 octets, so that a unit can keep it over a reset. Numbers of two octets have the most significant first.
+-- The sender's state as octets, so that a unit can keep it over a reset. Numbers of two octets have the most significant first.
 --
 --   0 53 hex          8-9 spacecraft     15 Transmission_Count                          18 units sent
 --   1 layout, 1       10 channel         16 flags: 1 AD_Out, 2 BC_Out, 4 BD_Out Ready,   19 of these marked
 --   2 state, 1 to 6   11 V(S)               8 a unit waits, 16 type-BC frame marked      20 type-BC frame: 0 none, 1 Unlock, 2 Set V(R)
 --   3 K               12 NN(R)           17 Suspend_State                               21 its value
---   4-5 T1_Initial    13-14 timer                                                       22-87 the lengths of the 33 units, two octets each
+--   4-5 T1_Initial    13-14 timer                                                       22 on: the length of the unit at each place, two octets each
 --   6 Transmission_Limit, 7 Timeout_Type
 use Prim.Native.Nat.{ℕ, zero, suc, _+_, _*_, _/_, _%_}
 use mathlib.Core.Bool.{Bool}
@@ -24,9 +24,13 @@ use Rattle.sender.specs.State.{wellFormed, restoredOf}
 use Rattle.sender.specs.Start.{refusedStart}
 use Rattle.sender.specs.declared.Start.{Start}
 
--- the octets of a state
+-- the octets of a state before its lengths
+abbrev pub numberOctets : ℕ
+numberOctets = 22
+
+-- the octets of a state: two more for each length
 abbrev pub stateOctets : ℕ
-stateOctets = 88
+stateOctets = numberOctets + 2 * places
 
 -- S1 to S6 by number
 abbrev pub stateNumber : State → ℕ
@@ -117,7 +121,7 @@ stateIn o = record {
     waiting = isSet (getD o 16 0) 8;
     control = controlNumbered (getD o 20 0) (getD o 21 0);
     «control_marked» = isSet (getD o 16 0) 16;
-    lengths = pairsFrom o 22 places;
+    lengths = pairsFrom o numberOctets places;
   };
 }
 

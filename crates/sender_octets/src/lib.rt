@@ -8,6 +8,7 @@ use crate::writer::numbers_of;
 use crate::writer::state_number;
 use crate::writer::truth;
 use fop_actions::Alert;
+use fop_actions::PLACES;
 use sender::Answer;
 use sender::FrameKind;
 use sender::Sender;
@@ -18,11 +19,11 @@ ghost use mathlib.Core.Path.{_≡_};
 ghost use Rattle.sender_octets.specs.Kept.{octetsOf, senderIn};
 ghost use Rattle.sender_octets.specs.Answer.{alertNumber, kindNumber, octetsOfAnswer};
 
-// The octets of a state: 22 of numbers and flags, two for each length.
-pub const STATE_OCTETS: usize = 88;
+// The octets of a state before its lengths: numbers and flags.
+const NUMBER_OCTETS: usize = 22;
 
-// The octets of a state before its lengths.
-const NUMBERS: usize = 22;
+// The octets of a state: two more for each length.
+pub const STATE_OCTETS: usize = NUMBER_OCTETS + 2 * PLACES;
 
 // The octets of an answer.
 pub const ANSWER_OCTETS: usize = 18;

@@ -1,5 +1,5 @@
 // The state that octets would hold.
-use crate::NUMBERS;
+use crate::NUMBER_OCTETS;
 use fop_actions::Control;
 use fop_actions::PLACES;
 use fop_actions::Queues;
@@ -12,7 +12,7 @@ ghost use Prim.Native.Nat.{_+_, _*_, _<_};
 ghost use lib.ListN.{length};
 ghost use Rattle.base.specs.Flags.{isSet};
 ghost use Rattle.fop_actions.specs.Limits.{places};
-ghost use Rattle.sender_octets.specs.Kept.{stateIn, stateNumbered, controlNumbered, pairAt, pairsFrom};
+ghost use Rattle.sender_octets.specs.Kept.{numberOctets, stateOctets, stateIn, stateNumbered, controlNumbered, pairAt, pairsFrom};
 
 // A number of two octets.
 fn pair(high: u8, low: u8) -> u16
@@ -74,7 +74,7 @@ fn is_set(flags: u8, weight: u8) -> bool
 
 // The settings.
 fn settings_in(octets: &[u8]) -> Settings
-    requires { ⌜ length (now octets) ≡ 88 ⌝ }
+    requires { ⌜ length (now octets) ≡ stateOctets ⌝ }
     ensures { λ r. ⌜ r ≡ stateIn (now (octets .entry)) .settings ⌝ }
 {
     let t1_initial = pair_at(octets, 4);
@@ -91,7 +91,7 @@ fn settings_in(octets: &[u8]) -> Settings
 
 // V(S), NN(R), the timer, Transmission_Count, the out flags and Suspend_State.
 fn variables_in(octets: &[u8]) -> Variables
-    requires { ⌜ length (now octets) ≡ 88 ⌝ }
+    requires { ⌜ length (now octets) ≡ stateOctets ⌝ }
     ensures { λ r. ⌜ r ≡ stateIn (now (octets .entry)) .variables ⌝ }
 {
     let timer = pair_at(octets, 13);
@@ -113,13 +113,13 @@ fn variables_in(octets: &[u8]) -> Variables
 
 // The lengths of the units.
 fn lengths_in(octets: &[u8]) -> [u16; PLACES]
-    requires { ⌜ length (now octets) ≡ 88 ⌝ }
-    ensures { λ r. ⌜ r ≡ pairsFrom (now (octets .entry)) 22 places ⌝ }
+    requires { ⌜ length (now octets) ≡ stateOctets ⌝ }
+    ensures { λ r. ⌜ r ≡ pairsFrom (now (octets .entry)) numberOctets places ⌝ }
 {
     let mut lengths = [0u16; PLACES];
     let mut i = 0;
     while i < PLACES {
-        let length = pair_at(octets, NUMBERS + 2 * i);
+        let length = pair_at(octets, NUMBER_OCTETS + 2 * i);
         lengths[i] = length;
         i += 1;
     }
@@ -128,7 +128,7 @@ fn lengths_in(octets: &[u8]) -> [u16; PLACES]
 
 // The sent queue, the wait queue and the type-BC frame.
 fn queues_in(octets: &[u8]) -> Queues
-    requires { ⌜ length (now octets) ≡ 88 ⌝ }
+    requires { ⌜ length (now octets) ≡ stateOctets ⌝ }
     ensures { λ r. ⌜ r ≡ stateIn (now (octets .entry)) .queues ⌝ }
 {
     let flags = octets[16];
@@ -148,7 +148,7 @@ fn queues_in(octets: &[u8]) -> Queues
 
 // The state.
 pub(crate) fn state_in(octets: &[u8]) -> SenderState
-    requires { ⌜ length (now octets) ≡ 88 ⌝ }
+    requires { ⌜ length (now octets) ≡ stateOctets ⌝ }
     ensures { λ r. ⌜ r ≡ stateIn (now (octets .entry)) ⌝ }
 {
     let state = state_numbered(octets[2]);

@@ -1,5 +1,5 @@
-// A state as octets: 22 of numbers and flags, then two for each length, the most significant first.
-use crate::NUMBERS;
+// A state as octets: numbers and flags, then two for each length, the most significant first.
+use crate::NUMBER_OCTETS;
 use crate::STATE_OCTETS;
 use fop_actions::Control;
 use fop_actions::PLACES;
@@ -7,10 +7,11 @@ use fop_actions::SenderState;
 use fop_actions::State;
 ghost use mathlib.Core.Path.{_≡_};
 ghost use mathlib.Core.List.{_++_};
-ghost use Prim.Native.Nat.{_<_, _≤_, _/_, _%_};
+ghost use Prim.Native.Nat.{_*_, _<_, _≤_, _/_, _%_};
 ghost use lib.ListN.{getD};
 ghost use Rattle.base.specs.Flags.{bitOf};
-ghost use Rattle.sender_octets.specs.Kept.{octetsOf, stateNumber, controlNumber, controlValue, flagsOf, pairs};
+ghost use Rattle.fop_actions.specs.Limits.{places};
+ghost use Rattle.sender_octets.specs.Kept.{stateOctets, octetsOf, stateNumber, controlNumber, controlValue, flagsOf, pairs};
 
 // The first octet of a state, and the number of its layout.
 const MARK: u8 = 0x53;
@@ -77,7 +78,7 @@ fn flags_of(state: SenderState) -> u8
 }
 
 // The octets of a state before its lengths.
-pub fn numbers_of(state: SenderState) -> [u8; NUMBERS]
+pub fn numbers_of(state: SenderState) -> [u8; NUMBER_OCTETS]
     ensures { λ r. ⌜ r ++ pairs (state .queues .lengths) ≡ octetsOf state ⌝ }
 {
     let fop_state = state.state;
@@ -115,7 +116,7 @@ pub fn numbers_of(state: SenderState) -> [u8; NUMBERS]
 
 // The octet at a place of the lengths as octets.
 fn length_octet(lengths: [u16; PLACES], place: usize) -> u8
-    requires { ⌜ place < 66 ⌝ }
+    requires { ⌜ place < 2 * places ⌝ }
     ensures { λ r. ⌜ r ≡ getD (pairs lengths) place 0 ⌝ }
 {
     let length = lengths[place / 2];
@@ -139,18 +140,18 @@ fn low(number: u16) -> u8
 }
 
 // The octet at a place of a state.
-fn octet_at(numbers: [u8; NUMBERS], lengths: [u16; PLACES], place: usize) -> u8
-    requires { ⌜ place < 88 ⌝ }
+fn octet_at(numbers: [u8; NUMBER_OCTETS], lengths: [u16; PLACES], place: usize) -> u8
+    requires { ⌜ place < stateOctets ⌝ }
     ensures { λ r. ⌜ r ≡ getD (numbers ++ pairs lengths) place 0 ⌝ }
 {
-    if place < NUMBERS {
+    if place < NUMBER_OCTETS {
         return numbers[place];
     }
-    length_octet(lengths, place - NUMBERS)
+    length_octet(lengths, place - NUMBER_OCTETS)
 }
 
 // The numbers and flags, then the lengths.
-pub fn join(numbers: [u8; NUMBERS], lengths: [u16; PLACES]) -> [u8; STATE_OCTETS]
+pub fn join(numbers: [u8; NUMBER_OCTETS], lengths: [u16; PLACES]) -> [u8; STATE_OCTETS]
     ensures { λ r. ⌜ r ≡ numbers ++ pairs lengths ⌝ }
 {
     let mut octets = [0u8; STATE_OCTETS];

@@ -10,7 +10,7 @@ use lib.Dec.{leb, ltb}
 use lib.ListN.{length}
 use borrow.Author.Tests.{leb-true, le-leb, ltb-true, lt-ltb}
 use Rattle.base.specs.Choice.{pick, must}
-use Rattle.base.specs.Limits.{largestChannel}
+use Rattle.base.specs.Limits.{largestChannel, largestUnit, largestSpacecraft}
 use Rattle.base.specs.Outcome.{Outcome.done, Outcome.refused}
 use Rattle.base.specs.Octets.{Octets}
 use Rattle.base.specs.Flags.{bitOf}
@@ -37,14 +37,14 @@ pub octets-are : (o : List ℕ) → areOctets o ≡ true → Octets o
 octets-are [] e = tt
 octets-are (x ∷ o) e = let h = and-both (ltb x 256) (areOctets o) e in (ltb-true x 256 (h .0), octets-are o (h .1))
 
-pub legal-is : (o : List ℕ) → legal o ≡ true → (1 ≤ length o) × (length o ≤ 249) × Octets o
+pub legal-is : (o : List ℕ) → legal o ≡ true → (1 ≤ length o) × (length o ≤ largestUnit) × Octets o
 unfolding legal
 legal-is o e =
-    let h = and-both (leb 1 (length o)) (leb (length o) 249 && areOctets o) e in
-    let k = and-both (leb (length o) 249) (areOctets o) (h .1) in
+    let h = and-both (leb 1 (length o)) (leb (length o) largestUnit && areOctets o) e in
+    let k = and-both (leb (length o) largestUnit) (areOctets o) (h .1) in
     (leb-true _ _ (h .0), leb-true _ _ (k .0), octets-are o (k .1))
 
-module _ (own : Own) (sc : own .spacecraft ≤ 1023) (ch : own .channel ≤ 63) where
+module _ (own : Own) (sc : own .spacecraft ≤ largestSpacecraft) (ch : own .channel ≤ largestChannel) where
   -- a frame with nothing behind it
   reading-back : (k : Kind) (o : List ℕ) → fback.Legal k o
       → readingOf (frameOf (own .spacecraft) (own .channel) k o) (own .spacecraft) (own .channel)

@@ -5,6 +5,7 @@ use Prim.Native.Nat.{ℕ, _+_, _<_, _≤_}
 use native.Mathlib.Omega.{arith}
 use denote.Ref.{now}
 use lib.ListN.{length}
+use Rattle.base.specs.Limits.{largestFrame}
 use Rattle.base.proofs.Tests.{tests}
 use Rattle.frame.specs.Frame.{totalOf, contentRefusal, refusalOf}
 use Rattle.frame.proofs.refusal.Statement.{statement}
@@ -38,7 +39,7 @@ returns-3 c =
     let e = c .before .before .total .ensures in
     let h : 8 ≤ length s = omega arith in
     let l : 8 ≤ totalOf s = omega arith in
-    let m : 256 < totalOf s = omega arith in
+    let m : largestFrame < totalOf s = omega arith in
     search tests
 
 returns-4 : tie.Need-returns-4
@@ -49,7 +50,7 @@ returns-4 c =
     let e = c .before .before .before .total .ensures in
     let h : 8 ≤ length s = omega arith in
     let l : 8 ≤ totalOf s = omega arith in
-    let m : totalOf s ≤ 256 = omega arith in
+    let m : totalOf s ≤ largestFrame = omega arith in
     let w : length s < totalOf s = omega arith in
     search tests
 
@@ -64,7 +65,7 @@ returns-5 c =
     let e = c .before .before .before .before .total .ensures in
     let h : 8 ≤ length s = omega arith in
     let l : 8 ≤ totalOf s = omega arith in
-    let m : totalOf s ≤ 256 = omega arith in
+    let m : totalOf s ≤ largestFrame = omega arith in
     let w : totalOf s ≤ length s = omega arith in
     let f : totalOf s + 6 < length s = omega arith in
     search tests
@@ -80,7 +81,7 @@ returns-6 c =
     let e = c .before .before .before .before .before .total .ensures in
     let h : 8 ≤ length s = omega arith in
     let l : 8 ≤ totalOf s = omega arith in
-    let m : totalOf s ≤ 256 = omega arith in
+    let m : totalOf s ≤ largestFrame = omega arith in
     let w : totalOf s ≤ length s = omega arith in
     let f : length s ≤ totalOf s + 6 = omega arith in
     c .content-refusal .ensures ∙ ap (λ (n : ℕ). contentRefusal s n (a .spacecraft) (a .channel)) e ∙ search tests

@@ -1,4 +1,4 @@
--- The first 8,217 octets are moved down; a shorter store is moved down whole.
+-- The octets of all places are moved down; a shorter store is moved down whole.
 use borrow.Author.Needs.{needs}
 use mathlib.Core.Path.{sym, ap, _∙_}
 use mathlib.Core.List.{List, _++_}

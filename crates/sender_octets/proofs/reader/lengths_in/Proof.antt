@@ -8,13 +8,14 @@ use denote.Ref.{now}
 use lib.ListN.{length, take, drop, replicate, length-set}
 use Rattle.base.proofs.Lists.{store-by}
 use Rattle.fop_actions.specs.Limits.{places}
-use Rattle.sender_octets.specs.Kept.{pairsFrom}
+use Rattle.sender_octets.specs.Kept.{numberOctets, pairsFrom}
 use Rattle.sender_octets.proofs.Pairs.{length-from, from-at, filled}
 use Rattle.sender_octets.proofs.reader.lengths_in.Statement.{statement}
 use Rattle.sender_octets.proofs.reader.lengths_in.Tie as tie
 
 abbrev Inv-loop : tie.InvT-loop
-Inv-loop octets lengths₀ i₀ lengths i = (i ≤ places) × (lengths ≡ take i (pairsFrom octets 22 places) ++ drop i lengths₀) × (length lengths ≡ places)
+Inv-loop octets lengths₀ i₀ lengths i =
+    (i ≤ places) × (lengths ≡ take i (pairsFrom octets numberOctets places) ++ drop i lengths₀) × (length lengths ≡ places)
 
 abbrev μ-loop : tie.MeasureT-loop
 μ-loop octets lengths₀ i₀ lengths i = places - i
@@ -47,10 +48,10 @@ loop-again : tie.Need-loop-again Inv-loop μ-loop
 loop-again c =
     let l = c .before .before in
     let o = now (l .before .before .args .octets) in
-    let n = length-from o 22 places in (
+    let n = length-from o numberOctets places in (
       search needs,
-      store-by (pairsFrom o 22 places) (replicate places 0) (l .loop .lengths) (l .loop .i) (c .pair-at .result) (l .loop .inv .1)
-          (c .pair-at .ensures ∙ sym (from-at o 22 places (l .loop .i) (omega arith))) (omega arith) (omega arith),
+      store-by (pairsFrom o numberOctets places) (replicate places 0) (l .loop .lengths) (l .loop .i) (c .pair-at .result) (l .loop .inv .1)
+          (c .pair-at .ensures ∙ sym (from-at o numberOctets places (l .loop .i) (omega arith))) (omega arith) (omega arith),
       simp length-set (search needs),
     )
 
@@ -58,7 +59,7 @@ returns : tie.Need-returns Inv-loop μ-loop
 returns c =
     let l = c .before in
     let o = now (l .before .before .args .octets) in
-    filled (pairsFrom o 22 places) (replicate places 0) (l .loop .lengths) (l .loop .i) (l .loop .inv .1) (omega arith) (omega arith)
+    filled (pairsFrom o numberOctets places) (replicate places 0) (l .loop .lengths) (l .loop .i) (l .loop .inv .1) (omega arith) (omega arith)
 
 pub lengths-in-spec : {M : Type 1} → statement M
 lengths-in-spec =

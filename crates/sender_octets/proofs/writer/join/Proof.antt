@@ -8,16 +8,18 @@ use mir.Syntax.{w8, w16}
 use borrow.Kind.Array.{eInt, good-length}
 use lib.ListN.{length, take, drop, replicate, length-set}
 use Rattle.base.proofs.Lists.{store-by}
-use Rattle.sender_octets.specs.Kept.{pairs}
+use Rattle.fop_actions.specs.Limits.{places}
+use Rattle.sender_octets.specs.Kept.{numberOctets, stateOctets, pairs}
 use Rattle.sender_octets.proofs.Pairs.{length-joined, filled}
 use Rattle.sender_octets.proofs.writer.join.Statement.{statement}
 use Rattle.sender_octets.proofs.writer.join.Tie as tie
 
 abbrev Inv-loop : tie.InvT-loop
-Inv-loop numbers lengths octets₀ i₀ octets i = (i ≤ 88) × (octets ≡ take i (numbers ++ pairs lengths) ++ drop i octets₀) × (length octets ≡ 88)
+Inv-loop numbers lengths octets₀ i₀ octets i =
+    (i ≤ stateOctets) × (octets ≡ take i (numbers ++ pairs lengths) ++ drop i octets₀) × (length octets ≡ stateOctets)
 
 abbrev μ-loop : tie.MeasureT-loop
-μ-loop numbers lengths octets₀ i₀ octets i = 88 - i
+μ-loop numbers lengths octets₀ i₀ octets i = stateOctets - i
 
 loop-holds : tie.Need-loop-holds Inv-loop μ-loop
 loop-holds c = (search needs, refl, refl)
@@ -38,12 +40,12 @@ loop-again : tie.Need-loop-again Inv-loop μ-loop
 loop-again c =
     let l = c .before .before in
     let a = l .before .args in
-    let n = good-length (eInt w8) 22 (a .numbers) _ (l .before .good .0) in
-    let m = good-length (eInt w16) 33 (a .lengths) _ (l .before .good .1 .0) in
+    let n = good-length (eInt w8) numberOctets (a .numbers) _ (l .before .good .0) in
+    let m = good-length (eInt w16) places (a .lengths) _ (l .before .good .1 .0) in
     let k = length-joined (a .numbers) (a .lengths) in (
       search needs,
-      store-by (a .numbers ++ pairs (a .lengths)) (replicate 88 0) (l .loop .octets) (l .loop .i) (c .octet-at .result) (l .loop .inv .1) (c .octet-at .ensures)
-          (omega arith) (omega arith),
+      store-by (a .numbers ++ pairs (a .lengths)) (replicate stateOctets 0) (l .loop .octets) (l .loop .i) (c .octet-at .result) (l .loop .inv .1)
+          (c .octet-at .ensures) (omega arith) (omega arith),
       simp length-set (search needs),
     )
 
@@ -51,10 +53,10 @@ returns : tie.Need-returns Inv-loop μ-loop
 returns c =
     let l = c .before in
     let a = l .before .args in
-    let n = good-length (eInt w8) 22 (a .numbers) _ (l .before .good .0) in
-    let m = good-length (eInt w16) 33 (a .lengths) _ (l .before .good .1 .0) in
+    let n = good-length (eInt w8) numberOctets (a .numbers) _ (l .before .good .0) in
+    let m = good-length (eInt w16) places (a .lengths) _ (l .before .good .1 .0) in
     let k = length-joined (a .numbers) (a .lengths) in
-    filled (a .numbers ++ pairs (a .lengths)) (replicate 88 0) (l .loop .octets) (l .loop .i) (l .loop .inv .1) (omega arith) (omega arith)
+    filled (a .numbers ++ pairs (a .lengths)) (replicate stateOctets 0) (l .loop .octets) (l .loop .i) (l .loop .inv .1) (omega arith) (omega arith)
 
 pub join-spec : {M : Type 1} → statement M
 join-spec =
