@@ -20,6 +20,7 @@ pub record Does (own : Own) (lent : ℕ) (e : SenderEvent) (f : Fop) (x : Step) 
   pub next : fopOf (begun (x .answer .next .fop)) (x .store) ≡ senderNext own e lent f
   pub good : Good own (x .answer .next .fop) (x .store)
 
+-- for both ends' address, every event, any output lent and every well-formed sender with its store
 abbrev pub Demand2 : Type 0
 Demand2 =
     (own : Own) (e : SenderEvent) (output : List ℕ) (x : Held) → Good own (x .sender .fop) (x .store)
