@@ -9,8 +9,8 @@ use Rattle.memory.specs.Placed.{placed}
 use Rattle.fop.specs.Limits.{largestNumber, largestTimer, largestTransmissionLimit}
 use Rattle.fop_actions.specs.declared.SenderState.{SenderState}
 use Rattle.fop_actions.specs.declared.Settings.{Settings}
-use Rattle.fop_events.specs.declared.Lower.{Lower}
-use Rattle.fop_events.specs.declared.Lower.the-variants as lower
+use Rattle.fop.specs.declared.Lower.{Lower}
+use Rattle.fop.specs.declared.Lower.the-variants as lower
 use Rattle.sender.specs.declared.Start.{Start}
 use Rattle.sender.specs.Answers.{Step}
 use Rattle.sender.specs.Start.{refusedStart, startingOf}

@@ -11,12 +11,12 @@ use Rattle.fop.specs.Table.{Action, Cell, cell, ifNotSuspended, NotApplicable, 
 use Rattle.fop.specs.Table.{Ignore, Accept, Reject, Confirm, RejectAd, AcceptBd, RejectBd, AddToWaitQueue, LookForFdu, LookForDirective, RemoveAcknowledgedFrames}
 use Rattle.fop.specs.Table.{InitiateAdRetransmission, InitiateBcRetransmission, ReleaseBcFrame, CancelTimer, StartTimer, Alert, Initialise, TransmitUnlock, TransmitSetVr, TransmitBd}
 use Rattle.fop.specs.Table.{SetSuspendState, Suspend, Resume, SetVs, SetNnr, SetK, SetT1Initial, SetTransmissionLimit, SetTimeoutType, AdOutReady, BcOutReady, BdOutReady}
-use Rattle.fop_actions.specs.declared.Alert.{Alert as Reason}
+use Rattle.fop.specs.declared.Alert.{Alert as Reason}
 use Rattle.fop_actions.specs.declared.Control.{Control}
 use Rattle.fop_actions.specs.declared.Control.the-variants as control
 use Rattle.fop_actions.specs.declared.Handed.{Handed}
-use Rattle.fop_actions.specs.declared.Response.{Response}
-use Rattle.fop_actions.specs.declared.Response.the-variants as response
+use Rattle.fop.specs.declared.Response.{Response}
+use Rattle.fop.specs.declared.Response.the-variants as response
 use Rattle.fop_actions.specs.declared.Responses.{Responses}
 use Rattle.fop_actions.specs.declared.SenderState.{SenderState}
 use Rattle.fop_actions.specs.declared.Work.{Work}
@@ -24,8 +24,7 @@ use Rattle.fop_actions.specs.Limits.{largestResponses}
 use Rattle.fop_actions.specs.Parts.{withSettings, withVariables, withQueues, withTold}
 use Rattle.fop_actions.specs.Actions as act
 use Rattle.fop_actions.specs.Start.{begun, noneTold}
-use Rattle.fop_actions.specs.View.{stateOf}
-use Rattle.fop_rows.specs.Rows.{declaredReason, octet, done, doneAll, doneCell, rowOf, eventOf, rowIf, rowNumbered}
+use Rattle.fop_rows.specs.Rows.{octet, done, doneAll, doneCell, rowOf, eventOf, rowIf, rowNumbered}
 
 -- the numbers of four responses
 abbrev pub Four : Work → Type 0
@@ -159,7 +158,7 @@ keeps InitiateBcRetransmission n l w h = retransmits-bc w h
 keeps ReleaseBcFrame n l w h = h
 keeps CancelTimer n l w h = h
 keeps StartTimer n l w h = h
-keeps (Alert r) n l w h = alerts (declaredReason r) w h
+keeps (Alert r) n l w h = alerts r w h
 keeps Initialise n l w h = initialises w h
 keeps TransmitUnlock n l w h = transmits-bc w h _ _
 keeps TransmitSetVr n l w h = transmits-bc w h _ _
@@ -195,7 +194,7 @@ cell-keeps (ifNotSuspended acts others s) n l w h = by (eqb (w .variables .«sus
 if-keeps : (e : Option FopEvent) (n l : ℕ) (w : Work) → Four w → Four (rowIf e n l w)
 unfolding rowIf rowOf
 if-keeps none n l w h = h
-if-keeps (some e) n l w h = cell-keeps (cell78 (table78 e) (stateOf (w .state))) n l w h
+if-keeps (some e) n l w h = cell-keeps (cell78 (table78 e) (w .state)) n l w h
 
 -- the row of any number, from the start of the work
 pub four : (k n l : ℕ) (s : SenderState) → Four (rowNumbered k n l (begun s))

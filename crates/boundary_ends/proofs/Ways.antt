@@ -16,7 +16,7 @@ use Rattle.memory.specs.Placed.{placed}
 use Rattle.clcw.specs.Answers.{readingOf}
 use Rattle.clcw.specs.declared.WordReading.{WordReading}
 use Rattle.clcw.specs.declared.WordReading.the-variants as reading
-use Rattle.fop_actions.specs.declared.Response.the-variants.{RejectDirective}
+use Rattle.fop.specs.declared.Response.the-variants.{RejectDirective}
 use Rattle.fop_actions.specs.declared.SenderState.{SenderState}
 use Rattle.fop_actions.specs.declared.Work.{Work}
 use Rattle.fop_actions.specs.Actions.{responseNumber, responsesWith}
@@ -24,7 +24,7 @@ use Rattle.fop_actions.specs.Limits.{largestResponses}
 use Rattle.fop_actions.specs.Start.{begun}
 use Rattle.fop_actions.specs.View.{without}
 use Rattle.fop_rows.specs.Rows.{rowNumbered}
-use Rattle.fop_events.specs.declared.Lower.{Lower}
+use Rattle.fop.specs.declared.Lower.{Lower}
 use Rattle.fop_events.specs.Events.{wordNumber, directiveNumber, adNumber, bdNumber, lowerNumber}
 use Rattle.sender.specs.declared.Answer.{Answer}
 use Rattle.sender.specs.Answers.{noResponses, answered, refusing, concluded, Step, stepBy, refusedStep}

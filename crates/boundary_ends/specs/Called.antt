@@ -11,9 +11,9 @@ use Rattle.base.specs.Choice.{pick}
 use Rattle.base.specs.Outcome.{Outcome, answer, after, numberOf, countOf}
 use Rattle.fop.specs.Units.{areOctets}
 use Rattle.fop.specs.Events.{SenderEvent, requestAd, requestBd, tick, lower, directive, wordArrives}
-use Rattle.fop.specs.Events as fop
+use Rattle.fop.specs.declared.Lower.{Lower}
 use Rattle.fop.specs.Answers.{Answer}
-use Rattle.fop_actions.specs.View.{stateOf, reasonOf, responsesOf, runTold}
+use Rattle.fop_actions.specs.View.{responsesOf}
 use Rattle.fop_rows.specs.Rows.{eventOf}
 use Rattle.farm.specs.Kept.{octetsOf as receiverOctets}
 use Rattle.farm.specs.declared.Event.{Event as FarmEvent}
@@ -37,13 +37,13 @@ abbrev pub lentAnswer : List ℕ
 lentAnswer = replicate answerOctets 0
 
 -- the numbers of the lower layer's answers, 1 to 6
-abbrev pub lowerCalled : fop.Lower → ℕ
-lowerCalled fop.adAccept = 1
-lowerCalled fop.adReject = 2
-lowerCalled fop.bcAccept = 3
-lowerCalled fop.bcReject = 4
-lowerCalled fop.bdAccept = 5
-lowerCalled fop.bdReject = 6
+abbrev pub lowerCalled : Lower → ℕ
+lowerCalled Lower.AdAccept = 1
+lowerCalled Lower.AdReject = 2
+lowerCalled Lower.BcAccept = 3
+lowerCalled Lower.BcReject = 4
+lowerCalled Lower.BdAccept = 5
+lowerCalled Lower.BdReject = 6
 
 -- units and words are lent as octets; a list with a number above 255 cannot be lent, and counts as one of a wrong length (10), as it does in
 -- crate fop, specs/Units
@@ -69,14 +69,14 @@ unfoldable pub answerCalled : Called → Answer
 answerCalled called = record {
   refusal = called .number;
   event = eventOf (answerIn (called .answer) .event);
-  state = stateOf (answerIn (called .answer) .state);
+  state = answerIn (called .answer) .state;
   down = handedDown (answerIn (called .answer) .down) (called .output);
   abort = answerIn (called .answer) .abort;
   responses = responsesOf (answerIn (called .answer) .responses);
-  alert = reasonOf (answerIn (called .answer) .alert);
+  alert = answerIn (called .answer) .alert;
   suspended = answerIn (called .answer) .suspended;
-  confirmed = runTold (answerIn (called .answer) .confirmed);
-  denied = runTold (answerIn (called .answer) .denied);
+  confirmed = answerIn (called .answer) .confirmed;
+  denied = answerIn (called .answer) .denied;
 }
 
 -- the event of table 7-9 by the number told; 0 is none

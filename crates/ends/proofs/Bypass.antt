@@ -17,13 +17,12 @@ use Rattle.fop_actions.specs.declared.Control.{Control}
 use Rattle.fop_actions.specs.declared.Control.the-variants as control
 use Rattle.fop_actions.specs.declared.Handed.{Handed}
 use Rattle.fop_actions.specs.declared.Handed.the-variants as handed
-use Rattle.fop_actions.specs.declared.Response.the-variants as response
+use Rattle.fop.specs.declared.Response.the-variants as response
 use Rattle.fop_actions.specs.declared.SenderState.{SenderState}
 use Rattle.fop_actions.specs.declared.Work.{Work}
 use Rattle.fop_actions.specs.Actions as act
 use Rattle.fop_actions.specs.Parts.{withSettings, withVariables, withQueues, withTold}
 use Rattle.fop_actions.specs.Start.{begun, noneTold}
-use Rattle.fop_actions.specs.View.{stateOf}
 use Rattle.fop_rows.specs.Rows.{done, doneAll, doneCell, rowOf}
 use Rattle.fop_events.specs.Events.{eventNumber}
 use Rattle.fop_view.proofs.Allowed.{every, every-in}
@@ -152,7 +151,7 @@ in-cell (ifNotSuspended acts more s) n l w t h =
     (λ b. all more n l w (both-right (others acts) (others more) t) h)
 
 -- the rows
-rows : (e : FopEvent) → eqb (eventNumber e) 21 ≡ false → every (λ x. otherCell (cell78 (table78 e) (stateOf x))) ≡ true
+rows : (e : FopEvent) → eqb (eventNumber e) 21 ≡ false → every (λ x. otherCell (cell78 (table78 e) x)) ≡ true
 unfolding table78 other
 rows E1 t = refl
 rows E2 t = refl
@@ -207,4 +206,4 @@ rows E104 t = refl
 
 pub no-bypass : (e : FopEvent) (n l : ℕ) (s : SenderState) → eqb (eventNumber e) 21 ≡ false → Unbypassed (rowOf e n l (begun s))
 unfolding rowOf begun noneTold
-no-bypass e n l s t = in-cell (cell78 (table78 e) (stateOf (s .state))) n l (begun s) (every-in (λ x. otherCell (cell78 (table78 e) (stateOf x))) (rows e t) (s .state)) refl
+no-bypass e n l s t = in-cell (cell78 (table78 e) (s .state)) n l (begun s) (every-in (λ x. otherCell (cell78 (table78 e) x)) (rows e t) (s .state)) refl

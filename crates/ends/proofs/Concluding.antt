@@ -17,12 +17,13 @@ use Rattle.fop.specs.Units.{Own, Frame}
 use Rattle.fop.specs.Table.{FopEvent}
 use Rattle.fop.specs.Variables as machine
 use Rattle.fop.specs.Variables.{Fop}
-use Rattle.fop.specs.Answers.{Answer, Run, runOf, octetsDown, room, answered, refused}
+use Rattle.fop.specs.declared.Run.{Run}
+use Rattle.fop.specs.Answers.{Answer, runOf, octetsDown, room, answered, refused}
 use Rattle.fop_actions.specs.declared.SenderState.{SenderState}
 use Rattle.fop_actions.specs.declared.Work.{Work}
 use Rattle.fop_actions.specs.Actions.{responsesWith}
 use Rattle.fop_actions.specs.Start.{begun, senderOf}
-use Rattle.fop_actions.specs.View.{stateOf, reasonOf, responsesOf, runTold, fopOf, view}
+use Rattle.fop_actions.specs.View.{responsesOf, fopOf, view}
 use Rattle.fop_rows.specs.Rows.{eventOf}
 use Rattle.fop_view.specs.State.{Good}
 use Rattle.sender.specs.Answers as sender
@@ -71,8 +72,8 @@ module _ (s : SenderState) (store output : List ℕ) where
   refuses-12 = refl
 
 module _ (own : Own) (event : Option FopEvent) (k : ℕ) (numbered : eventOf k ≡ event) (o : List ℕ) (n : ℕ) (s : SenderState) (store new : List ℕ) (w : Work)
-    (m : machine.Work) (lent : ℕ) (is : m ≡ view event o n (m .confirmed) (m .denied) w new) (c : runOf (m .confirmed) ≡ runTold (w .told .confirmed))
-    (d : runOf (m .denied) ≡ runTold (w .told .denied)) (after : Good own (senderOf w) new) (before : Good own s store)
+    (m : machine.Work) (lent : ℕ) (is : m ≡ view event o n (m .confirmed) (m .denied) w new) (c : runOf (m .confirmed) ≡ (w .told .confirmed))
+    (d : runOf (m .denied) ≡ (w .told .denied)) (after : Good own (senderOf w) new) (before : Good own s store)
     (some-octets : SomeOctets (octetsDown own (m .frames))) where
   abbrev down : Option (List ℕ)
   down = octetsDown own (m .frames)
@@ -82,11 +83,11 @@ module _ (own : Own) (event : Option FopEvent) (k : ℕ) (numbered : eventOf k �
   whole e x p q = record {
     refusal = 0;
     event = e;
-    state = stateOf (w .state);
+    state = w .state;
     down = x;
     abort = w .told .abort;
     responses = responsesOf (w .told .responses);
-    alert = reasonOf (w .told .alert);
+    alert = (w .told .alert);
     suspended = w .told .suspended;
     confirmed = p;
     denied = q;
@@ -98,9 +99,9 @@ module _ (own : Own) (event : Option FopEvent) (k : ℕ) (numbered : eventOf k �
   done-answer : answerBy doneStep ≡ answered own m
   unfolding sender.answered
   done-answer =
-      ap (λ (e : Option FopEvent). whole e (handedDown (length (octetsIn down)) (octetsIn down ++ drop (length (octetsIn down)) (lentOutput lent))) (runTold (w .told .confirmed)) (runTold (w .told .denied))) numbered
-      ∙ ap (λ (x : Option (List ℕ)). whole event x (runTold (w .told .confirmed)) (runTold (w .told .denied))) (down-is down (lentOutput lent) some-octets)
-      ∙ ap (λ (p : Run). whole event down p (runTold (w .told .denied))) (sym c)
+      ap (λ (e : Option FopEvent). whole e (handedDown (length (octetsIn down)) (octetsIn down ++ drop (length (octetsIn down)) (lentOutput lent))) (w .told .confirmed) (w .told .denied)) numbered
+      ∙ ap (λ (x : Option (List ℕ)). whole event x (w .told .confirmed) (w .told .denied)) (down-is down (lentOutput lent) some-octets)
+      ∙ ap (λ (p : Run). whole event down p (w .told .denied)) (sym c)
       ∙ ap (λ (q : Run). whole event down (runOf (m .confirmed)) q) (sym d)
       ∙ ap (λ (x : List Frame). whole event (octetsDown own x) (runOf (m .confirmed)) (runOf (m .denied))) (ap (λ (y : machine.Work). y .frames) is)
       ∙ sym (ap (answered own) is)

@@ -28,6 +28,7 @@ use Rattle.fop.specs.Table.{FopEvent, E15, E18, E19, E20, E21, E22, E39, E103}
 use Rattle.fop.specs.Variables as machine
 use Rattle.fop.specs.Variables.{Fop}
 use Rattle.fop.specs.Machine.{fopDo}
+use Rattle.fop.specs.declared.Lower.{Lower}
 use Rattle.fop.specs.Events.{when, first, SenderEvent, requestAd, requestBd, tick, lower, directive, wordArrives, isEmpty, seen, wordLines, wordEvent, expiryLines, validDirective, directiveLines, directiveEvent, work, fopAd, fopBd, fopTick, fopExpiry, fopLower, fopDirective, fopReceived, fopWord}
 use Rattle.fop.specs.Events as fop
 use Rattle.fop.specs.Answers.{judged, otherRefusal, refused}
@@ -44,7 +45,7 @@ use Rattle.session.proofs.Octets.{octets-are}
 use Rattle.sender.specs.Answers.{Step, stepBy, refusedStep}
 use Rattle.sender.specs.Limits.{smallestStore}
 use Rattle.sender.specs.Events.{handedWriting, servedBy, served, offeredBy, bypassedBy, requestAdOf, requestBdOf, directiveOf, ticked, tickOf, lowerLayerOf, wordBy, controlWordOf}
-use Rattle.ends.specs.Ours.{Held, stepOf, lowerAnswer, answerBy, lentOutput, reads}
+use Rattle.ends.specs.Ours.{Held, stepOf, answerBy, lentOutput, reads}
 use Rattle.ends.specs.Does.{Does}
 use Rattle.ends.proofs.Numbers.{row-event}
 use Rattle.ends.proofs.Writing.{Fits, fitting}
@@ -96,19 +97,19 @@ module _ (own : Own) (s : SenderState) (store : List ℕ) (lent : ℕ) (good : G
   refused-by e j q h a = refuses own lent e f (refusedStep j s store output) j q h a (refused-keeps own s store output j) (refused-good own s store output j good)
 
   -- Answers of the lower layer.
-  lower-row : (l : fop.Lower) → (plain (fop.lowerEvent l) ≡ true) × Meets (fop.lowerEvent l) [] 0 s × (lowerNumber (lowerAnswer l) ≡ eventNumber (fop.lowerEvent l))
+  lower-row : (l : Lower) → (plain (fop.lowerEvent l) ≡ true) × Meets (fop.lowerEvent l) [] 0 s × (lowerNumber l ≡ eventNumber (fop.lowerEvent l))
   unfolding lowerNumber
-  lower-row fop.adAccept = (refl, tt, refl)
-  lower-row fop.adReject = (refl, tt, refl)
-  lower-row fop.bcAccept = (refl, tt, refl)
-  lower-row fop.bcReject = (refl, tt, refl)
-  lower-row fop.bdAccept = (refl, tt, refl)
-  lower-row fop.bdReject = (refl, tt, refl)
+  lower-row Lower.AdAccept = (refl, tt, refl)
+  lower-row Lower.AdReject = (refl, tt, refl)
+  lower-row Lower.BcAccept = (refl, tt, refl)
+  lower-row Lower.BcReject = (refl, tt, refl)
+  lower-row Lower.BdAccept = (refl, tt, refl)
+  lower-row Lower.BdReject = (refl, tt, refl)
 
-  pub lower-does : (l : fop.Lower) → Does own lent (lower l) f (lowerLayerOf (lowerAnswer l) s store output)
+  pub lower-does : (l : Lower) → Does own lent (lower l) f (lowerLayerOf l s store output)
   unfolding lowerLayerOf work fopLower judged
   lower-does l =
-      agreed own lent (lower l) f (lowerLayerOf (lowerAnswer l) s store output) refl
+      agreed own lent (lower l) f (lowerLayerOf l s store output) refl
       (subst (λ (k : ℕ). Agrees own lent f (fopDo (fop.lowerEvent l) [] 0 f) (served k 0 s s store output)) (sym (lower-row l .2))
       (by-row (fop.lowerEvent l) 0 s good (lower-row l .1) refl (lower-row l .0)))
 

@@ -10,7 +10,8 @@ use Prim.Native.Nat.{ℕ, _≤_}
 use lib.Dec.{leb→le}
 use lib.ListN.{length, replicate}
 use Rattle.fop.specs.Units.{Fdu, SetVR, written}
-use Rattle.fop.specs.Events.{SenderEvent, requestAd, tick, lower, directive, wordArrives, adAccept, bcAccept}
+use Rattle.fop.specs.declared.Lower.the-variants.{AdAccept, BcAccept}
+use Rattle.fop.specs.Events.{SenderEvent, requestAd, tick, lower, directive, wordArrives}
 use Rattle.farm.specs.Receiver.{atStart}
 use Rattle.farm.specs.declared.Receiver.{Receiver}
 use Rattle.session.specs.Receiver.{frameArrives, wordLength, receiverNext, receiverWord}
@@ -40,7 +41,7 @@ store = replicate smallestStore 0
 
 abbrev events : List Event
 events =
-    adRequest (17 ∷ []) 256 ∷ frameLost ∷ lowerSays adAccept 256 ∷ ticks 256 ∷ adRequest (34 ∷ 35 ∷ []) 256 ∷ lowerSays adAccept 256 ∷ frameIn ∷ frameIn
+    adRequest (17 ∷ []) 256 ∷ frameLost ∷ lowerSays AdAccept 256 ∷ ticks 256 ∷ adRequest (34 ∷ 35 ∷ []) 256 ∷ lowerSays AdAccept 256 ∷ frameIn ∷ frameIn
     ∷ wordMade 4 ∷ wordIn 256 ∷ []
 
 abbrev units : List Fdu
@@ -78,7 +79,7 @@ word-twice = 1 ∷ 36 ∷ 4 ∷ 254 ∷ []
 
 abbrev initiating : List (SenderEvent × ℕ)
 initiating =
-    (directive 4 254, 256) ∷ (lower bcAccept, 256) ∷ (tick, 256) ∷ (lower bcAccept, 256) ∷ (wordArrives word-twice, 256) ∷ []
+    (directive 4 254, 256) ∷ (lower BcAccept, 256) ∷ (tick, 256) ∷ (lower BcAccept, 256) ∷ (wordArrives word-twice, 256) ∷ []
 
 pub twice-received : (receiver-twice ≡ startReceiver twice) × (receiverWord wordLength receiver-twice ≡ record { refusal = 0; word = some word-twice })
 unfolding computing

@@ -19,14 +19,14 @@ use Rattle.fop.specs.Variables as machine
 use Rattle.fop.specs.Machine.{fopDo}
 use Rattle.fop_actions.specs.declared.Handed.{Handed}
 use Rattle.fop_actions.specs.declared.Handed.the-variants as handed
-use Rattle.fop_actions.specs.declared.State.{State}
+use Rattle.fop.specs.declared.State.{State}
 use Rattle.fop_actions.specs.declared.SenderState.{SenderState}
 use Rattle.fop_actions.specs.declared.Work.{Work}
 use Rattle.fop_actions.specs.Actions as act
 use Rattle.fop_actions.specs.Parts.{withVariables, withTold}
 use Rattle.fop_actions.specs.Limits.{places}
 use Rattle.fop_actions.specs.Start.{begun, noneTold, senderOf}
-use Rattle.fop_actions.specs.View.{stateOf, unitAt, fopOf, without}
+use Rattle.fop_actions.specs.View.{unitAt, fopOf, without}
 use Rattle.fop_actions.proofs.ViewWaiting.{unit-same, unit-there}
 use Rattle.fop_rows.specs.Rows.{inMain, done, doneAll, doneCell, rowOf}
 use Rattle.fop_events.specs.Events.{eventNumber}
@@ -46,7 +46,7 @@ use Rattle.ends.proofs.Shown.{held-fits, shown}
 -- What rows E19 (out of S1 to S3), E20, E21 and E22 hand down and confirm, by computing in each state.
 module _ (n l : ℕ) (s : SenderState) where
   abbrev inState : FopEvent → State → Work
-  inState e x = doneCell (cell78 (table78 e) (stateOf x)) n l (begun s)
+  inState e x = doneCell (cell78 (table78 e) x) n l (begun s)
 
   -- this is handed down, and no unit confirmed
   abbrev Tells : Handed → Work → Type 0

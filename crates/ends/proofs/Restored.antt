@@ -17,8 +17,8 @@ use Rattle.fop.specs.Units.{Own}
 use Rattle.fop_actions.specs.declared.Queues.{Queues}
 use Rattle.fop_actions.specs.declared.SenderState.{SenderState}
 use Rattle.fop_actions.specs.declared.Settings.{Settings}
-use Rattle.fop_actions.specs.declared.State.{State}
-use Rattle.fop_actions.specs.declared.State.the-variants as state
+use Rattle.fop.specs.declared.State.{State}
+use Rattle.fop.specs.declared.State.the-variants as state
 use Rattle.fop_actions.specs.declared.Variables.{Variables}
 use Rattle.fop_actions.specs.Limits.{places}
 use Rattle.fop_actions.specs.Start.{startOf, begun}

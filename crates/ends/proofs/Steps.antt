@@ -25,7 +25,7 @@ use Rattle.fop_events.specs.Events.{wordNumber, directiveNumber, adNumber, bdNu
 use Rattle.sender.specs.Answers.{Step, stepBy, refusedStep}
 use Rattle.sender.specs.Limits.{smallestStore}
 use Rattle.sender.specs.Events.{handedWriting, unitBefore, unitOffered, added, servedBy, served, offeredBy, bypassedBy, mustBeUnit, requestAdOf, requestBdOf, directiveOf, ticked, tickNumber, tickOf, lowerLayerOf, wordBy, controlWordOf}
-use Rattle.ends.specs.Ours.{Held, stepOf, lowerAnswer}
+use Rattle.ends.specs.Ours.{Held, stepOf}
 
 -- the store that is left where the step is done: as it was, without its oldest units, or with the unit offered
 pub data Left (x : Held) : List ℕ → Type 0 where
@@ -140,6 +140,6 @@ module _ (x : Held) (lent : ℕ) where
   concluded (requestAd o) = as-octets o _ (asks-ad o)
   concluded (requestBd o) = as-octets o _ (asks-bd o)
   concluded tick = serves (tickNumber s) 0 (ticked s)
-  concluded (lower l) = serves (lowerNumber (lowerAnswer l)) 0 s
+  concluded (lower l) = serves (lowerNumber l) 0 s
   concluded (directive d v) = directs d v
   concluded (wordArrives octets) = as-octets octets _ (word-read octets)

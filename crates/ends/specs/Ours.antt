@@ -9,15 +9,12 @@ use lib.ListN.{length, take, replicate}
 use Rattle.base.specs.Choice.{pick}
 use Rattle.fop.specs.Units.{areOctets}
 use Rattle.fop.specs.Events.{SenderEvent, requestAd, requestBd, tick, lower, directive, wordArrives}
-use Rattle.fop.specs.Events as fop
 use Rattle.fop.specs.Variables.{Fop}
 use Rattle.fop.specs.Answers.{Answer}
 use Rattle.fop_actions.specs.declared.Settings.{Settings as SenderSettings}
 use Rattle.fop_actions.specs.Start.{begun}
-use Rattle.fop_actions.specs.View.{stateOf, reasonOf, responsesOf, runTold, fopOf}
+use Rattle.fop_actions.specs.View.{responsesOf, fopOf}
 use Rattle.fop_rows.specs.Rows.{eventOf}
-use Rattle.fop_events.specs.declared.Lower.{Lower}
-use Rattle.fop_events.specs.declared.Lower.the-variants as answer
 use Rattle.fop_view.specs.State.{Good}
 use Rattle.farm.specs.declared.Receiver.{Receiver}
 use Rattle.session.specs.Ends.{Settings, Ends, startSender, startReceiver}
@@ -33,15 +30,6 @@ pub record Held : Type 0 where
   pub sender : Sender
   pub store : List ℕ
 
--- an answer of the lower layer, as the sender takes it
-abbrev pub lowerAnswer : fop.Lower → Lower
-lowerAnswer fop.adAccept = answer.AdAccept
-lowerAnswer fop.adReject = answer.AdReject
-lowerAnswer fop.bcAccept = answer.BcAccept
-lowerAnswer fop.bcReject = answer.BcReject
-lowerAnswer fop.bdAccept = answer.BdAccept
-lowerAnswer fop.bdReject = answer.BdReject
-
 -- units and words are lent as octets; a list with a number above 255 cannot be lent, and counts as one of a wrong length (10), as it does
 -- in crate fop, specs/Units
 abbrev pub ifOctets : List ℕ → Held → List ℕ → Step → Step
@@ -52,7 +40,7 @@ unfoldable pub stepOf : SenderEvent → List ℕ → Held → Step
 stepOf (requestAd o) output x = ifOctets o x output (requestAdOf (x .sender .fop) o (x .store) output)
 stepOf (requestBd o) output x = ifOctets o x output (requestBdOf (x .sender .fop) o (x .store) output)
 stepOf tick output x = tickOf (x .sender .fop) (x .store) output
-stepOf (lower l) output x = lowerLayerOf (lowerAnswer l) (x .sender .fop) (x .store) output
+stepOf (lower l) output x = lowerLayerOf l (x .sender .fop) (x .store) output
 stepOf (directive d v) output x = directiveOf d v (x .sender .fop) (x .store) output
 stepOf (wordArrives s) output x = ifOctets s x output (controlWordOf s (x .sender .fop) (x .store) output)
 
@@ -69,14 +57,14 @@ abbrev pub answerOf : SenderAnswer → List ℕ → Answer
 answerOf a output = record {
   refusal = a .refusal;
   event = eventOf (a .event);
-  state = stateOf (a .state);
+  state = a .state;
   down = handedDown (a .down) output;
   abort = a .abort;
   responses = responsesOf (a .responses);
-  alert = reasonOf (a .alert);
+  alert = a .alert;
   suspended = a .suspended;
-  confirmed = runTold (a .confirmed);
-  denied = runTold (a .denied);
+  confirmed = a .confirmed;
+  denied = a .denied;
 }
 
 -- the answer of a step

@@ -17,13 +17,13 @@ use Rattle.store.specs.Slid.{slid}
 use Rattle.store.proofs.Parts.{slid-length}
 use Rattle.store.proofs.Within.{within-length}
 use Rattle.fop.specs.Limits.{largestK}
-use Rattle.fop_actions.specs.declared.Alert.{Alert}
+use Rattle.fop.specs.declared.Alert.{Alert}
 use Rattle.fop_actions.specs.declared.Control.{Control}
 use Rattle.fop_actions.specs.declared.Control.the-variants as control
 use Rattle.fop_actions.specs.declared.Handed.{Handed}
-use Rattle.fop_actions.specs.declared.Response.{Response}
-use Rattle.fop_actions.specs.declared.Response.the-variants.{AcceptAdUnit, RejectAdUnit}
-use Rattle.fop_actions.specs.declared.State.{State}
+use Rattle.fop.specs.declared.Response.{Response}
+use Rattle.fop.specs.declared.Response.the-variants.{AcceptAdUnit, RejectAdUnit}
+use Rattle.fop.specs.declared.State.{State}
 use Rattle.fop_actions.specs.declared.Work.{Work}
 use Rattle.fop_actions.specs.Parts.{withSettings, withVariables, withQueues, withTold}
 use Rattle.fop_actions.specs.Actions as act

@@ -16,29 +16,25 @@ use borrow.Author.Tests.{lt-ltb}
 use lib.Dec.{ltb}
 use lib.ListN.{length, take, set, length-set}
 use lib.Seq.{take-suc-set}
-use Rattle.fop_actions.specs.declared.Response.{Response}
-use Rattle.fop_actions.specs.declared.Response.the-variants.{RejectAdUnit, AcceptBdUnit, RejectBdUnit, AcceptDirective, RejectDirective, ConfirmDirective}
+use Rattle.fop.specs.declared.Response.{Response}
+use Rattle.fop.specs.declared.Response.the-variants.{RejectAdUnit, AcceptBdUnit, RejectBdUnit, AcceptDirective, RejectDirective, ConfirmDirective}
 use Rattle.fop_actions.specs.declared.Responses.{Responses}
 use Rattle.fop_actions.specs.Limits.{largestResponses}
 use Rattle.fop_actions.specs.Parts.{withTold}
 use Rattle.fop_actions.specs.Actions as act
 use Rattle.fop_actions.specs.Actions.{responseNumber, responsesWith}
-use Rattle.fop_actions.specs.View.{fopOf, framesOf, responseOf, responsesOf, reasonOf, view}
+use Rattle.fop_actions.specs.View.{fopOf, framesOf, responseOf, responsesOf, view}
 
 -- the work with these variables, frames and responses
-abbrev pub seen : Option FopEvent → List ℕ → ℕ → List Fdu → List Fdu → Work → machine.Fop → List Frame → List machine.Response → machine.Work
+abbrev pub seen : Option FopEvent → List ℕ → ℕ → List Fdu → List Fdu → Work → machine.Fop → List Frame → List Response → machine.Work
 seen e o n c d w f frames responses = record {
   fop = f;
-  event = e;
-  octets = o;
-  value = n;
+  asked = record { event = e; octets = o; value = n };
   frames = frames;
   confirmed = c;
   denied = d;
   responses = responses;
-  abort = w .told .abort;
-  alert = reasonOf (w .told .alert);
-  suspended = w .told .suspended;
+  notices = record { abort = w .told .abort; alert = w .told .alert; suspended = w .told .suspended };
 }
 
 -- room for n responses more
@@ -69,7 +65,7 @@ room-more n x r m = move (more x r) (responsesWith x r)
       move u v f p = rw p f
 
 -- a response of the machine, by our name for it
-abbrev pub responseNamed : Response → machine.Response
+abbrev pub responseNamed : Response → Response
 responseNamed r = responseOf (responseNumber r)
 
 module _ (e : Option FopEvent) (o : List ℕ) (n : ℕ) (c d : List Fdu) (w : Work) (store : List ℕ) (room : Room 1 (w .told .responses)) where

@@ -14,14 +14,14 @@ use Rattle.fop.specs.Table.{FopEvent}
 use Rattle.fop.specs.Variables as machine
 use Rattle.fop.specs.Variables.{Entry, BcEntry}
 use Rattle.fop.specs.Machine.{perform, fdus, denyBc, rejectWaiting, purge}
-use Rattle.fop_actions.specs.declared.Alert.{Alert}
+use Rattle.fop.specs.declared.Alert.{Alert}
 use Rattle.fop_actions.specs.declared.Control.{Control}
 use Rattle.fop_actions.specs.declared.Control.the-variants as control
-use Rattle.fop_actions.specs.declared.Response.the-variants.{RejectAdUnit, DenyDirective}
+use Rattle.fop.specs.declared.Response.the-variants.{RejectAdUnit, DenyDirective}
 use Rattle.fop_actions.specs.declared.Work.{Work}
 use Rattle.fop_actions.specs.Parts.{withVariables, withQueues, withTold}
 use Rattle.fop_actions.specs.Actions as act
-use Rattle.fop_actions.specs.View.{unitAt, entriesOf, waitOf, bcOf, fopOf, reasonOf, view}
+use Rattle.fop_actions.specs.View.{unitAt, entriesOf, waitOf, bcOf, fopOf, view}
 use Rattle.fop_actions.proofs.ViewAnswers.{Room, room-more, respond}
 
 -- Purging both queues, with room for two responses.
@@ -83,22 +83,22 @@ module _ (e : Option FopEvent) (o : List ℕ) (n : ℕ) (c d : List Fdu) (w : Wo
 
   -- with a type-BC frame, and without
   purged-control : (y : Bool) → w .queues .waiting ≡ y
-      → rejectWaiting (pick y (some (unitAt (w .queues .lengths) (w .queues .sent) store)) none) (machine.respond machine.denyDirective begun)
+      → rejectWaiting (pick y (some (unitAt (w .queues .lengths) (w .queues .sent) store)) none) (machine.respond DenyDirective begun)
       ≡ Seen (act.purgeWaitQueue (act.respond DenyDirective (act.emptied w)))
   unfolding rejectWaiting
   purged-control true f =
-      ap (machine.respond machine.rejectAdUnit)
-      (ap (machine.respond machine.denyDirective) start ∙ respond e o n c (d ++ fdus Q) bare store room-bare DenyDirective)
+      ap (machine.respond RejectAdUnit)
+      (ap (machine.respond DenyDirective) start ∙ respond e o n c (d ++ fdus Q) bare store room-bare DenyDirective)
       ∙ respond e o n c (d ++ fdus Q) (act.respond DenyDirective bare) store room-denied RejectAdUnit
       ∙ ap Seen (sym (denied-rejected f))
   purged-control false f =
-      ap (machine.respond machine.denyDirective) start ∙ respond e o n c (d ++ fdus Q) bare store room-bare DenyDirective
+      ap (machine.respond DenyDirective) start ∙ respond e o n c (d ++ fdus Q) bare store room-bare DenyDirective
       ∙ sym (same-denied f) ∙ ap Seen (sym (denied-kept f))
 
   purged-none : (y : Bool) → w .queues .waiting ≡ y
       → rejectWaiting (pick y (some (unitAt (w .queues .lengths) (w .queues .sent) store)) none) begun ≡ Seen (act.purgeWaitQueue (act.emptied w))
   unfolding rejectWaiting
-  purged-none true f = ap (machine.respond machine.rejectAdUnit) start ∙ respond e o n c (d ++ fdus Q) bare store room-bare RejectAdUnit ∙ ap Seen (sym (rejected f))
+  purged-none true f = ap (machine.respond RejectAdUnit) start ∙ respond e o n c (d ++ fdus Q) bare store room-bare RejectAdUnit ∙ ap Seen (sym (rejected f))
   purged-none false f = start ∙ sym (same-bare f) ∙ ap Seen (sym (kept f))
 
   purged : (k : Control)
@@ -116,11 +116,11 @@ module _ (e : Option FopEvent) (o : List ℕ) (n : ℕ) (c d : List Fdu) (w : Wo
 
 -- the timer cancelled before or after a purge
 cancelled-first : (a : machine.Work) (x : Option (List ℕ)) (y : Option BcEntry)
-    → (let p : machine.Work = rejectWaiting x (denyBc y (machine.runs (a .confirmed) (a .denied ++ fdus (a .fop .sentQueue))
-    (machine.onFop (machine.setWait none (machine.setBc none (machine.setSequence (a .fop .vs) (a .fop .nnr) [] (a .fop)))) a))) in
+    → (let p : machine.Work = rejectWaiting x (denyBc y (machine.runs (a .confirmed) (a .denied ++ fdus (a .fop .queues .sentQueue))
+    (machine.onFop (machine.setWait none (machine.setBc none (machine.setSequence (a .fop .numbers .vs) (a .fop .numbers .nnr) [] (a .fop)))) a))) in
     machine.onFop (machine.setClock 0 (p .fop .clock .transmissionCount) (p .fop)) p)
-    ≡ rejectWaiting x (denyBc y (machine.runs (a .confirmed) (a .denied ++ fdus (a .fop .sentQueue))
-    (machine.onFop (machine.setWait none (machine.setBc none (machine.setSequence (a .fop .vs) (a .fop .nnr) [] (machine.setClock 0 (a .fop .clock .transmissionCount) (a .fop))))) a)))
+    ≡ rejectWaiting x (denyBc y (machine.runs (a .confirmed) (a .denied ++ fdus (a .fop .queues .sentQueue))
+    (machine.onFop (machine.setWait none (machine.setBc none (machine.setSequence (a .fop .numbers .vs) (a .fop .numbers .nnr) [] (machine.setClock 0 (a .fop .clock .transmissionCount) (a .fop))))) a)))
 unfolding rejectWaiting denyBc
 cancelled-first a none none = refl
 cancelled-first a none (some b) = refl
@@ -135,14 +135,11 @@ module _ (e : Option FopEvent) (o : List ℕ) (n : ℕ) (c d : List Fdu) (w : Wo
       ≡ view e o n c deniedUnits (act.purgeWaitQueue (act.purgeSentQueue (act.cancelTimer w))) store
   unfolding purge act.cancelTimer withVariables
   purge-cancelled =
-      cancelled-first (view e o n c d w store) (fopOf w store .waitQueue) (fopOf w store .bcFrame) ∙ purge-both e o n c d (act.cancelTimer w) store room
+      cancelled-first (view e o n c d w store) (fopOf w store .queues .waitQueue) (fopOf w store .queues .bcFrame) ∙ purge-both e o n c d (act.cancelTimer w) store room
 
-  pub alert : (a : Alert) (r : table.Reason) → reasonOf a ≡ some r → perform (table.Alert r) (view e o n c d w store) ≡ view e o n c deniedUnits (act.alert a w) store
+  pub alert : (a : Alert) → perform (table.Alert a) (view e o n c d w store) ≡ view e o n c deniedUnits (act.alert a w) store
   unfolding perform act.alert act.notify withTold
-  alert a r q =
-      let v = act.purgeWaitQueue (act.purgeSentQueue (act.cancelTimer w)) in
-      ap (λ (x : machine.Work). machine.tell (x .abort) (some r) (x .suspended) x) purge-cancelled
-      ∙ ap (λ (x : Option table.Reason). machine.tell (v .told .abort) x (v .told .suspended) (view e o n c deniedUnits v store)) (sym q)
+  alert a = ap (λ (x : machine.Work). machine.tell (x .notices .abort) a (x .notices .suspended) x) purge-cancelled
 
   pub initialise : perform table.Initialise (view e o n c d w store) ≡ view e o n c deniedUnits (act.initialise w) store
   unfolding perform act.initialise act.countOne act.setSuspendState withVariables

@@ -13,15 +13,15 @@ use Rattle.base.proofs.Tests.{no}
 use Rattle.fop.specs.Answers.{runOf}
 use Rattle.fop.specs.Variables.{Entry}
 use Rattle.fop.specs.Machine.{fdus}
-use Rattle.fop_actions.specs.declared.Alert.{Alert}
+use Rattle.fop.specs.declared.Alert.{Alert}
 use Rattle.fop_actions.specs.declared.Control.{Control}
 use Rattle.fop_actions.specs.declared.Control.the-variants as control
-use Rattle.fop_actions.specs.declared.Response.the-variants.{RejectAdUnit}
+use Rattle.fop.specs.declared.Response.the-variants.{RejectAdUnit}
 use Rattle.fop_actions.specs.declared.Work.{Work}
 use Rattle.fop_actions.specs.Parts.{withVariables, withQueues, withTold}
 use Rattle.fop_actions.specs.Actions as act
 use Rattle.fop_actions.specs.Actions.{runFrom, staying}
-use Rattle.fop_actions.specs.View.{entryAt, entriesFrom, entriesOf, runTold, WellFormed}
+use Rattle.fop_actions.specs.View.{entryAt, entriesFrom, entriesOf, WellFormed}
 use Rattle.fop_actions.proofs.ViewRemoval.{gone-is}
 
 taken-length : (lengths store : List ℕ) (f p i n g : ℕ) → g ≤ n → length (fdus (take g (entriesFrom lengths store f p i n))) ≡ g
@@ -38,7 +38,7 @@ first-number vs sent = omega arith
 
 -- the g oldest units of the queue, and all of them
 run-taken : (lengths store : List ℕ) (vs sent marked g : ℕ) → g ≤ sent
-    → runOf (fdus (take g (entriesOf lengths store vs sent marked))) ≡ runTold (runFrom (offset vs sent) g)
+    → runOf (fdus (take g (entriesOf lengths store vs sent marked))) ≡ (runFrom (offset vs sent) g)
 run-taken lengths store vs sent marked zero h = refl
 run-taken lengths store vs zero marked (suc g) h = absurd (omega arith)
 run-taken lengths store vs (suc n) marked (suc g) h =
@@ -46,19 +46,19 @@ run-taken lengths store vs (suc n) marked (suc g) h =
     ∙ ap (λ (x : ℕ). record { number = x; count = suc g }) (first-number vs (suc n))
     ∙ ap (λ (x : ℕ). record { number = x; count = suc g }) (sym (no (eqb (suc g) 0) 0 (offset vs (suc n)) (ne-eqb (suc g) 0 (λ q. omega arith))))
 
-run-all : (lengths store : List ℕ) (vs sent marked : ℕ) → runOf (fdus (entriesOf lengths store vs sent marked)) ≡ runTold (runFrom (offset vs sent) sent)
+run-all : (lengths store : List ℕ) (vs sent marked : ℕ) → runOf (fdus (entriesOf lengths store vs sent marked)) ≡ (runFrom (offset vs sent) sent)
 run-all lengths store vs sent marked =
     ap (λ (xs : List Entry). runOf (fdus xs)) (sym (all-taken lengths store (offset vs sent) (sent - marked) 0 sent)) ∙ run-taken lengths store vs sent marked sent (omega arith)
 
 -- the run confirmed by Remove acknowledged frames
 pub confirmed-run : (w : Work) (store : List ℕ) (n : ℕ) → WellFormed w store
     → runOf (fdus (take (w .queues .sent - staying n w) (entriesOf (w .queues .lengths) store (w .variables .vs) (w .queues .sent) (w .queues .marked))))
-    ≡ runTold (act.removeAcknowledgedFrames n w .told .confirmed)
+    ≡ (act.removeAcknowledgedFrames n w .told .confirmed)
 unfolding act.removeAcknowledgedFrames withTold
 confirmed-run w store n well =
     let q = w .queues in
     run-taken (q .lengths) store (w .variables .vs) (q .sent) (q .marked) (q .sent - staying n w) (omega arith)
-    ∙ ap (λ (g : ℕ). runTold (runFrom (offset (w .variables .vs) (q .sent)) g)) (sym (gone-is w store n well))
+    ∙ ap (λ (g : ℕ). (runFrom (offset (w .variables .vs) (q .sent)) g)) (sym (gone-is w store n well))
 
 -- the runs after both queues are purged
 module _ (w : Work) where
@@ -86,7 +86,7 @@ module _ (w : Work) where
 
 -- the run denied by Alert, and the run confirmed, which Alert keeps
 pub denied-run : (w : Work) (store : List ℕ) (a : Alert)
-    → runOf (fdus (entriesOf (w .queues .lengths) store (w .variables .vs) (w .queues .sent) (w .queues .marked))) ≡ runTold (act.alert a w .told .denied)
+    → runOf (fdus (entriesOf (w .queues .lengths) store (w .variables .vs) (w .queues .sent) (w .queues .marked))) ≡ (act.alert a w .told .denied)
 unfolding act.alert act.notify act.cancelTimer withVariables withTold
 denied-run w store a =
-    run-all (w .queues .lengths) store (w .variables .vs) (w .queues .sent) (w .queues .marked) ∙ ap runTold (sym (both-purged (act.cancelTimer w) .denied))
+    run-all (w .queues .lengths) store (w .variables .vs) (w .queues .sent) (w .queues .marked) ∙ (sym (both-purged (act.cancelTimer w) .denied))

@@ -22,11 +22,12 @@ use Rattle.fop_actions.specs.declared.Control.{Control}
 use Rattle.fop_actions.specs.declared.Control.the-variants as control
 use Rattle.fop_actions.specs.declared.Handed.{Handed}
 use Rattle.fop_actions.specs.declared.Handed.the-variants as handed
-use Rattle.fop_actions.specs.declared.Response.the-variants.{AcceptAdUnit}
+use Rattle.fop.specs.declared.Response.{Response}
+use Rattle.fop.specs.declared.Response.the-variants.{AcceptAdUnit}
 use Rattle.fop_actions.specs.declared.Work.{Work}
 use Rattle.fop_actions.specs.Parts.{withVariables, withQueues, withTold}
 use Rattle.fop_actions.specs.Actions as act
-use Rattle.fop_actions.specs.View.{unitAt, entryAt, entriesFrom, entriesOf, waitOf, bcOf, fopOf, framesOf, responsesOf, reasonOf, view, WellFormed}
+use Rattle.fop_actions.specs.View.{unitAt, entryAt, entriesFrom, entriesOf, waitOf, bcOf, fopOf, framesOf, responsesOf, view, WellFormed}
 use Rattle.fop_actions.proofs.Offsets.{offset-ge, offset-add, offset-up, back-and-on}
 use Rattle.fop_actions.proofs.SentQueue.{mark-all, unmarked, unmark-first, first-marked, none-marked, one-more}
 use Rattle.fop_actions.proofs.ViewAnswers.{seen, Room, more-responses}
@@ -40,7 +41,7 @@ module _ (e : Option FopEvent) (o : List ℕ) (n : ℕ) (c d : List Fdu) (w : Wo
       let v = w .variables in
       let q = w .queues in
       let F : ℕ → List Entry → machine.Work = λ x xs.
-      machine.tell true (reasonOf (w .told .alert)) (w .told .suspended)
+      machine.tell true (w .told .alert) (w .told .suspended)
       (machine.onFop (machine.setClock (w .settings .«t1_initial») x (machine.setSequence (v .vs) (v .nnr) xs (fopOf w store))) (view e o n c d w store)) in
       let a : advanced (v .«transmission_count») 1 ≡ v .«transmission_count» + 1 = omega arith in
       let z : q .sent - q .sent ≡ 0 = omega arith in
@@ -61,7 +62,7 @@ module _ (e : Option FopEvent) (o : List ℕ) (n : ℕ) (c d : List Fdu) (w : Wo
       let v = w .variables in
       let q = w .queues in
       let F : ℕ → Option BcEntry → machine.Work = λ x b.
-      machine.tell true (reasonOf (w .told .alert)) (w .told .suspended)
+      machine.tell true (w .told .alert) (w .told .suspended)
       (machine.onFop (machine.setClock (w .settings .«t1_initial») x (machine.setBc b (fopOf w store))) (view e o n c d w store)) in
       let a : advanced (v .«transmission_count») 1 ≡ v .«transmission_count» + 1 = omega arith in
       ap (λ (x : ℕ). F x (markBc (bcOf (q .control) (q .«control_marked»)))) (sym a)
@@ -182,17 +183,17 @@ module _ (e : Option FopEvent) (o : List ℕ) (n : ℕ) (c d : List Fdu) (w : Wo
         let u = unitAt (q .lengths) (q .sent) store in
         let Q = entriesOf (q .lengths) store (v .vs) (q .sent) (q .marked) in
         let new : Entry = record { fdu = record { ns = v .vs; octets = u }; marked = false } in
-        let F : List Frame → List machine.Response → ℕ → List Entry → machine.Work = λ fr rs x xs.
+        let F : List Frame → List Response → ℕ → List Entry → machine.Work = λ fr rs x xs.
         seen e o n c d w (machine.setOut false (v .«bc_out») (v .«bd_out»)
         (machine.setClock (w .settings .«t1_initial») x (machine.setSequence (advanced (v .vs) 1) (v .nnr) xs (machine.setWait none (fopOf w store)))))
         (fr ++ (AD (record { ns = v .vs; octets = u }) ∷ [])) rs in
-        let rs = responsesOf (w .told .responses) ++ (machine.acceptAdUnit ∷ []) in
+        let rs = responsesOf (w .told .responses) ++ (AcceptAdUnit ∷ []) in
         let k = act.countFor (q .sent) (v .«transmission_count») in
         let more = entriesOf (q .lengths) store (advanced (v .vs) 1) (advanced (q .sent) 1) (q .marked) in
         ap (λ (fr : List Frame). F fr rs (countFor Q (v .«transmission_count»)) (Q ++ (new ∷ []))) no-frames
         ∙ ap (λ (x : ℕ). F [] rs x (Q ++ (new ∷ []))) (count-same (q .lengths) store (offset (v .vs) (q .sent)) (q .sent - q .marked) (q .sent) (v .«transmission_count»))
         ∙ ap (F [] rs k) (sym (sent-more (q .lengths) store (v .vs) (q .sent) (q .marked) z (well .sent-most) (well .vs-octet)))
-        ∙ ap (λ (r : List machine.Response). F [] r k more) (sym (more-responses 1 (w .told .responses) room))
+        ∙ ap (λ (r : List Response). F [] r k more) (sym (more-responses 1 (w .told .responses) room))
 
     none-marked-next : w .queues .marked ≡ 0
         → sendNext (firstMarked (entriesOf (w .queues .lengths) store (w .variables .vs) (w .queues .sent) (w .queues .marked))) (view e o n c d w store)

@@ -11,10 +11,10 @@ use Rattle.fop.specs.Variables as machine
 use Rattle.fop.specs.Machine.{perform}
 use Rattle.fop_actions.specs.declared.Work.{Work}
 use Rattle.base.specs.Modulo.{offset}
-use Rattle.fop_actions.specs.declared.State.{State}
+use Rattle.fop.specs.declared.State.{State}
 use Rattle.fop_actions.specs.Parts.{withSettings, withVariables, withTold, withQueues}
 use Rattle.fop_actions.specs.Actions as act
-use Rattle.fop_actions.specs.View.{stateOf, entriesFrom, entriesOf, fopOf, view}
+use Rattle.fop_actions.specs.View.{entriesFrom, entriesOf, fopOf, view}
 
 module _ (e : Option FopEvent) (o : List ℕ) (n : ℕ) (c d : List Fdu) (w : Work) (store : List ℕ) where
   pub ignore : perform table.Ignore (view e o n c d w store) ≡ view e o n c d w store
@@ -78,7 +78,7 @@ module _ (e : Option FopEvent) (o : List ℕ) (n : ℕ) (c d : List Fdu) (w : Wo
   set-suspend-state s = refl
 
   -- the next state of a cell
-  pub to-state : (s : State) → machine.onFop (machine.setState (stateOf s) (fopOf w store)) (view e o n c d w store) ≡ view e o n c d (act.toState s w) store
+  pub to-state : (s : State) → machine.onFop (machine.setState s (fopOf w store)) (view e o n c d w store) ≡ view e o n c d (act.toState s w) store
   unfolding act.toState
   to-state s = refl
 

@@ -8,7 +8,7 @@ use Rattle.fop_actions.specs.declared.Work.{Work}
 use Rattle.fop_actions.specs.declared.Handed.{Handed}
 use Rattle.fop_actions.specs.declared.Control.{Control}
 use Rattle.fop_actions.specs.declared.Control.the-variants.{None}
-use Rattle.fop_actions.specs.declared.Response.the-variants.{AcceptAdUnit, RejectAdUnit}
+use Rattle.fop.specs.declared.Response.the-variants.{AcceptAdUnit, RejectAdUnit}
 use Rattle.fop_actions.specs.Actions.{respond, sendMarked, inWindow, transmitAdFrame, lookForFdu, sendControl, sendMarkedControl, lookForDirectiveOf, lookForDirective, denyControl, notWaiting, purgeWaitQueue}
 
 module _ (w : Work) where

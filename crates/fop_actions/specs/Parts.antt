@@ -7,9 +7,9 @@ use Rattle.fop_actions.specs.declared.Variables.{Variables}
 use Rattle.fop_actions.specs.declared.Control.{Control}
 use Rattle.fop_actions.specs.declared.Queues.{Queues}
 use Rattle.fop_actions.specs.declared.Handed.{Handed}
-use Rattle.fop_actions.specs.declared.Alert.{Alert}
+use Rattle.fop.specs.declared.Alert.{Alert}
 use Rattle.fop_actions.specs.declared.Responses.{Responses}
-use Rattle.fop_actions.specs.declared.Run.{Run}
+use Rattle.fop.specs.declared.Run.{Run}
 use Rattle.fop_actions.specs.declared.Told.{Told}
 use Rattle.fop_actions.specs.declared.Work.{Work}
 

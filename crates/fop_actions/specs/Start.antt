@@ -2,11 +2,11 @@
 use Prim.Native.Nat.{ℕ}
 use mathlib.Core.Bool.{true, false}
 use lib.ListN.{replicate}
-use Rattle.fop_actions.specs.declared.State.the-variants.{S6}
+use Rattle.fop.specs.declared.State.the-variants.{S6}
 use Rattle.fop_actions.specs.declared.Settings.{Settings}
 use Rattle.fop_actions.specs.declared.Control.the-variants as control
 use Rattle.fop_actions.specs.declared.Handed.the-variants as handed
-use Rattle.fop_actions.specs.declared.Alert.the-variants as alert
+use Rattle.fop.specs.declared.Alert.the-variants as alert
 use Rattle.fop_actions.specs.declared.SenderState.{SenderState}
 use Rattle.fop_actions.specs.declared.Told.{Told}
 use Rattle.fop_actions.specs.declared.Work.{Work}

@@ -13,30 +13,17 @@ use Rattle.store.specs.Slid.{slidWithin}
 use Rattle.fop.specs.Limits.{largestK}
 use Rattle.fop_actions.specs.Limits.{places}
 use Rattle.fop.specs.Units.{Fdu, Frame, AD, BD, Unlock, SetVR}
-use Rattle.fop.specs.Answers as answers
 use Rattle.fop.specs.Table as table
 use Rattle.fop.specs.Variables as machine
-use Rattle.fop.specs.Variables.{Entry, BcEntry, Fop, acceptAdUnit, rejectAdUnit, acceptBdUnit, rejectBdUnit, acceptDirective, rejectDirective, confirmDirective, denyDirective}
-use Rattle.fop_actions.specs.declared.State.{State}
-use Rattle.fop_actions.specs.declared.State.the-variants as state
+use Rattle.fop.specs.declared.Response.{Response}
+use Rattle.fop.specs.declared.Response.the-variants.{AcceptAdUnit, RejectAdUnit, AcceptBdUnit, RejectBdUnit, AcceptDirective, RejectDirective, ConfirmDirective, DenyDirective}
+use Rattle.fop.specs.Variables.{Entry, BcEntry, Fop}
 use Rattle.fop_actions.specs.declared.Control.{Control}
 use Rattle.fop_actions.specs.declared.Control.the-variants as control
 use Rattle.fop_actions.specs.declared.Handed.{Handed}
 use Rattle.fop_actions.specs.declared.Handed.the-variants as handed
-use Rattle.fop_actions.specs.declared.Alert.{Alert}
-use Rattle.fop_actions.specs.declared.Alert.the-variants as alert
 use Rattle.fop_actions.specs.declared.Responses.{Responses}
-use Rattle.fop_actions.specs.declared.Run.{Run}
 use Rattle.fop_actions.specs.declared.Work.{Work}
-
--- the state, as the table names it
-abbrev pub stateOf : State → table.State
-stateOf state.S1 = table.S1
-stateOf state.S2 = table.S2
-stateOf state.S3 = table.S3
-stateOf state.S4 = table.S4
-stateOf state.S5 = table.S5
-stateOf state.S6 = table.S6
 
 -- the unit at a place of the store
 abbrev pub unitAt : List ℕ → ℕ → List ℕ → List ℕ
@@ -72,10 +59,9 @@ bcOf (control.SetVr n) marked = some (record { frame = SetVR n; marked = marked 
 -- FOP-1's variables (clause 7.2.2)
 abbrev pub fopOf : Work → List ℕ → Fop
 fopOf w store = record {
-  state = stateOf (w .state);
-  vs = w .variables .vs;
-  nnr = w .variables .nnr;
+  state = w .state;
   suspendState = w .variables .«suspend_state»;
+  numbers = record { vs = w .variables .vs; nnr = w .variables .nnr };
   preset = record {
     k = w .settings .k;
     transmissionLimit = w .settings .«transmission_limit»;
@@ -84,9 +70,11 @@ fopOf w store = record {
   };
   clock = record { timer = w .variables .timer; transmissionCount = w .variables .«transmission_count» };
   out = record { ad = w .variables .«ad_out»; bc = w .variables .«bc_out»; bd = w .variables .«bd_out» };
-  sentQueue = entriesOf (w .queues .lengths) store (w .variables .vs) (w .queues .sent) (w .queues .marked);
-  waitQueue = waitOf (w .queues .lengths) store (w .queues .sent) (w .queues .waiting);
-  bcFrame = bcOf (w .queues .control) (w .queues .«control_marked»);
+  queues = record {
+    sentQueue = entriesOf (w .queues .lengths) store (w .variables .vs) (w .queues .sent) (w .queues .marked);
+    waitQueue = waitOf (w .queues .lengths) store (w .queues .sent) (w .queues .waiting);
+    bcFrame = bcOf (w .queues .control) (w .queues .«control_marked»);
+  };
 }
 
 -- the frame handed down; o is the unit of a BD request
@@ -98,48 +86,28 @@ framesOf handed.Unlock lengths store o = Unlock ∷ []
 framesOf (handed.SetVr n) lengths store o = SetVR n ∷ []
 
 -- a response by its number (specs/Actions, responseNumber)
-abbrev pub responseOf : ℕ → machine.Response
+abbrev pub responseOf : ℕ → Response
 responseOf n =
-    pick (eqb n 1) acceptAdUnit
-    (pick (eqb n 2) rejectAdUnit
-    (pick (eqb n 3) acceptBdUnit
-    (pick (eqb n 4) rejectBdUnit
-    (pick (eqb n 5) acceptDirective (pick (eqb n 6) rejectDirective (pick (eqb n 7) confirmDirective denyDirective))))))
+    pick (eqb n 1) AcceptAdUnit
+    (pick (eqb n 2) RejectAdUnit
+    (pick (eqb n 3) AcceptBdUnit
+    (pick (eqb n 4) RejectBdUnit
+    (pick (eqb n 5) AcceptDirective (pick (eqb n 6) RejectDirective (pick (eqb n 7) ConfirmDirective DenyDirective))))))
 
 -- the responses in their order
-abbrev pub responsesOf : Responses → List machine.Response
+abbrev pub responsesOf : Responses → List Response
 responsesOf r = map responseOf (take (r .count) (r .numbers))
-
--- table 7-4: the reason of an Alert notification, if there is one
-abbrev pub reasonOf : Alert → Option table.Reason
-reasonOf alert.None = none
-reasonOf alert.Synch = some table.synch
-reasonOf alert.Clcw = some table.clcw
-reasonOf alert.Limit = some table.limit
-reasonOf alert.Nnr = some table.nnr
-reasonOf alert.Lockout = some table.lockout
-reasonOf alert.T1 = some table.t1
-reasonOf alert.Term = some table.term
-reasonOf alert.Llif = some table.llif
-
--- a run of units
-abbrev pub runTold : Run → answers.Run
-runTold r = record { number = r .number; count = r .count }
 
 -- the work on the event e with the unit o and the value n; c is confirmed and d denied so far, of which the work holds the runs
 abbrev pub view : Option table.FopEvent → List ℕ → ℕ → List Fdu → List Fdu → Work → List ℕ → machine.Work
 view e o n c d w store = record {
   fop = fopOf w store;
-  event = e;
-  octets = o;
-  value = n;
+  asked = record { event = e; octets = o; value = n };
   frames = framesOf (w .told .handed) (w .queues .lengths) store o;
   confirmed = c;
   denied = d;
   responses = responsesOf (w .told .responses);
-  abort = w .told .abort;
-  alert = reasonOf (w .told .alert);
-  suspended = w .told .suspended;
+  notices = record { abort = w .told .abort; alert = w .told .alert; suspended = w .told .suspended };
 }
 
 -- What the laws need of V(S), NN(R), the counts, the lengths and the store: the numbers are octets; the AD units are the last `sent` numbers

@@ -1,11 +1,11 @@
 // What an event tells: responses, the frame handed down, abort, Alert and Suspend notifications.
-use crate::Alert;
 use crate::Handed;
 use crate::LARGEST_RESPONSES;
-use crate::Response;
 use crate::Responses;
 use crate::Told;
 use crate::Work;
+use fop::Alert;
+use fop::Response;
 ghost use mathlib.Core.Path.{_≡_};
 ghost use Rattle.fop_actions.specs.Actions.{responseNumber, responsesWith, respond, handDown, abort, notify, suspend};
 

@@ -7,6 +7,10 @@ pub mod transmit;
 pub mod units;
 pub mod values;
 
+use fop::Alert;
+use fop::Run;
+use fop::State;
+
 // Document 01, "Limits": the largest sender window K.
 pub const LARGEST_K: u8 = 32;
 
@@ -15,16 +19,6 @@ pub const PLACES: usize = LARGEST_K as usize + 1;
 
 // The responses that one event can give at the most.
 pub const LARGEST_RESPONSES: usize = 4;
-
-// Active, Retransmit without wait, Retransmit with wait, Initialising without BC frame, Initialising with BC frame, Initial.
-pub enum State {
-    S1,
-    S2,
-    S3,
-    S4,
-    S5,
-    S6,
-}
 
 // K (FOP_Sliding_Window_Width), T1_Initial, Transmission_Limit, Timeout_Type, and the address of the frames.
 pub struct Settings {
@@ -77,41 +71,10 @@ pub enum Handed {
     SetVr(u8),
 }
 
-// Table 7-4: the reason of an Alert notification.
-pub enum Alert {
-    None,
-    Synch,
-    Clcw,
-    Limit,
-    Nnr,
-    Lockout,
-    T1,
-    Term,
-    Llif,
-}
-
-// A response to a request or to a directive.
-pub enum Response {
-    AcceptAdUnit,
-    RejectAdUnit,
-    AcceptBdUnit,
-    RejectBdUnit,
-    AcceptDirective,
-    RejectDirective,
-    ConfirmDirective,
-    DenyDirective,
-}
-
 // The responses in their order, each by its number.
 pub struct Responses {
     pub count: u8,
     pub numbers: [u8; LARGEST_RESPONSES],
-}
-
-// A run of units, by first number and count; 0 and 0 where empty.
-pub struct Run {
-    pub number: u8,
-    pub count: u8,
 }
 
 // The state of the sender, beside its store.

@@ -1,8 +1,5 @@
 // Clauses 7.9.2.4, 7.9.2.5, 7.9.2.13, 7.9.2.14 and 7.9.2.17: frames and units leave the queues.
-use crate::Alert;
 use crate::Control;
-use crate::Response;
-use crate::Run;
 use crate::Work;
 use crate::answers::notify;
 use crate::answers::respond;
@@ -12,6 +9,9 @@ use crate::values::cancel_timer;
 use crate::values::count_one;
 use crate::values::difference;
 use crate::values::set_suspend_state;
+use fop::Alert;
+use fop::Response;
+use fop::Run;
 ghost use mathlib.Core.Path.{_≡_};
 ghost use Rattle.fop_actions.specs.Actions.{least, runFrom, staying, removed, removeAcknowledgedFrames, emptied, denyControl, purgeSentQueue, notWaiting, purgeWaitQueue, alert, initialise};
 

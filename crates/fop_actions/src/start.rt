@@ -1,18 +1,18 @@
 // A sender at its start, and the work on an event at its start and at its end.
-use crate::Alert;
 use crate::Control;
 use crate::Handed;
 use crate::LARGEST_RESPONSES;
 use crate::PLACES;
 use crate::Queues;
 use crate::Responses;
-use crate::Run;
 use crate::SenderState;
 use crate::Settings;
-use crate::State;
 use crate::Told;
 use crate::Variables;
 use crate::Work;
+use fop::Alert;
+use fop::Run;
+use fop::State;
 ghost use mathlib.Core.Path.{_≡_};
 ghost use Rattle.fop_actions.specs.Start.{startOf, noneTold, begun, senderOf};
 

@@ -1,7 +1,6 @@
 // Clauses 7.9.2.6 to 7.9.2.12, 7.9.2.15 and 7.9.2.16: transmission and retransmission.
 use crate::Control;
 use crate::Handed;
-use crate::Response;
 use crate::Work;
 use crate::answers::abort;
 use crate::answers::hand_down;
@@ -9,6 +8,7 @@ use crate::answers::respond;
 use crate::entries::hold_control;
 use crate::values::difference;
 use crate::values::start_timer;
+use fop::Response;
 ghost use mathlib.Core.Path.{_≡_};
 ghost use Rattle.fop_actions.specs.Actions.{countFor, transmitAdFrame, sendMarked, inWindow, lookForFdu, transmitBcFrame, transmitUnlock, transmitSetVr, transmitBdFrame, sendControl, sendMarkedControl, lookForDirective, again, initiateAdRetransmission, initiateBcRetransmission};
 

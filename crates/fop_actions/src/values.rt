@@ -1,6 +1,6 @@
 // The timer, the out flags, the settings, V(S), NN(R), Suspend_State and the state.
-use crate::State;
 use crate::Work;
+use fop::State;
 ghost use mathlib.Core.Path.{_≡_};
 ghost use Rattle.base.specs.Modulo.{offset};
 ghost use Rattle.fop_actions.specs.Actions.{toState, startTimer, cancelTimer, adOutReady, bcOutReady, bdOutReady, setK, setT1Initial, setTransmissionLimit, setTimeoutType, setVs, setNnr, setSuspendState, resumed, countOne};

@@ -13,12 +13,11 @@ use lib.ListN.{getD, set, take, List·getD-map}
 use lib.Seq.{getD-set-other}
 use Rattle.base.specs.Choice.{pick}
 use Rattle.fop.specs.Table.{Action, Ignore, Cell, cell, ifNotSuspended, NotApplicable, table78, cell78, FopEvent}
-use Rattle.fop_actions.specs.declared.State.{State}
-use Rattle.fop_actions.specs.declared.State.the-variants.{S1, S2, S3, S4, S5, S6}
+use Rattle.fop.specs.declared.State.{State}
+use Rattle.fop.specs.declared.State.the-variants.{S1, S2, S3, S4, S5, S6}
 use Rattle.fop_actions.specs.declared.Work.{Work}
 use Rattle.fop_actions.specs.Actions.{toState}
-use Rattle.fop_actions.specs.View.{stateOf}
-use Rattle.fop_rows.specs.Rows.{declared, done, doneAll, doneCell, rowOf, placeOf, events, eventOf, rowIf, rowNumbered}
+use Rattle.fop_rows.specs.Rows.{done, doneAll, doneCell, rowOf, placeOf, events, eventOf, rowIf, rowNumbered}
 use Rattle.fop_rows.specs.Numbers.{actionOf, doneNumbers, stateNumbered, doneNumbered, columnOf, unlessSuspended, Says, Tells}
 use Rattle.fop_rows.proofs.Once.{readLists, lists-read}
 use Rattle.fop_rows.proofs.Places.{by-place, all-below, is-below}
@@ -37,13 +36,13 @@ filled (suc k) (a ∷ more) = a ∷ filled k more
 -- by a cell of the table; free is SS = 0
 abbrev pub byTable : Bool → Cell → State → Asked
 byTable free NotApplicable s = record { acts = filled 5 []; next = s }
-byTable free (cell acts t) s = record { acts = filled 5 acts; next = declared t }
-byTable free (ifNotSuspended acts others t) s = record { acts = filled 5 (pick free acts others); next = declared t }
+byTable free (cell acts t) s = record { acts = filled 5 acts; next = t }
+byTable free (ifNotSuspended acts others t) s = record { acts = filled 5 (pick free acts others); next = t }
 
 -- by the row of an event
 abbrev pub byEvent : Bool → Option FopEvent → State → Asked
 byEvent free none s = byTable free NotApplicable s
-byEvent free (some e) s = byTable free (cell78 (table78 e) (stateOf s)) s
+byEvent free (some e) s = byTable free (cell78 (table78 e) s) s
 
 -- by a cell's numbers
 abbrev pub byNumbers : List ℕ → State → Asked
@@ -108,9 +107,9 @@ module _ (n l : ℕ) where
   cell-done : (c : Cell) (s : State) (w : Work) → w .state ≡ s → askedDone (byTable (eqb (w .variables .«suspend_state») 0) c s) w ≡ doneCell c n l w
   unfolding doneCell doneAll
   cell-done NotApplicable s w e = ap (toState s) (filled-done 5 [] w) ∙ kept s w e
-  cell-done (cell acts t) s w e = ap (toState (declared t)) (filled-done 5 acts w)
+  cell-done (cell acts t) s w e = ap (toState t) (filled-done 5 acts w)
   cell-done (ifNotSuspended acts others t) s w e =
-      ap (toState (declared t)) (filled-done 5 (pick (eqb (w .variables .«suspend_state») 0) acts others) w ∙ both-ways (eqb (w .variables .«suspend_state») 0))
+      ap (toState t) (filled-done 5 (pick (eqb (w .variables .«suspend_state») 0) acts others) w ∙ both-ways (eqb (w .variables .«suspend_state») 0))
     where
       both-ways : (b : Bool) → doneAll (pick b acts others) n l w ≡ pick b (doneAll acts n l w) (doneAll others n l w)
       both-ways true = refl
@@ -119,7 +118,7 @@ module _ (n l : ℕ) where
   row-done : (e : Option FopEvent) (s : State) (w : Work) → w .state ≡ s → askedDone (byEvent (eqb (w .variables .«suspend_state») 0) e s) w ≡ rowIf e n l w
   unfolding rowIf rowOf doneCell
   row-done none s w e = cell-done NotApplicable s w e
-  row-done (some x) s w e = cell-done (cell78 (table78 x) (stateOf s)) s w e ∙ ap (λ (t : State). doneCell (cell78 (table78 x) (stateOf t)) n l w) (sym e)
+  row-done (some x) s w e = cell-done (cell78 (table78 x) s) s w e ∙ ap (λ (t : State). doneCell (cell78 (table78 x) t) n l w) (sym e)
 
 -- while suspended, a row that stands for its own event is not E35's
 own-row : (k suspendState : ℕ) → eqb suspendState 0 ≡ false → unlessSuspended k suspendState ≡ k → placeOf k ≡ 35 → ⊥

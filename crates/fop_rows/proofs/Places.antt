@@ -9,8 +9,8 @@ use lib.Dec.{ltb}
 use lib.ListN.{getD}
 use Rattle.base.specs.Choice.{both, pick}
 use Rattle.base.proofs.Tests.{both-left, both-right}
-use Rattle.fop_actions.specs.declared.State.{State}
-use Rattle.fop_actions.specs.declared.State.the-variants.{S1, S2, S3, S4, S5, S6}
+use Rattle.fop.specs.declared.State.{State}
+use Rattle.fop.specs.declared.State.the-variants.{S1, S2, S3, S4, S5, S6}
 use Rattle.fop_rows.specs.Rows.{placeOf}
 use Rattle.fop_rows.specs.Numbers.{columnOf}
 

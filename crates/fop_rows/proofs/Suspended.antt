@@ -7,11 +7,10 @@ use borrow.Author.Tests.{eqb-true}
 use lib.Dec.{eqb}
 use lib.ListN.{getD, take}
 use Rattle.fop.specs.Table.{table78, cell78, E35, E40}
-use Rattle.fop_actions.specs.declared.State.{State}
-use Rattle.fop_actions.specs.declared.State.the-variants.{S1, S2, S3, S4, S5, S6}
+use Rattle.fop.specs.declared.State.{State}
+use Rattle.fop.specs.declared.State.the-variants.{S1, S2, S3, S4, S5, S6}
 use Rattle.fop_actions.specs.declared.Work.{Work}
 use Rattle.fop_actions.specs.Actions.{toState}
-use Rattle.fop_actions.specs.View.{stateOf}
 use Rattle.fop_rows.specs.Rows.{doneCell, rowOf, eventOf, rowIf, rowNumbered}
 use Rattle.fop_rows.specs.Numbers.{doneNumbers, stateNumbered, doneNumbered, unlessSuspended, Says}
 use Rattle.fop_rows.proofs.Places.{chosen}
@@ -27,7 +26,7 @@ module _ (n l : ℕ) (w : Work) where
       (λ a. chosen (λ (x : ℕ). unlessSuspended x suspendState ≡ x) (eqb suspendState 0) k 40 (λ b. rw (a, b)) (λ b. refl)) (λ a. rw a)
 
   -- while suspended, E35's cells are those of E40
-  rejected : (s : State) → eqb suspendState 0 ≡ false → doneCell (cell78 (table78 E40) (stateOf s)) n l w ≡ doneCell (cell78 (table78 E35) (stateOf s)) n l w
+  rejected : (s : State) → eqb suspendState 0 ≡ false → doneCell (cell78 (table78 E40) s) n l w ≡ doneCell (cell78 (table78 E35) s) n l w
   unfolding table78 doneCell
   rejected S1 b = refl
   rejected S2 b = refl

@@ -1,4 +1,4 @@
--- How src/table.rt writes table 7-8: its actions by numbers, a cell as five actions and the next state. That this says what the table
+-- How src/alert.Rt writes table 7-8: its actions by numbers, a cell as five actions and the next state. That this says what the table
 -- says is proofs/Cells.
 use Prim.Native.Nat.{ℕ, _<_}
 use mathlib.Core.Path.{_≡_}
@@ -6,12 +6,12 @@ use mathlib.Core.List.{List, [], _∷_}
 use lib.Dec.{eqb}
 use lib.ListN.{getD, take}
 use Rattle.base.specs.Choice.{pick}
-use Rattle.fop.specs.Table as table
+use Rattle.fop.specs.declared.Alert.the-variants as alert
 use Rattle.fop.specs.Table.{Action, Ignore, Accept, Reject, Confirm, RejectAd, AcceptBd, RejectBd, AddToWaitQueue, LookForFdu, LookForDirective, RemoveAcknowledgedFrames}
 use Rattle.fop.specs.Table.{InitiateAdRetransmission, InitiateBcRetransmission, ReleaseBcFrame, CancelTimer, StartTimer, Alert, Initialise, TransmitUnlock, TransmitSetVr, TransmitBd}
 use Rattle.fop.specs.Table.{SetSuspendState, Suspend, Resume, SetVs, SetNnr, SetK, SetT1Initial, SetTransmissionLimit, SetTimeoutType, AdOutReady, BcOutReady, BdOutReady}
-use Rattle.fop_actions.specs.declared.State.{State}
-use Rattle.fop_actions.specs.declared.State.the-variants as state
+use Rattle.fop.specs.declared.State.{State}
+use Rattle.fop.specs.declared.State.the-variants as state
 use Rattle.fop_actions.specs.declared.Work.{Work}
 use Rattle.fop_actions.specs.Actions as act
 use Rattle.fop_rows.specs.Rows.{done, placeOf, rowNumbered}
@@ -20,7 +20,7 @@ use Rattle.fop_rows.specs.Rows.{done, placeOf, rowNumbered}
 abbrev pub actions : List Action
 actions =
     Ignore ∷ Accept ∷ Reject ∷ Confirm ∷ RejectAd ∷ AcceptBd ∷ RejectBd
-    ∷ Alert table.synch ∷ Alert table.clcw ∷ Alert table.limit ∷ Alert table.nnr ∷ Alert table.lockout ∷ Alert table.t1 ∷ Alert table.term ∷ Alert table.llif
+    ∷ Alert alert.Synch ∷ Alert alert.Clcw ∷ Alert alert.Limit ∷ Alert alert.Nnr ∷ Alert alert.Lockout ∷ Alert alert.T1 ∷ Alert alert.Term ∷ Alert alert.Llif
     ∷ AddToWaitQueue ∷ LookForFdu ∷ LookForDirective ∷ RemoveAcknowledgedFrames ∷ InitiateAdRetransmission ∷ InitiateBcRetransmission
     ∷ ReleaseBcFrame ∷ Initialise ∷ TransmitUnlock ∷ TransmitSetVr ∷ TransmitBd
     ∷ CancelTimer ∷ StartTimer ∷ Suspend ∷ Resume ∷ SetVs ∷ SetNnr ∷ SetK ∷ SetT1Initial ∷ SetTransmissionLimit ∷ SetTimeoutType

@@ -6,43 +6,19 @@ use mathlib.Core.Option.{Option, none, some}
 use lib.Dec.{eqb, ltb}
 use lib.ListN.{getD}
 use Rattle.base.specs.Choice.{pick}
-use Rattle.fop.specs.Table as table
 use Rattle.fop.specs.Table.{Action, Cell, cell, ifNotSuspended, NotApplicable, table78, cell78, FopEvent}
 use Rattle.fop.specs.Table.{Ignore, Accept, Reject, Confirm, RejectAd, AcceptBd, RejectBd, AddToWaitQueue, LookForFdu, LookForDirective, RemoveAcknowledgedFrames}
 use Rattle.fop.specs.Table.{InitiateAdRetransmission, InitiateBcRetransmission, ReleaseBcFrame, CancelTimer, StartTimer, Alert, Initialise, TransmitUnlock, TransmitSetVr, TransmitBd}
 use Rattle.fop.specs.Table.{SetSuspendState, Suspend, Resume, SetVs, SetNnr, SetK, SetT1Initial, SetTransmissionLimit, SetTimeoutType, AdOutReady, BcOutReady, BdOutReady}
 use Rattle.fop.specs.Table.{E1, E2, E3, E4, E5, E6, E7, E8, E9, E10, E11, E12, E13, E14, E15, E16, E17, E18, E19, E20, E21, E22, E23, E24, E25, E26, E27, E28, E29, E30, E31, E32, E33, E34}
 use Rattle.fop.specs.Table.{E35, E36, E37, E38, E39, E40, E41, E42, E43, E44, E45, E46, E101, E102, E103, E104}
-use Rattle.fop_actions.specs.declared.State.{State}
-use Rattle.fop_actions.specs.declared.State.the-variants as state
+use Rattle.fop.specs.declared.State.{State}
+use Rattle.fop.specs.declared.State.the-variants as state
 use Rattle.fop_actions.specs.declared.Control.{Control}
 use Rattle.fop_actions.specs.declared.Control.the-variants as control
-use Rattle.fop_actions.specs.declared.Alert.the-variants as reason
-use Rattle.fop_actions.specs.declared.Alert.{Alert as Reason}
-use Rattle.fop_actions.specs.declared.Response.the-variants as response
+use Rattle.fop.specs.declared.Response.the-variants as response
 use Rattle.fop_actions.specs.declared.Work.{Work}
 use Rattle.fop_actions.specs.Actions as act
-use Rattle.fop_actions.specs.View.{stateOf}
-
--- a state of the table, as the sender's struct holds it
-abbrev pub declared : table.State → State
-declared table.S1 = state.S1
-declared table.S2 = state.S2
-declared table.S3 = state.S3
-declared table.S4 = state.S4
-declared table.S5 = state.S5
-declared table.S6 = state.S6
-
--- table 7-4: a reason of an Alert notification, as the sender's struct holds it
-abbrev pub declaredReason : table.Reason → Reason
-declaredReason table.synch = reason.Synch
-declaredReason table.clcw = reason.Clcw
-declaredReason table.limit = reason.Limit
-declaredReason table.nnr = reason.Nnr
-declaredReason table.lockout = reason.Lockout
-declaredReason table.t1 = reason.T1
-declaredReason table.term = reason.Term
-declaredReason table.llif = reason.Llif
 
 -- S1 to S3, the main protocol's states
 abbrev pub inMain : State → Bool
@@ -81,7 +57,7 @@ done InitiateBcRetransmission n l w = act.initiateBcRetransmission w
 done ReleaseBcFrame n l w = act.releaseBcFrame w
 done CancelTimer n l w = act.cancelTimer w
 done StartTimer n l w = act.startTimer w
-done (Alert r) n l w = act.alert (declaredReason r) w
+done (Alert r) n l w = act.alert r w
 done Initialise n l w = act.initialise w
 done TransmitUnlock n l w = act.transmitUnlock w
 done TransmitSetVr n l w = act.transmitSetVr (octet n) w
@@ -107,13 +83,13 @@ doneAll (a ∷ more) n l w = doneAll more n l (done a n l w)
 -- a cell: its actions, then its next state. "Not Applicable": nothing is done and the state is kept.
 unfoldable pub doneCell : Cell → ℕ → ℕ → Work → Work
 doneCell NotApplicable n l w = w
-doneCell (cell acts s) n l w = act.toState (declared s) (doneAll acts n l w)
+doneCell (cell acts s) n l w = act.toState s (doneAll acts n l w)
 doneCell (ifNotSuspended acts others s) n l w =
-    act.toState (declared s) (pick (eqb (w .variables .«suspend_state») 0) (doneAll acts n l w) (doneAll others n l w))
+    act.toState s (pick (eqb (w .variables .«suspend_state») 0) (doneAll acts n l w) (doneAll others n l w))
 
 -- the row of an event in the state of the work
 unfoldable pub rowOf : FopEvent → ℕ → ℕ → Work → Work
-rowOf e n l w = doneCell (cell78 (table78 e) (stateOf (w .state))) n l w
+rowOf e n l w = doneCell (cell78 (table78 e) (w .state)) n l w
 
 -- The events by their numbers: E1 to E46 are 1 to 46, E101 to E104 are 101 to 104. Any other number is no event.
 abbrev pub placeOf : ℕ → ℕ

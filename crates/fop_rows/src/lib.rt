@@ -6,7 +6,7 @@ mod table;
 use crate::actions::perform;
 use crate::table::CELLS;
 use crate::table::ROWS;
-use fop_actions::State;
+use fop::State;
 use fop_actions::Work;
 use fop_actions::values::to_state;
 ghost use mathlib.Core.Path.{_≡_};

@@ -11,14 +11,14 @@ use Rattle.fop.specs.Table.{InitiateAdRetransmission, InitiateBcRetransmission,
 use Rattle.fop.specs.Table.{SetSuspendState, Suspend, Resume, SetVs, SetNnr, SetK, SetT1Initial, SetTransmissionLimit, SetTimeoutType, AdOutReady, BcOutReady, BdOutReady}
 use Rattle.fop.specs.Variables as machine
 use Rattle.fop.specs.Machine.{perform, performAll}
-use Rattle.fop_actions.specs.declared.Response.{Response}
-use Rattle.fop_actions.specs.declared.Response.the-variants as response
+use Rattle.fop.specs.declared.Response.{Response}
+use Rattle.fop.specs.declared.Response.the-variants as response
 use Rattle.fop_actions.specs.declared.Work.{Work}
 use Rattle.fop_actions.specs.Limits.{largestResponses}
 use Rattle.fop_actions.specs.Actions as act
 use Rattle.fop_actions.proofs.ViewAnswers as answers
 use Rattle.fop_actions.proofs.ViewAnswers.{Room}
-use Rattle.fop_rows.specs.Rows.{done, doneAll, declaredReason}
+use Rattle.fop_rows.specs.Rows.{done, doneAll}
 use Rattle.fop_view.specs.Rows.{Brings, acknowledging, offering, numbering, widening, clocking, limiting, timing, Needed}
 use Rattle.fop_view.proofs.Mode.{Stored, moved, put, Idle, started, ceased, released, offered, remaining, sending, bothPurged, Mode, going, half, over, same, same-is, onGoing, onlyIf, taking, turned, answered, repeated, purged, handedDown, controlled, looked, given, after, afterAll}
 use Rattle.fop_view.proofs.Known.{Case, seen, Open, At}
@@ -95,7 +95,7 @@ module _ (x : Case) (b : Brings) (meets : Needed b (x .octets) (x .value) (x .se
   step ReleaseBcFrame mode w m h = turned-mode x w (act.releaseBcFrame w) ReleaseBcFrame mode m h released (λ p f z u l g. values.release-bc-frame x w m g)
   step CancelTimer mode w m h = turned-mode x w (act.cancelTimer w) CancelTimer mode m h ceased (λ p f z u l g. values.cancel-timer x w m g)
   step StartTimer mode w m h = turned-mode x w (act.startTimer w) StartTimer mode m h started (λ p f z u l g. values.start-timer x w m g)
-  step (Alert r) mode w m h = purged-mode x w (act.alert (declaredReason r) w) (Alert r) mode m h ceased (λ p f z l g. purge.alerts x w m g r)
+  step (Alert r) mode w m h = purged-mode x w (act.alert r w) (Alert r) mode m h ceased (λ p f z l g. purge.alerts x w m g r)
   step Initialise mode w m h = purged-mode x w (act.initialise w) Initialise mode m h (λ z. z) (λ p f z l g. purge.initialise x w m g)
   step TransmitUnlock mode w m h =
       on-going x w (act.transmitUnlock w) m (perform TransmitUnlock m) controlled (λ p f z u l g. handing.transmit-unlock x w m g) mode h

@@ -7,10 +7,9 @@ use Rattle.base.specs.Choice.{both}
 use Rattle.base.proofs.Tests.{both-left, both-right}
 use Rattle.fop.specs.Table.{table78, cell78, FopEvent, E1, E2, E3, E4, E5, E6, E7, E8, E9, E10, E11, E12, E13, E14, E15, E16, E17, E18, E19, E20, E21, E22, E23, E24, E25, E26, E27, E28, E29, E30, E31, E32, E33, E34}
 use Rattle.fop.specs.Table.{E35, E36, E37, E38, E39, E40, E41, E42, E43, E44, E45, E46, E101, E102, E103, E104}
-use Rattle.fop_actions.specs.declared.State.{State}
-use Rattle.fop_actions.specs.declared.State.the-variants as state
+use Rattle.fop.specs.declared.State.{State}
+use Rattle.fop.specs.declared.State.the-variants as state
 use Rattle.fop_actions.specs.declared.SenderState.{SenderState}
-use Rattle.fop_actions.specs.View.{stateOf}
 use Rattle.fop_view.specs.Rows.{brings, Meets}
 use Rattle.fop_view.proofs.Mode.{same, after, afterAll, allows}
 
@@ -37,7 +36,7 @@ every-in p t =
     (both-left (p state.S5) _ e) (both-right (p state.S5) _ e)
 
 abbrev cellAllowed : FopEvent → State → Bool
-cellAllowed e x = allows (brings e) x (cell78 (table78 e) (stateOf x))
+cellAllowed e x = allows (brings e) x (cell78 (table78 e) x)
 
 -- the rows
 rows : (e : FopEvent) (o : List ℕ) (n : ℕ) (s : SenderState) → Meets e o n s → every (cellAllowed e) ≡ true
@@ -93,5 +92,5 @@ rows E102 o n s h = refl
 rows E103 o n s h = refl
 rows E104 o n s h = absurd h
 
-pub allowed : (e : FopEvent) (o : List ℕ) (n : ℕ) (s : SenderState) → Meets e o n s → (x : State) → allows (brings e) x (cell78 (table78 e) (stateOf x)) ≡ true
+pub allowed : (e : FopEvent) (o : List ℕ) (n : ℕ) (s : SenderState) → Meets e o n s → (x : State) → allows (brings e) x (cell78 (table78 e) x) ≡ true
 allowed e o n s h x = every-in (cellAllowed e) (rows e o n s h) x

@@ -11,7 +11,6 @@ use Rattle.base.specs.Choice.{pick, both}
 use Rattle.base.proofs.Tests.{apart, both-left, both-right}
 use Rattle.store.proofs.Parts.{slid-none}
 use Rattle.fop_actions.proofs.SentQueue.{without-none}
-use Rattle.fop.specs.Table as table
 use Rattle.fop.specs.Table.{Action, Cell, cell, ifNotSuspended, NotApplicable}
 use Rattle.fop.specs.Variables as machine
 use Rattle.fop.specs.Answers.{runOf}
@@ -19,14 +18,14 @@ use Rattle.fop.specs.Machine.{performAll, performCell}
 use Rattle.fop_actions.specs.declared.Control.{Control}
 use Rattle.fop_actions.specs.declared.Handed.the-variants as handed
 use Rattle.fop_actions.specs.declared.SenderState.{SenderState}
-use Rattle.fop_actions.specs.declared.State.{State}
-use Rattle.fop_actions.specs.declared.State.the-variants as state
+use Rattle.fop.specs.declared.State.{State}
+use Rattle.fop.specs.declared.State.the-variants as state
 use Rattle.fop_actions.specs.declared.Work.{Work}
 use Rattle.fop_actions.specs.Actions as act
 use Rattle.fop_actions.specs.Start.{begun, senderOf, noneTold}
-use Rattle.fop_actions.specs.View.{stateOf, fopOf}
+use Rattle.fop_actions.specs.View.{fopOf}
 use Rattle.fop_actions.proofs.ViewValues as values
-use Rattle.fop_rows.specs.Rows.{declared, doneAll, doneCell, inMain}
+use Rattle.fop_rows.specs.Rows.{doneAll, doneCell, inMain}
 use Rattle.fop_view.specs.State.{Good}
 use Rattle.fop_view.specs.Rows.{Brings, nothing, acknowledging, again, offering, numbering, widening, clocking, limiting, timing, suspending, brings, Needed, storeBy, lengthsBy, Shows}
 use Rattle.fop_view.proofs.Mode.{Stored, kept, moved, put, Idle, Mode, fresh, going, half, over, bad, same, same-is, initial, idleIn, begins, implied, agrees, covers, notPut, putWhere, fits, ends, afterAll, allows}
@@ -67,15 +66,6 @@ module _ (x : Case) (store : List ℕ) (w : Work) where
     left-after limiting t = slid-both t
     left-after timing t = slid-both t
     left-after suspending t = slid-both t
-
--- The next state.
-declared-is : (t : table.State) → stateOf (declared t) ≡ t
-declared-is table.S1 = refl
-declared-is table.S2 = refl
-declared-is table.S3 = refl
-declared-is table.S4 = refl
-declared-is table.S5 = refl
-declared-is table.S6 = refl
 
 -- what is known is all that is asked
 where-implied : (A : Type 0) (a b : Bool) → implied a b ≡ true → Where b A → Where a A
@@ -130,19 +120,18 @@ shown x w m store left most h = record {
 }
 
 module _ (x : Case) (good : Good (x .own) (x .sender) (x .store)) where
-  enters : (p : Stored) (z : Idle) (t : table.State) (w : Work) (m : machine.Work) → fits (brings (x .event)) (inMain (x .sender .state)) p ≡ true
-      → covers (idleIn (declared t)) z ≡ true
-      → Shut x p z w m → Shown x (act.toState (declared t) w) (machine.onFop (machine.setState t (m .fop)) m)
+  enters : (p : Stored) (z : Idle) (t : State) (w : Work) (m : machine.Work) → fits (brings (x .event)) (inMain (x .sender .state)) p ≡ true
+      → covers (idleIn t) z ≡ true
+      → Shut x p z w m → Shown x (act.toState t w) (machine.onFop (machine.setState t (m .fop)) m)
   unfolding act.toState begun senderOf
   enters p z t w m a b h =
       let e = h .ended in
-      let q = covered (idleIn (declared t)) z b (e .idle) in
-      let v = act.toState (declared t) w in
+      let q = covered (idleIn t) z b (e .idle) in
+      let v = act.toState t w in
       let to : machine.Work → machine.Work = λ y. machine.onFop (machine.setState t (y .fop)) y in
       let is : to m ≡ seen x (h .c) (h .d) v (h .store) =
       ap to (h .is)
-      ∙ ap (λ (y : table.State). machine.onFop (machine.setState y (fopOf w (h .store))) (seen x (h .c) (h .d) w (h .store))) (sym (declared-is t))
-      ∙ values.to-state _ _ _ _ _ w (h .store) (declared t) in
+      ∙ values.to-state _ _ _ _ _ w (h .store) t in
       shown x v (to m) (h .store) (left-after x (h .store) v p (e .runs .stored) (e .runs .measured) (brings (x .event)) a) (e .no-more)
       (record {
         is = subst (λ (y : machine.Work). y ≡ seen x (y .confirmed) (y .denied) v (h .store)) (sym is) refl;
@@ -172,15 +161,15 @@ module _ (x : Case) (good : Good (x .own) (x .sender) (x .store)) where
         sent = e .below;
       })
 
-  ended : (mode : Mode) (t : table.State) (w : Work) (m : machine.Work) → ends (brings (x .event)) (x .sender .state) t mode ≡ true → At x mode w m
-      → Shown x (act.toState (declared t) w) (machine.onFop (machine.setState t (m .fop)) m)
+  ended : (mode : Mode) (t : State) (w : Work) (m : machine.Work) → ends (brings (x .event)) (x .sender .state) t mode ≡ true → At x mode w m
+      → Shown x (act.toState t w) (machine.onFop (machine.setState t (m .fop)) m)
   ended (fresh f z) t w m y h = absurd (apart y)
   ended (going p f z u l) t w m y h =
-      enters p z t w m (both-left _ _ y) (both-right (fits (brings (x .event)) (inMain (x .sender .state)) p) (covers (idleIn (declared t)) z) y)
+      enters p z t w m (both-left _ _ y) (both-right (fits (brings (x .event)) (inMain (x .sender .state)) p) (covers (idleIn t) z) y)
       (record { store = h .store; c = h .c; d = h .d; is = h .is; formed = h .formed; ended = h .ended })
   ended (half p z u l) t w m y h = absurd (apart y)
   ended (over p z) t w m y h =
-      enters p z t w m (both-left _ _ y) (both-right (fits (brings (x .event)) (inMain (x .sender .state)) p) (covers (idleIn (declared t)) z) y) h
+      enters p z t w m (both-left _ _ y) (both-right (fits (brings (x .event)) (inMain (x .sender .state)) p) (covers (idleIn t) z) y) h
   ended bad t w m y h = absurd (apart y)
 
   -- Not Applicable: nothing is done
@@ -220,9 +209,9 @@ module _ (x : Case) (good : Good (x .own) (x .sender) (x .store)) where
       idle = idle-first;
     }
 
-    acted : (acts : List Action) (t : table.State)
+    acted : (acts : List Action) (t : State)
         → ends (brings (x .event)) (x .sender .state) t (afterAll (brings (x .event)) acts (begins (brings (x .event)) (x .sender .state))) ≡ true
-        → Shown x (act.toState (declared t) (doneAll acts (x .value) (length (x .octets)) (begun (x .sender))))
+        → Shown x (act.toState t (doneAll acts (x .value) (length (x .octets)) (begun (x .sender))))
         (let m : machine.Work = performAll acts (seen x [] [] (begun (x .sender)) (x .store)) in machine.onFop (machine.setState t (m .fop)) m)
     acted acts t y =
         let b = brings (x .event) in
@@ -238,6 +227,6 @@ module _ (x : Case) (good : Good (x .own) (x .sender) (x .store)) where
     cell-view (ifNotSuspended acts others t) y =
         let w = begun (x .sender) in
         let m = seen x [] [] w (x .store) in
-        subst (λ (b : Bool). Shown x (act.toState (declared t) (pick b (doneAll acts (x .value) (length (x .octets)) w) (doneAll others (x .value) (length (x .octets)) w)))
+        subst (λ (b : Bool). Shown x (act.toState t (pick b (doneAll acts (x .value) (length (x .octets)) w) (doneAll others (x .value) (length (x .octets)) w)))
         (let v : machine.Work = pick b (performAll acts m) (performAll others m) in machine.onFop (machine.setState t (v .fop)) v))
         (sym (serves (x .sender) (good .serving))) (acted acts t y)

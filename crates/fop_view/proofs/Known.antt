@@ -21,13 +21,13 @@ use Rattle.fop_actions.specs.declared.Control.the-variants as control
 use Rattle.fop_actions.specs.declared.Handed.{Handed}
 use Rattle.fop_actions.specs.declared.Handed.the-variants as handed
 use Rattle.fop_actions.specs.declared.Responses.{Responses}
-use Rattle.fop_actions.specs.declared.Run.{Run}
+use Rattle.fop.specs.declared.Run.{Run}
 use Rattle.fop_actions.specs.declared.SenderState.{SenderState}
 use Rattle.fop_actions.specs.declared.Settings.{Settings}
 use Rattle.fop_actions.specs.declared.Work.{Work}
 use Rattle.fop_actions.specs.Limits.{largestResponses}
 use Rattle.fop_actions.specs.Start.{begun, noneTold}
-use Rattle.fop_actions.specs.View.{view, runTold, Formed, WellFormed, without}
+use Rattle.fop_actions.specs.View.{view, Formed, WellFormed, without}
 use Rattle.fop_actions.proofs.ViewAnswers.{Room}
 use Rattle.fop_actions.proofs.ViewStart.{room-begun}
 use Rattle.fop_rows.specs.Rows.{isFrame}
@@ -95,8 +95,8 @@ pub record IdleIs (z : Idle) (timer sent : ℕ) (waiting : Bool) (bc : Control) 
 pub record Runs (x : Case) (p : Stored) (store lengths : List ℕ) (c d : List Fdu) (confirmed denied : Run) : Type 0 where
   pub stored : StoreIs x p (confirmed .count) store
   pub measured : LengthsIs x p (confirmed .count) lengths
-  pub of-confirmed : runOf c ≡ runTold confirmed
-  pub of-denied : runOf d ≡ runTold denied
+  pub of-confirmed : runOf c ≡ confirmed
+  pub of-denied : runOf d ≡ denied
 
 -- the units confirmed and those still held are at most one more than the units sent before the event
 abbrev pub NoMore : Case → ℕ → ℕ → Bool → Type 0

@@ -13,10 +13,10 @@ use Rattle.fop.specs.Table.{Action, Cell, cell, ifNotSuspended, NotApplicable}
 use Rattle.fop.specs.Table.{Ignore, Accept, Reject, Confirm, RejectAd, AcceptBd, RejectBd, AddToWaitQueue, LookForFdu, LookForDirective, RemoveAcknowledgedFrames}
 use Rattle.fop.specs.Table.{InitiateAdRetransmission, InitiateBcRetransmission, ReleaseBcFrame, CancelTimer, StartTimer, Alert, Initialise, TransmitUnlock, TransmitSetVr, TransmitBd}
 use Rattle.fop.specs.Table.{SetSuspendState, Suspend, Resume, SetVs, SetNnr, SetK, SetT1Initial, SetTransmissionLimit, SetTimeoutType, AdOutReady, BcOutReady, BdOutReady}
-use Rattle.fop_actions.specs.declared.State.{State}
-use Rattle.fop_actions.specs.declared.State.the-variants as state
+use Rattle.fop.specs.declared.State.{State}
+use Rattle.fop.specs.declared.State.the-variants as state
 use Rattle.fop_actions.specs.Limits.{largestResponses}
-use Rattle.fop_rows.specs.Rows.{declared, inMain}
+use Rattle.fop_rows.specs.Rows.{inMain}
 use Rattle.fop_view.specs.State.{withFrame}
 use Rattle.fop_view.specs.Rows.{Brings, nothing, acknowledging, again, offering, numbering, widening, clocking, limiting, timing, suspending}
 
@@ -266,11 +266,11 @@ fits limiting x p = notPut p
 fits timing x p = notPut p
 fits suspending x p = notPut p
 
-abbrev pub ends : Brings → State → table.State → Mode → Bool
+abbrev pub ends : Brings → State → State → Mode → Bool
 ends b x s (fresh f z) = false
-ends b x s (going p f z u l) = both (fits b (inMain x) p) (covers (idleIn (declared s)) z)
+ends b x s (going p f z u l) = both (fits b (inMain x) p) (covers (idleIn s) z)
 ends b x s (half p z u l) = false
-ends b x s (over p z) = both (fits b (inMain x) p) (covers (idleIn (declared s)) z)
+ends b x s (over p z) = both (fits b (inMain x) p) (covers (idleIn s) z)
 ends b x s bad = false
 
 -- the actions of a cell are allowed, and leave the store, the queues and the timer as they must; with Suspend_State 0 "IF SS = 0" holds

@@ -8,25 +8,25 @@ use native.Mathlib.Omega.{arith}
 use Rattle.base.specs.Choice.{pick}
 use Rattle.base.specs.Modulo.{offset}
 use Rattle.fop.specs.Units.{Fdu}
+use Rattle.fop.specs.declared.Alert.{Alert}
 use Rattle.fop.specs.Table as table
 use Rattle.fop.specs.Variables as machine
 use Rattle.fop.specs.Answers.{runOf}
 use Rattle.fop.specs.Machine.{perform, fdus}
-use Rattle.fop_actions.specs.declared.Alert.the-variants as alert
+use Rattle.fop.specs.declared.Alert.the-variants as alert
 use Rattle.fop_actions.specs.declared.Control.{Control}
 use Rattle.fop_actions.specs.declared.Control.the-variants as control
-use Rattle.fop_actions.specs.declared.Response.{Response}
-use Rattle.fop_actions.specs.declared.Response.the-variants.{RejectAdUnit, DenyDirective}
+use Rattle.fop.specs.declared.Response.{Response}
+use Rattle.fop.specs.declared.Response.the-variants.{RejectAdUnit, DenyDirective}
 use Rattle.fop_actions.specs.declared.Work.{Work}
 use Rattle.fop_actions.specs.Parts.{withVariables, withQueues, withTold}
 use Rattle.fop_actions.specs.Actions as act
 use Rattle.fop_actions.specs.Actions.{runFrom, responseNumber}
-use Rattle.fop_actions.specs.View.{entriesOf, reasonOf, runTold}
+use Rattle.fop_actions.specs.View.{entriesOf}
 use Rattle.fop_actions.proofs.Kept as well
 use Rattle.fop_actions.proofs.ViewAnswers.{Room, room-more}
 use Rattle.fop_actions.proofs.ViewRelease as release
 use Rattle.fop_actions.proofs.ViewRuns.{denied-run}
-use Rattle.fop_rows.specs.Rows.{declaredReason}
 use Rattle.fop_view.specs.State.{held}
 use Rattle.fop_view.proofs.Mode.{Stored, Idle, ceased, sentPurged, waitPurged, bothPurged}
 use Rattle.fop_view.proofs.Known.{Case, EndedOf, GoingOf, Open, held-least, held-waiting, less-room, idle-again, stops, counts-one, none-below}
@@ -37,7 +37,7 @@ abbrev pub units : Work → List ℕ → List Fdu
 units w store = fdus (entriesOf (w .queues .lengths) store (w .variables .vs) (w .queues .sent) (w .queues .marked))
 
 -- their run: it is the one that Alert tells where no type-BC frame is on the Sent_Queue and no unit waits
-units-run : (w : Work) (store : List ℕ) → runOf (units w store) ≡ runTold (runFrom (offset (w .variables .vs) (w .queues .sent)) (w .queues .sent))
+units-run : (w : Work) (store : List ℕ) → runOf (units w store) ≡ (runFrom (offset (w .variables .vs) (w .queues .sent)) (w .queues .sent))
 unfolding act.alert act.notify act.purgeWaitQueue act.purgeSentQueue act.denyControl act.emptied act.releaseBcFrame act.holdControl act.cancelTimer withVariables withQueues withTold
 units-run w store =
     let q = w .queues in
@@ -134,26 +134,16 @@ serving : {x : Case} {p : Stored} {z : Idle} {store : List ℕ} {c d : List Fdu}
 unfolding act.setSuspendState act.countOne withVariables
 serving v e = idle-again e (counts-one refl) (e .idle)
 
-reason-is : (r : table.Reason) → reasonOf (declaredReason r) ≡ some r
-reason-is table.synch = refl
-reason-is table.clcw = refl
-reason-is table.limit = refl
-reason-is table.nnr = refl
-reason-is table.lockout = refl
-reason-is table.t1 = refl
-reason-is table.term = refl
-reason-is table.llif = refl
-
 module _ (x : Case) (w : Work) (m : machine.Work) {p : Stored} {f : Bool} {z : Idle} {l : ℕ} (h : Open x p f z true (suc (suc l)) w m) where
   room : Room 2 (w .told .responses)
   room = less-room 2 (suc (suc l)) (w .told .responses) (omega arith) (h .going .room)
 
-  pub alerts : (r : table.Reason) → Open x p false (bothPurged (ceased z)) false l (act.alert (declaredReason r) w) (perform (table.Alert r) m)
+  pub alerts : (r : Alert) → Open x p false (bothPurged (ceased z)) false l (act.alert r w) (perform (table.Alert r) m)
   unfolding act.alert act.notify act.cancelTimer withVariables withTold
   alerts r =
       let e : EndedOf x p (ceased z) (h .store) (h .c) (h .d) (act.cancelTimer w) = idle-again (h .ended) (h .ended .counted) (stops (h .ended .idle)) in
-      goes-on h (table.Alert r) (act.alert (declaredReason r) w) (h .d ++ units w (h .store))
-      (release.alert _ _ _ _ _ w (h .store) room (declaredReason r) r (reason-is r)) (well.alert w (h .store) (declaredReason r) (h .formed))
+      goes-on h (table.Alert r) (act.alert r w) (h .d ++ units w (h .store))
+      (release.alert _ _ _ _ _ w (h .store) room r) (well.alert w (h .store) r (h .formed))
       (purged-ended (act.cancelTimer w) e (h .going)) (purged-going (act.cancelTimer w) e (h .going))
 
   pub initialise : Open x p false (bothPurged z) false l (act.initialise w) (perform table.Initialise m)

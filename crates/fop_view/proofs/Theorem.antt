@@ -10,7 +10,7 @@ use Rattle.fop.specs.Table.{FopEvent, table78, cell78}
 use Rattle.fop.specs.Machine.{fopDo}
 use Rattle.fop_actions.specs.declared.SenderState.{SenderState}
 use Rattle.fop_actions.specs.Start.{begun, noneTold}
-use Rattle.fop_actions.specs.View.{stateOf, fopOf}
+use Rattle.fop_actions.specs.View.{fopOf}
 use Rattle.fop_rows.specs.Rows.{rowOf}
 use Rattle.fop_view.specs.State.{Good, held}
 use Rattle.fop_view.specs.Rows.{Meets, storeAfter, lengthsAfter, Shows}
@@ -21,7 +21,7 @@ module _ (own : Own) (e : FopEvent) (o : List ℕ) (n : ℕ) (s : SenderState) (
   row-shown : Shown (record { own = own; event = e; octets = o; value = n; sender = s; store = store }) (rowOf e n (length o) (begun s)) (fopDo e o n (fopOf (begun s) store))
   unfolding rowOf fopDo begun noneTold
   row-shown =
-      cell-view (record { own = own; event = e; octets = o; value = n; sender = s; store = store }) good meets (cell78 (table78 e) (stateOf (s .state)))
+      cell-view (record { own = own; event = e; octets = o; value = n; sender = s; store = store }) good meets (cell78 (table78 e) (s .state))
       (allowed e o n s meets (s .state))
 
 pub row-view : (own : Own) (e : FopEvent) (o : List ℕ) (n : ℕ) (s : SenderState) (store : List ℕ) → Good own s store → Meets e o n s

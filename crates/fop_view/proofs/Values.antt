@@ -11,7 +11,7 @@ use Rattle.fop.specs.Table as table
 use Rattle.fop.specs.Table.{Action}
 use Rattle.fop.specs.Variables as machine
 use Rattle.fop.specs.Machine.{perform}
-use Rattle.fop_actions.specs.declared.Response.{Response}
+use Rattle.fop.specs.declared.Response.{Response}
 use Rattle.fop_actions.specs.declared.Work.{Work}
 use Rattle.fop_actions.specs.Parts.{withSettings, withVariables, withQueues, withTold}
 use Rattle.fop_actions.specs.Actions as act

@@ -20,7 +20,7 @@ use Rattle.fop_actions.specs.declared.Handed.the-variants as handed
 use Rattle.fop_actions.specs.declared.SenderState.{SenderState}
 use Rattle.fop_actions.specs.declared.Work.{Work}
 use Rattle.fop_actions.specs.Start.{senderOf}
-use Rattle.fop_actions.specs.View.{view, runTold, without}
+use Rattle.fop_actions.specs.View.{view, without}
 use Rattle.fop_rows.specs.Rows.{inMain}
 use Rattle.fop_view.specs.State.{Good}
 
@@ -146,7 +146,7 @@ lengthsAfter e o s w = lengthsBy (brings e) o s w
 -- units confirmed and denied; the state stays well-formed; a unit that is handed down is one of the sent ones
 pub record Shows (own : Own) (e : FopEvent) (o : List ℕ) (n : ℕ) (w : Work) (store : List ℕ) (m : machine.Work) : Type 0 where
   pub is : m ≡ view (some e) o n (m .confirmed) (m .denied) w store
-  pub confirmed : runOf (m .confirmed) ≡ runTold (w .told .confirmed)
-  pub denied : runOf (m .denied) ≡ runTold (w .told .denied)
+  pub confirmed : runOf (m .confirmed) ≡ (w .told .confirmed)
+  pub denied : runOf (m .denied) ≡ (w .told .denied)
   pub good : Good own (senderOf w) store
   pub sent : (k i : ℕ) → w .told .handed ≡ handed.Ad k i → i < w .queues .sent

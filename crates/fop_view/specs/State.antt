@@ -7,8 +7,8 @@ use lib.ListN.{getD}
 use Rattle.base.specs.Limits.{largestSpacecraft, largestChannel}
 use Rattle.fop.specs.Limits.{largestK, largestTransmissionLimit}
 use Rattle.fop.specs.Units.{Own}
-use Rattle.fop_actions.specs.declared.State.{State}
-use Rattle.fop_actions.specs.declared.State.the-variants.{S1, S2, S3, S4, S5, S6}
+use Rattle.fop.specs.declared.State.{State}
+use Rattle.fop.specs.declared.State.the-variants.{S1, S2, S3, S4, S5, S6}
 use Rattle.fop_actions.specs.declared.SenderState.{SenderState}
 use Rattle.fop_actions.specs.Start.{begun}
 use Rattle.fop_actions.specs.View.{WellFormed}

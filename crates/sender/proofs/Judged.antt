@@ -18,13 +18,13 @@ use Rattle.clcw.specs.Answers.{readingOf}
 use Rattle.clcw.specs.declared.ReceivedWord.{ReceivedWord}
 use Rattle.clcw.specs.declared.WordReading.{WordReading}
 use Rattle.clcw.specs.declared.WordReading.the-variants.{Word}
-use Rattle.fop_actions.specs.declared.State.{State}
+use Rattle.fop.specs.declared.State.{State}
 use Rattle.fop_actions.specs.declared.SenderState.{SenderState}
 use Rattle.fop_actions.specs.declared.Work.{Work}
 use Rattle.fop_actions.specs.Start.{begun}
 use Rattle.fop_actions.specs.View.{unitAt, without}
 use Rattle.fop_rows.specs.Rows.{rowNumbered, inMain}
-use Rattle.fop_events.specs.declared.Lower.{Lower}
+use Rattle.fop.specs.declared.Lower.{Lower}
 use Rattle.fop_events.specs.Events.{wordNumber, directiveNumber, lowerNumber, adNumber, bdNumber}
 use Rattle.sender.specs.declared.Answer.{Answer}
 use Rattle.sender.specs.Limits.{smallestStore}

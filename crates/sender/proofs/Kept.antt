@@ -13,8 +13,8 @@ use Rattle.base.specs.Modulo.{offset}
 use Rattle.base.proofs.Lists.{next}
 use Rattle.base.proofs.Tests.{yes, no}
 use Rattle.fop.specs.Limits.{largestK}
-use Rattle.fop_actions.specs.declared.State.{State}
-use Rattle.fop_actions.specs.declared.State.the-variants as state
+use Rattle.fop.specs.declared.State.{State}
+use Rattle.fop.specs.declared.State.the-variants as state
 use Rattle.fop_actions.specs.declared.Variables.{Variables}
 use Rattle.fop_actions.specs.declared.Queues.{Queues}
 use Rattle.fop_actions.specs.declared.SenderState.{SenderState}

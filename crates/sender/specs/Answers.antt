@@ -7,12 +7,12 @@ use lib.ListN.{replicate}
 use Rattle.base.specs.Choice.{pick}
 use Rattle.base.specs.Outcome.{Outcome, Answer.done, Answer.refused, answer, after}
 use Rattle.base.specs.Outcome as outcome
-use Rattle.fop_actions.specs.declared.Alert.the-variants as alert
+use Rattle.fop.specs.declared.Alert.the-variants as alert
 use Rattle.fop_actions.specs.declared.Handed.{Handed}
 use Rattle.fop_actions.specs.declared.Handed.the-variants as handed
-use Rattle.fop_actions.specs.declared.Response.the-variants.{RejectDirective}
+use Rattle.fop.specs.declared.Response.the-variants.{RejectDirective}
 use Rattle.fop_actions.specs.declared.Responses.{Responses}
-use Rattle.fop_actions.specs.declared.Run.{Run}
+use Rattle.fop.specs.declared.Run.{Run}
 use Rattle.fop_actions.specs.declared.SenderState.{SenderState}
 use Rattle.fop_actions.specs.declared.Work.{Work}
 use Rattle.fop_actions.specs.Actions.{responseNumber, responsesWith}

@@ -23,7 +23,7 @@ use Rattle.fop_actions.specs.Parts.{clocked}
 use Rattle.fop_actions.specs.Start.{begun}
 use Rattle.fop_actions.specs.View.{unitAt, without}
 use Rattle.fop_rows.specs.Rows.{rowNumbered, inMain}
-use Rattle.fop_events.specs.declared.Lower.{Lower}
+use Rattle.fop.specs.declared.Lower.{Lower}
 use Rattle.fop_events.specs.Events.{wordNumber, directiveNumber, expiryNumber, adNumber, bdNumber, lowerNumber}
 use Rattle.sender.specs.Limits.{smallestStore}
 use Rattle.sender.specs.Answers.{Step, refusedStep, stepBy}

@@ -2,11 +2,11 @@
 use crate::Answer;
 use crate::FrameKind;
 use crate::Sender;
-use fop_actions::Alert;
+use fop::Alert;
+use fop::Run;
 use fop_actions::Handed;
 use fop_actions::LARGEST_RESPONSES;
 use fop_actions::Responses;
-use fop_actions::Run;
 use fop_actions::Work;
 use fop_actions::start::sender_of;
 use frame::writer::FrameWritten;

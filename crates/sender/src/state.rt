@@ -2,13 +2,13 @@
 use base::LARGEST_CHANNEL;
 use base::LARGEST_SPACECRAFT;
 use base::LARGEST_UNIT;
+use fop::State;
 use fop_actions::Control;
 use fop_actions::LARGEST_K;
 use fop_actions::PLACES;
 use fop_actions::Queues;
 use fop_actions::SenderState;
 use fop_actions::Settings;
-use fop_actions::State;
 use fop_actions::Variables;
 use fop_actions::values::difference;
 ghost use mathlib.Core.Path.{_≡_};

@@ -16,8 +16,8 @@ use Rattle.base.specs.Outcome as outcome
 use Rattle.frame.specs.Frame.{rawFrame, rawWriting, unlockCommand, setVrCommand}
 use Rattle.frame.proofs.Emitted.{length-frame}
 use Rattle.fop_actions.specs.Limits.{largestResponses}
-use Rattle.fop_actions.specs.declared.Alert.{Alert}
-use Rattle.fop_actions.specs.declared.Alert.the-variants as alert
+use Rattle.fop.specs.declared.Alert.{Alert}
+use Rattle.fop.specs.declared.Alert.the-variants as alert
 use Rattle.fop_actions.specs.declared.Handed.{Handed}
 use Rattle.fop_actions.specs.declared.Handed.the-variants as handed
 use Rattle.fop_actions.specs.declared.SenderState.{SenderState}

@@ -6,7 +6,7 @@ use Prim.Native.Nat.{ℕ, _/_, _%_}
 use lib.ListN.{getD}
 use Rattle.base.specs.Flags.{bitOf, isSet}
 use Rattle.fop_actions.specs.Limits.{places}
-use Rattle.fop_actions.specs.declared.State.{State}
+use Rattle.fop.specs.declared.State.{State}
 use Rattle.fop_actions.specs.declared.Settings.{Settings}
 use Rattle.fop_actions.specs.declared.Variables.{Variables}
 use Rattle.fop_actions.specs.declared.Queues.{Queues}

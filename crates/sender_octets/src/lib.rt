@@ -7,7 +7,7 @@ use crate::writer::join;
 use crate::writer::numbers_of;
 use crate::writer::state_number;
 use crate::writer::truth;
-use fop_actions::Alert;
+use fop::Alert;
 use fop_actions::PLACES;
 use sender::Answer;
 use sender::FrameKind;

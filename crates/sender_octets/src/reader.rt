@@ -1,11 +1,11 @@
 // The state that octets would hold.
 use crate::NUMBER_OCTETS;
+use fop::State;
 use fop_actions::Control;
 use fop_actions::PLACES;
 use fop_actions::Queues;
 use fop_actions::SenderState;
 use fop_actions::Settings;
-use fop_actions::State;
 use fop_actions::Variables;
 ghost use mathlib.Core.Path.{_≡_};
 ghost use Prim.Native.Nat.{_+_, _*_, _<_};

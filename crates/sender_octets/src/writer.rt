@@ -1,10 +1,10 @@
 // A state as octets: numbers and flags, then two for each length, the most significant first.
 use crate::NUMBER_OCTETS;
 use crate::STATE_OCTETS;
+use fop::State;
 use fop_actions::Control;
 use fop_actions::PLACES;
 use fop_actions::SenderState;
-use fop_actions::State;
 ghost use mathlib.Core.Path.{_≡_};
 ghost use mathlib.Core.List.{_++_};
 ghost use Prim.Native.Nat.{_*_, _<_, _≤_, _/_, _%_};

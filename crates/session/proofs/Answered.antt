@@ -18,7 +18,8 @@ use Rattle.session.specs.Ends.{Settings, Within, Ends, Tied, tables}
 use Rattle.session.specs.Session.{Linked}
 use Rattle.session.specs.Stronger.{LimitOnly, InSession}
 use Rattle.fop.specs.Events as fop
-use Rattle.fop.specs.Table.{Reason}
+use Rattle.fop.specs.declared.Alert.{Alert}
+use Rattle.fop.specs.declared.Alert.the-variants.{None, Synch, Clcw, Limit, Nnr, Lockout, T1, Term, Llif}
 use Rattle.session.specs.Stronger.{KnownAlert}
 use Rattle.session.proofs.Choices.{by-pick}
 use Rattle.session.proofs.Alerts.{Allowed, ownAlert, ad-alerts, bd-alerts, tick-alerts, lower-alerts, terminate-alerts}
@@ -41,18 +42,19 @@ use Rattle.farm.specs.declared.Received.{Received}
 use Rattle.farm.specs.declared.Released.the-variants.{Done, NoneTaken}
 use Rattle.session.specs.Receiver.{frameArrives, releaseBuffer, ReceiverAnswer, releaseAnswer, receiverAnswer}
 
-own-known : (l : ℕ) (r : Option Reason) → Allowed ownAlert r → KnownAlert l r
+own-known : (l : ℕ) (r : Alert) → Allowed ownAlert r → KnownAlert l r
 own-known l r (inl e) = inl e
-own-known l r (inr (Reason.term, e, t)) = inr (inl e)
-own-known l r (inr (Reason.t1, e, t)) = inr (inr (inl e))
-own-known l r (inr (Reason.llif, e, t)) = inr (inr (inr (inl e)))
-own-known l r (inr (Reason.synch, e, t)) = absurd t
-own-known l r (inr (Reason.clcw, e, t)) = absurd t
-own-known l r (inr (Reason.nnr, e, t)) = absurd t
-own-known l r (inr (Reason.lockout, e, t)) = absurd t
-own-known l r (inr (Reason.limit, e, t)) = absurd t
+own-known l r (inr (Term, e, t)) = inr (inl e)
+own-known l r (inr (T1, e, t)) = inr (inr (inl e))
+own-known l r (inr (Llif, e, t)) = inr (inr (inr (inl e)))
+own-known l r (inr (None, e, t)) = absurd t
+own-known l r (inr (Synch, e, t)) = absurd t
+own-known l r (inr (Clcw, e, t)) = absurd t
+own-known l r (inr (Nnr, e, t)) = absurd t
+own-known l r (inr (Lockout, e, t)) = absurd t
+own-known l r (inr (Limit, e, t)) = absurd t
 
-limit-known : (l : ℕ) (r : Option Reason) → LimitOnly l r → KnownAlert l r
+limit-known : (l : ℕ) (r : Alert) → LimitOnly l r → KnownAlert l r
 limit-known l r (inl e) = inl e
 limit-known l r (inr e) = inr (inr (inr (inr e)))
 
@@ -93,10 +95,10 @@ module _ (set : Settings) (vw : Within set) (m : Ends) (t : Tied set m) (σ : Li
   word-alert s ws lent e =
       let l = oldest-read s ws e in
       answer-ways (λ a. LimitOnly (set .limit) (a .alert)) (wordArrives s) lent
-      (λ g. subst (λ (w : Work). LimitOnly (set .limit) (w .alert)) (sym (l .5)) (word-alerts set κ I Q (l .0) (l .1) (l .2))) (inl refl)
+      (λ g. subst (λ (w : Work). LimitOnly (set .limit) (w .notices .alert)) (sym (l .5)) (word-alerts set κ I Q (l .0) (l .1) (l .2))) (inl refl)
 
   -- the alerts
-  known : (e : SenderEvent) (lent : ℕ) → Allowed ownAlert ((work (set .own) e (κ .fop)) .alert) → KnownAlert (set .limit) ((m .answer e lent (σ .sender)) .alert)
+  known : (e : SenderEvent) (lent : ℕ) → Allowed ownAlert ((work (set .own) e (κ .fop)) .notices .alert) → KnownAlert (set .limit) ((m .answer e lent (σ .sender)) .alert)
   known e lent h = answer-ways (λ a. KnownAlert (set .limit) (a .alert)) e lent (λ g. own-known (set .limit) _ h) (inl refl)
 
   pub alerts : (e : SenderEvent) (lent : ℕ) → InSession (σ .words) e → KnownAlert (set .limit) ((m .answer e lent (σ .sender)) .alert)

@@ -11,7 +11,9 @@ use lib.ListN.{length, length-take, length-append}
 use borrow.Author.Tests.{eqb-true, not-false}
 use Rattle.base.specs.Modulo.{advanced, offset}
 use Rattle.fop.specs.Units.{Word}
-use Rattle.fop.specs.Table.{State, S1, S2, S3, S4, S5, S6, Action, Cell, cell, ifNotSuspended, NotApplicable, table78, cell78, Ignore, Accept, Reject, Confirm}
+use Rattle.fop.specs.declared.State.{State}
+use Rattle.fop.specs.declared.State.the-variants.{S1, S2, S3, S4, S5, S6}
+use Rattle.fop.specs.Table.{Action, Cell, cell, ifNotSuspended, NotApplicable, table78, cell78, Ignore, Accept, Reject, Confirm}
 use Rattle.fop.specs.Table.{RejectAd, AcceptBd, RejectBd, AddToWaitQueue, LookForFdu, LookForDirective, RemoveAcknowledgedFrames, InitiateAdRetransmission}
 use Rattle.fop.specs.Table.{InitiateBcRetransmission, ReleaseBcFrame, CancelTimer, StartTimer, Alert, Initialise, TransmitUnlock, TransmitSetVr, TransmitBd, SetSuspendState}
 use Rattle.fop.specs.Table.{Suspend, Resume, SetVs, SetNnr, SetK, SetT1Initial, SetTransmissionLimit, SetTimeoutType, AdOutReady, BcOutReady, BdOutReady}
@@ -48,8 +50,8 @@ act-grows AcceptBd w = omega arith
 act-grows RejectBd w = omega arith
 act-grows AddToWaitQueue w = omega arith
 act-grows LookForFdu w = omega (arith, ap length (look-conf w))
-act-grows LookForDirective w = directive-ways (λ v. length (w .confirmed) ≤ length (v .confirmed)) w (omega arith) (λ b. omega arith) (w .fop .bcFrame)
-act-grows RemoveAcknowledgedFrames w = omega (arith, length-append (w .confirmed) (acknowledged (w .fop .nnr) (w .value) (w .fop .sentQueue)))
+act-grows LookForDirective w = directive-ways (λ v. length (w .confirmed) ≤ length (v .confirmed)) w (omega arith) (λ b. omega arith) (w .fop .queues .bcFrame)
+act-grows RemoveAcknowledgedFrames w = omega (arith, length-append (w .confirmed) (acknowledged (w .fop .numbers .nnr) (w .asked .value) (w .fop .queues .sentQueue)))
 act-grows InitiateAdRetransmission w = omega arith
 act-grows InitiateBcRetransmission w = omega arith
 act-grows ReleaseBcFrame w = omega arith
@@ -152,7 +154,7 @@ module _ (set : Settings) (σ : Session) (I : Inv set σ) (Q : Tidy (set .n) σ)
   reports = rw comes at (I .words)
 
   -- what it reports that is new
-  new-is : offset (w .nr) (σ .fop .nnr) ≡ reports .0 - length (σ .confirmed)
+  new-is : offset (w .nr) (σ .fop .numbers .nnr) ≡ reports .0 - length (σ .confirmed)
   new-is = omega (arith, lv set σ I sv, I .base, reports .1, reports .2, wds-le (set .n) (reports .0) _ ws (reports .4))
 
   most : length (σ .confirmed) + length ((fopWord w (σ .fop)) .confirmed) ≤ reports .0
@@ -161,16 +163,16 @@ module _ (set : Settings) (σ : Session) (I : Inv set σ) (Q : Tidy (set .n) σ)
       row-bound set σ word (reports .0) (wordEvent (seen w (σ .fop))) [] (w .nr) I (word-ok (seen w (σ .fop))) (reports .2)
       (reports .1, wds-le (set .n) (reports .0) _ ws (reports .4))
 
-  removed : length (acknowledged (σ .fop .nnr) (w .nr) (σ .fop .sentQueue)) ≡ offset (w .nr) (σ .fop .nnr)
+  removed : length (acknowledged (σ .fop .numbers .nnr) (w .nr) (σ .fop .queues .sentQueue)) ≡ offset (w .nr) (σ .fop .numbers .nnr)
   removed =
-      let ln = queue-length (length (σ .confirmed)) (σ .sent) [] (fdus (σ .fop .sentQueue)) (lv set σ I sv .cut) in
+      let ln = queue-length (length (σ .confirmed)) (σ .sent) [] (fdus (σ .fop .queues .sentQueue)) (lv set σ I sv .cut) in
       let a = acked set σ I sv (reports .0) (w .nr) (reports .2) (reports .1) (wds-le (set .n) (reports .0) (length (σ .accepted)) ws (reports .4)) in
-      ap length (a .0) ∙ length-take (offset (w .nr) (σ .fop .nnr)) (fdus (σ .fop .sentQueue))
+      ap length (a .0) ∙ length-take (offset (w .nr) (σ .fop .numbers .nnr)) (fdus (σ .fop .queues .sentQueue))
       ∙ omega (arith, new-is, ln, I .base, wds-le (set .n) (reports .0) _ ws (reports .4))
 
-  least : (b : Bool) → not (eqb (offset (w .nr) (σ .fop .nnr)) 0) ≡ b → offset (w .nr) (σ .fop .nnr) ≤ length ((fopWord w (σ .fop)) .confirmed)
+  least : (b : Bool) → not (eqb (offset (w .nr) (σ .fop .numbers .nnr)) 0) ≡ b → offset (w .nr) (σ .fop .numbers .nnr) ≤ length ((fopWord w (σ .fop)) .confirmed)
   unfolding fopWord fopDo removeAcknowledged
-  least false e = omega (arith, eqb-true (offset (w .nr) (σ .fop .nnr)) 0 (not-false _ e))
+  least false e = omega (arith, eqb-true (offset (w .nr) (σ .fop .numbers .nnr)) 0 (not-false _ e))
   least true e =
       let f = live-fits set σ I w ws (σ .fop .state) (lv set σ I sv) (rw comes at (Q .keys)) in
       let t = implied (fitting (σ .fop .state) (seen w (σ .fop))) _ (seen-at (removesAt (σ .fop .state)) (seen w (σ .fop))
@@ -186,5 +188,5 @@ module _ (set : Settings) (σ : Session) (I : Inv set σ) (Q : Tidy (set .n) σ)
   pub exact : w .nr ≡ advanced (set .n) (length (σ .confirmed) + length ((fopWord w (σ .fop)) .confirmed))
   exact =
       let c : reports .0 ≡ length (σ .confirmed) + length ((fopWord w (σ .fop)) .confirmed) =
-      omega (arith, most, least (not (eqb (offset (w .nr) (σ .fop .nnr)) 0)) refl, new-is, reports .2) in
+      omega (arith, most, least (not (eqb (offset (w .nr) (σ .fop .numbers .nnr)) 0)) refl, new-is, reports .2) in
       reports .1 ∙ ap (advanced (set .n)) c

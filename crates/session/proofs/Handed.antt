@@ -13,7 +13,9 @@ use borrow.Author.Tests.{eqb-true}
 use Rattle.base.specs.Choice.{pick}
 use Rattle.base.specs.Modulo.{offset, advanced}
 use Rattle.fop.specs.Units.{Fdu, Frame, AD, BD, Unlock, SetVR, Refused}
-use Rattle.fop.specs.Table.{State, S1, S2, S3, S4, S5, S6, Action, Cell, cell, NotApplicable, FopEvent, table78, cell78, Accept, Reject, Confirm, RejectAd}
+use Rattle.fop.specs.declared.State.{State}
+use Rattle.fop.specs.declared.State.the-variants.{S1, S2, S3, S4, S5, S6}
+use Rattle.fop.specs.Table.{Action, Cell, cell, NotApplicable, FopEvent, table78, cell78, Accept, Reject, Confirm, RejectAd}
 use Rattle.fop.specs.Table.{AcceptBd, RejectBd, AddToWaitQueue, LookForFdu, LookForDirective, RemoveAcknowledgedFrames, InitiateAdRetransmission, InitiateBcRetransmission}
 use Rattle.fop.specs.Table.{ReleaseBcFrame, CancelTimer, StartTimer, Alert, Initialise, TransmitUnlock, TransmitSetVr, TransmitBd, SetVs, SetNnr, SetK}
 use Rattle.fop.specs.Table.{SetT1Initial, SetTransmissionLimit, SetTimeoutType, AdOutReady, BcOutReady, BdOutReady}
@@ -82,22 +84,22 @@ module _ (n : ℕ) (P : Preset) (C : ℕ) (gone : List (Option ℕ)) (acc sent0 
       s : List Fdu
       s = addAll n sent0 (w .frames)
 
-      again : (u : Fdu) → firstMarked (w .fop .sentQueue) ≡ some u → D live (sendNext (some u) w)
+      again : (u : Fdu) → firstMarked (w .fop .queues .sentQueue) ≡ some u → D live (sendNext (some u) w)
       again u e =
-          let i = found (w .fop .sentQueue) u e in
-          let ln = queue-length C s (w .confirmed) (fdus (w .fop .sentQueue)) (h .1 .cut) in
+          let i = found (w .fop .queues .sentQueue) u e in
+          let ln = queue-length C s (w .confirmed) (fdus (w .fop .queues .sentQueue)) (h .1 .cut) in
           let j : ℕ = C + (length (w .confirmed) + i .0) in
           let b : j < length s = omega (arith, ln, i .1) in
-          let eu : u ≡ getD s j noUnit = i .2 ∙ queue-at C s (w .confirmed) (fdus (w .fop .sentQueue)) (h .1 .cut) (i .0) in
+          let eu : u ≡ getD s j noUnit = i .2 ∙ queue-at C s (w .confirmed) (fdus (w .fop .queues .sentQueue)) (h .1 .cut) (i .0) in
           let same : addAll n s (AD u ∷ []) ≡ s = same-sent n s u j (h .0 .num) b (omega (arith, h .0)) eu in (
             d .0,
             rw (addAll-append n sent0 (w .frames) (AD u ∷ []), same)
                 (from-append m0 C s (w .frames) (AD u ∷ []) (d .1) ((d .0, j, omega arith, b, eu), tt)),
           )
 
-      new : (o : List ℕ) → offset (w .fop .vs) (w .fop .nnr) < w .fop .preset .k → w .fop .waitQueue ≡ some o → D live (sendWaiting (some o) w)
+      new : (o : List ℕ) → offset (w .fop .numbers .vs) (w .fop .numbers .nnr) < w .fop .preset .k → w .fop .queues .waitQueue ≡ some o → D live (sendWaiting (some o) w)
       new o r e =
-          let u : Fdu = record { ns = w .fop .vs; octets = o } in
+          let u : Fdu = record { ns = w .fop .numbers .vs; octets = o } in
           let more : addAll n s (AD u ∷ []) ≡ s ++ (u ∷ []) = new-sent n s u (h .1 .isVs) in (
             d .0,
             rw (addAll-append n sent0 (w .frames) (AD u ∷ []), more)
@@ -108,8 +110,8 @@ module _ (n : ℕ) (P : Preset) (C : ℕ) (gone : List (Option ℕ)) (acc sent0 
   bd-from : (m : Mode) (w : Work) → D m w → D m (perform TransmitBd w)
   unfolding perform
   bd-from live w d =
-      (d .0, rw (addAll-append n sent0 (w .frames) (BD (w .octets) ∷ [])) (from-append m0 C _ (w .frames) (BD (w .octets) ∷ []) (d .1) tt))
-  bd-from dead w d = rw (addAll-append n sent0 (w .frames) (BD (w .octets) ∷ [])) (from-append m0 C _ (w .frames) (BD (w .octets) ∷ []) d tt)
+      (d .0, rw (addAll-append n sent0 (w .frames) (BD (w .asked .octets) ∷ [])) (from-append m0 C _ (w .frames) (BD (w .asked .octets) ∷ []) (d .1) tt))
+  bd-from dead w d = rw (addAll-append n sent0 (w .frames) (BD (w .asked .octets) ∷ [])) (from-append m0 C _ (w .frames) (BD (w .asked .octets) ∷ []) d tt)
   bd-from bad w d = tt
 
   purged : (w : Work) → From m0 C (addAll n sent0 (w .frames)) (w .frames) → From m0 C (addAll n sent0 ((purge w) .frames)) ((purge w) .frames)
@@ -221,7 +223,7 @@ module _ (set : Settings) (σ : Session) (I : Inv set σ) where
       (begin (some e) o v (σ .fop)) refl))
 
   -- a sender in service has denied nothing
-  serving : (s : State) → Side (modeOf s) (set .n) (length (σ .confirmed)) (σ .sent) (σ .denied) (fdus (σ .fop .sentQueue)) (σ .fop .vs) (σ .fop .nnr)
+  serving : (s : State) → Side (modeOf s) (set .n) (length (σ .confirmed)) (σ .sent) (σ .denied) (fdus (σ .fop .queues .sentQueue)) (σ .fop .numbers .vs) (σ .fop .numbers .nnr)
       → modeOf s ≡ live → σ .denied ≡ []
   serving S1 h e = h .fresh
   serving S2 h e = h .fresh

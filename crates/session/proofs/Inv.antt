@@ -17,7 +17,8 @@ use Rattle.fop.specs.Table.{FopEvent}
 use Rattle.fop.specs.Variables.{Fop, Work, Preset, begin, setClock}
 use Rattle.fop.specs.Machine.{fdus, fopDo}
 use Rattle.fop.specs.Events.{fopWord, fopAd, fopBd, fopTick, fopLower, fopDirective, directiveEvent, fopReceived, isEmpty, SenderEvent, requestAd}
-use Rattle.fop.specs.Events.{requestBd, lower, directive, wordArrives, work, Lower, seen}
+use Rattle.fop.specs.declared.Lower.{Lower}
+use Rattle.fop.specs.Events.{requestBd, lower, directive, wordArrives, work, seen}
 use Rattle.fop.specs.Answers.{judged, senderRefusal, needed}
 use Rattle.farm.specs.declared.State.{State as FarmState}
 use Rattle.farm.specs.declared.State.the-variants.{Open, Wait, Lockout}
@@ -64,9 +65,9 @@ pub record Rcv (set : Settings) (v : Variables) (A D : ℕ) : Type 0 where
 -- the invariant; it knows nothing of buffers
 pub record Inv (set : Settings) (σ : Session) : Type 0 where
   pub base : Base (set .n) (set .k) (length (σ .confirmed)) (σ .accepted) (σ .sent) (σ .frames) []
-  pub side : Side (modeOf (σ .fop .state)) (set .n) (length (σ .confirmed)) (σ .sent) (σ .denied) (fdus (σ .fop .sentQueue)) (σ .fop .vs) (σ .fop .nnr)
+  pub side : Side (modeOf (σ .fop .state)) (set .n) (length (σ .confirmed)) (σ .sent) (σ .denied) (fdus (σ .fop .queues .sentQueue)) (σ .fop .numbers .vs) (σ .fop .numbers .nnr)
   pub isSet : σ .fop .preset ≡ presetOf set
-  pub waiting : WaitOk (σ .fop .waitQueue)
+  pub waiting : WaitOk (σ .fop .queues .waitQueue)
   pub places : σ .confirmed ≡ iota 0 (length (σ .confirmed))
   pub words : Wds (set .n) (length (σ .confirmed)) (length (σ .accepted)) (σ .words)
   pub receiver : Rcv set (σ .farm) (length (σ .accepted)) (length (σ .acceptedBd))
@@ -158,9 +159,9 @@ answered-keeps set σ ws given a w I g h ww =
     let C : ℕ = length (σ .confirmed) in
     let s : List Fdu = addAll (set .n) (σ .sent) (w .frames) in
     let b : Left (set .n) (presetOf set) (length (σ .confirmed)) (σ .accepted) a (addAll (set .n) (σ .sent) (w .frames)) (σ .frames ++ w .frames)
-    (w .confirmed) (w .fop .preset) (w .fop .waitQueue) =
-    base-of (modeOf (w .fop .state)) n P C (σ .denied) (σ .accepted) given a s (σ .frames ++ w .frames) (w .confirmed) (w .denied) (fdus (w .fop .sentQueue))
-    (w .fop .vs) (w .fop .nnr) (w .fop .preset) (w .value) (w .fop .waitQueue) (w .octets) g h in
+    (w .confirmed) (w .fop .preset) (w .fop .queues .waitQueue) =
+    base-of (modeOf (w .fop .state)) n P C (σ .denied) (σ .accepted) given a s (σ .frames ++ w .frames) (w .confirmed) (w .denied) (fdus (w .fop .queues .sentQueue))
+    (w .fop .numbers .vs) (w .fop .numbers .nnr) (w .fop .preset) (w .asked .value) (w .fop .queues .waitQueue) (w .asked .octets) g h in
     let most = b .most in
     let wide : length (addAll (set .n) (σ .sent) (w .frames)) ≤ length (σ .confirmed) + 0 + 256 = omega (arith, b .base, I .base) in
     let p0 : places (addAll (set .n) (σ .sent) (w .frames)) (firstOf (w .confirmed)) (length (w .confirmed))
@@ -173,8 +174,8 @@ answered-keeps set σ ws given a w I g h ww =
     record {
       base = rebase n (set .k) C _ (σ .accepted) s (σ .frames ++ w .frames) (w .confirmed) D (b .base);
       side = leave (modeOf (w .fop .state)) n P C _ (σ .denied) (σ .accepted) given a s (σ .frames ++ w .frames) (w .confirmed) (w .denied)
-          (fdus (w .fop .sentQueue))
-          (w .fop .vs) (w .fop .nnr) (w .fop .preset) (w .value) (w .fop .waitQueue) (w .octets) D g h;
+          (fdus (w .fop .queues .sentQueue))
+          (w .fop .numbers .vs) (w .fop .numbers .nnr) (w .fop .preset) (w .asked .value) (w .fop .queues .waitQueue) (w .asked .octets) D g h;
       isSet = b .isSet;
       waiting = b .waiting;
       places = conf-iota (σ .confirmed) _ (length (w .confirmed)) (I .places) p;
@@ -196,7 +197,7 @@ module _ (set : Settings) (σ : Session) (I : Inv set σ) (given : Given) (a : �
   pub row-begins : (e : Option FopEvent) → W (modeOf (σ .fop .state)) (begin e o v (σ .fop))
   row-begins e =
       enter (modeOf (σ .fop .state)) (set .n) (presetOf set) _ (σ .accepted) (σ .sent) (σ .frames) (σ .denied) _ _ _ (σ .fop .preset) given a v
-      (σ .fop .waitQueue) o (I .base) (I .side) l rp (I .isSet) (I .waiting)
+      (σ .fop .queues .waitQueue) o (I .base) (I .side) l rp (I .isSet) (I .waiting)
 
   row-does : (e : FopEvent) → T (rowOk given e) → W (modeOf ((fopDo e o v (σ .fop)) .fop .state)) (fopDo e o v (σ .fop))
   row-does e t =
@@ -217,7 +218,7 @@ pub row-bound : (set : Settings) (σ : Session) (given : Given) (a : ℕ) (e : F
 row-bound set σ given a e o v I t l rp =
     let w : Work = fopDo e o v (σ .fop) in
     base-of (modeOf (w .fop .state)) (set .n) (presetOf set) (length (σ .confirmed)) (σ .denied) (σ .accepted) given a _ _ _ _ _ _ _
-    (w .fop .preset) (w .value) (w .fop .waitQueue) (w .octets) (do-sound given e o v (σ .fop) t (in-mode set σ I)) (row-does set σ I given a o v l rp e t)
+    (w .fop .preset) (w .asked .value) (w .fop .queues .waitQueue) (w .asked .octets) (do-sound given e o v (σ .fop) t (in-mode set σ I)) (row-does set σ I given a o v l rp e t)
     .most
 
 -- The events of the sender, each by its rows. `work` is what the table does, whether or not the event is then refused.
@@ -307,7 +308,7 @@ sender-keeps set e lent σ I h =
 
 pub ad-keeps : (set : Settings) (lent : ℕ) (o : List ℕ) (σ : Session) → Inv set σ → Inv set (sender set (requestAd o) lent σ)
 unfolding fopAd judged work
-ad-keeps set lent o σ I = sender-keeps set (requestAd o) lent σ I (λ j. plain-keeps set σ unit _ o 0 I (ad-ok (isEmpty (σ .fop .waitQueue))) (legal-of o j))
+ad-keeps set lent o σ I = sender-keeps set (requestAd o) lent σ I (λ j. plain-keeps set σ unit _ o 0 I (ad-ok (isEmpty (σ .fop .queues .waitQueue))) (legal-of o j))
 
 pub bd-keeps : (set : Settings) (lent : ℕ) (o : List ℕ) (σ : Session) → Inv set σ → Inv set (sender set (requestBd o) lent σ)
 unfolding fopBd judged work

@@ -8,13 +8,15 @@ use mathlib.Core.Option.{Option, none, some}
 use Prim.Native.Nat.{ℕ}
 use lib.Dec.{eqb, T}
 use Rattle.fop.specs.Units.{Frame, AD, BD, Unlock, SetVR, Refused, Word}
-use Rattle.fop.specs.Table.{State, Action, Cell, cell, ifNotSuspended, NotApplicable, FopEvent, table78, cell78, Ignore, Accept, Reject, Confirm}
+use Rattle.fop.specs.declared.State.{State}
+use Rattle.fop.specs.Table.{Action, Cell, cell, ifNotSuspended, NotApplicable, FopEvent, table78, cell78, Ignore, Accept, Reject, Confirm}
 use Rattle.fop.specs.Table.{RejectAd, AcceptBd, RejectBd, AddToWaitQueue, LookForFdu, LookForDirective, RemoveAcknowledgedFrames, InitiateAdRetransmission}
 use Rattle.fop.specs.Table.{InitiateBcRetransmission, ReleaseBcFrame, CancelTimer, StartTimer, Alert, Initialise, TransmitUnlock, TransmitSetVr, TransmitBd, SetSuspendState}
 use Rattle.fop.specs.Table.{Suspend, Resume, SetVs, SetNnr, SetK, SetT1Initial, SetTransmissionLimit, SetTimeoutType, AdOutReady, BcOutReady, BdOutReady}
 use Rattle.fop.specs.Variables.{Fop, Work, begin}
 use Rattle.fop.specs.Machine.{perform, performAll, performCell, removeAcknowledged, transmitBc, fopDo}
-use Rattle.fop.specs.Events.{when, wordLines, wordEvent, seen, fopWord, fopAd, fopBd, isEmpty, fopTick, fopLower, Lower, fopDirective, directiveEvent}
+use Rattle.fop.specs.declared.Lower.{Lower}
+use Rattle.fop.specs.Events.{when, wordLines, wordEvent, seen, fopWord, fopAd, fopBd, isEmpty, fopTick, fopLower, fopDirective, directiveEvent}
 use Rattle.session.specs.Claims.{serves}
 use Rattle.session.proofs.Test.{first-all, lower-all, lowered, tick-ways, Keeps, allKeep, all-keep}
 use Rattle.session.proofs.Rows.{atAll, at-cell, modeOf, sound}
@@ -58,8 +60,8 @@ withoutAd StartTimer = some (λ w h. h)
 withoutAd (Alert r) = some (λ w h. rw (purge-few w) h)
 withoutAd Initialise = some (λ w h. rw (purge-few w) h)
 withoutAd TransmitUnlock = some (λ w h. none-more (w .frames) (Unlock ∷ []) h tt)
-withoutAd TransmitSetVr = some (λ w h. none-more (w .frames) (SetVR (w .value) ∷ []) h tt)
-withoutAd TransmitBd = some (λ w h. none-more (w .frames) (BD (w .octets) ∷ []) h tt)
+withoutAd TransmitSetVr = some (λ w h. none-more (w .frames) (SetVR (w .asked .value) ∷ []) h tt)
+withoutAd TransmitBd = some (λ w h. none-more (w .frames) (BD (w .asked .octets) ∷ []) h tt)
 withoutAd (SetSuspendState n) = some (λ w h. h)
 withoutAd Suspend = some (λ w h. h)
 withoutAd Resume = some (λ w h. h)
@@ -111,7 +113,7 @@ module _ (f : Fop) (g : T (sound (modeOf (f .state)))) where
 
   pub ad-serving : (o : List ℕ) → Serving (fopAd o f)
   unfolding fopAd table78 withoutAd
-  ad-serving o = do-serving _ o 0 f (first-all rowServing (when (isEmpty (f .waitQueue)) FopEvent.E19 ∷ []) FopEvent.E20 tt) g
+  ad-serving o = do-serving _ o 0 f (first-all rowServing (when (isEmpty (f .queues .waitQueue)) FopEvent.E19 ∷ []) FopEvent.E20 tt) g
 
   pub bd-serving : (o : List ℕ) → Serving (fopBd o f)
   unfolding fopBd table78 withoutAd

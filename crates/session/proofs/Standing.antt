@@ -10,7 +10,8 @@ use native.Mathlib.Nat.{zero-add}
 use native.Mathlib.Omega.{arith}
 use lib.ListN.{length, drop, length-drop}
 use lib.Seq.{take-all, take-length}
-use Rattle.fop.specs.Table.{State, S1, S2, S3, S4, S5, S6}
+use Rattle.fop.specs.declared.State.{State}
+use Rattle.fop.specs.declared.State.the-variants.{S1, S2, S3, S4, S5, S6}
 use Rattle.fop.specs.Machine.{fdus}
 use Rattle.session.specs.Ends.{Settings}
 use Rattle.session.specs.Claims.{unitsAt, outstanding, remaining, BufferFree}
@@ -36,11 +37,11 @@ module _ (set : Settings) (κ : Session) (I : Inv set κ) where
   low = omega (arith, I .base)
 
   -- out of service
-  pub initial-denied : (s : State) → Side (modeOf s) (set .n) (length (κ .confirmed)) (κ .sent) (κ .denied) (fdus (κ .fop .sentQueue)) (κ .fop .vs) (κ .fop .nnr) → s ≡ S6
+  pub initial-denied : (s : State) → Side (modeOf s) (set .n) (length (κ .confirmed)) (κ .sent) (κ .denied) (fdus (κ .fop .queues .sentQueue)) (κ .fop .numbers .vs) (κ .fop .numbers .nnr) → s ≡ S6
       → κ .denied ≡ iota (length (κ .confirmed)) (length (κ .sent) - length (κ .confirmed))
   initial-denied s h e =
-      let d : Dead (length (κ .confirmed)) (κ .denied) (κ .sent) [] [] (fdus (κ .fop .sentQueue)) =
-      subst (λ (x : State). Side (modeOf x) (set .n) (length (κ .confirmed)) (κ .sent) (κ .denied) (fdus (κ .fop .sentQueue)) (κ .fop .vs) (κ .fop .nnr)) e h in
+      let d : Dead (length (κ .confirmed)) (κ .denied) (κ .sent) [] [] (fdus (κ .fop .queues .sentQueue)) =
+      subst (λ (x : State). Side (modeOf x) (set .n) (length (κ .confirmed)) (κ .sent) (κ .denied) (fdus (κ .fop .queues .sentQueue)) (κ .fop .numbers .vs) (κ .fop .numbers .nnr)) e h in
       let a : length (d .after) ≡ length (κ .sent) - length (κ .confirmed) = ap length (d .cut) ∙ length-drop (length (κ .confirmed)) (κ .sent) in
       let z : length (κ .confirmed) + 0 ≡ length (κ .confirmed) = omega arith in
       sym (append-nil (κ .denied)) ∙ d .denied ∙ rw (a, z)
@@ -55,7 +56,7 @@ module _ (set : Settings) (κ : Session) (I : Inv set κ) where
       ∙ iota-append 0 (length (κ .confirmed)) (length (κ .sent) - length (κ .confirmed)) ∙ ap (iota 0) z in
       ap (unitsAt (κ .sent)) e ∙ units-iota (κ .sent) 0 (length (κ .sent)) (omega arith) ∙ ap (map some) (take-length (κ .sent))
 
-  pub state-is : (s : State) → Side (modeOf s) (set .n) (length (κ .confirmed)) (κ .sent) (κ .denied) (fdus (κ .fop .sentQueue)) (κ .fop .vs) (κ .fop .nnr)
+  pub state-is : (s : State) → Side (modeOf s) (set .n) (length (κ .confirmed)) (κ .sent) (κ .denied) (fdus (κ .fop .queues .sentQueue)) (κ .fop .numbers .vs) (κ .fop .numbers .nnr)
       → (inService s ≡ true) ⊎ (s ≡ S6)
   state-is S1 h = inl refl
   state-is S2 h = inl refl
@@ -81,7 +82,7 @@ module _ (set : Settings) (κ : Session) (I : Inv set κ) where
       let l = lv set κ I e in
       ap (λ (x : List (Option ℕ)). unitsAt (κ .sent) (κ .confirmed ++ x)) (ap somes (out-is set κ I (l .fresh)) ∙ somes-nums C (S - C)) ∙ all-units
 
-  pub queued : inService (κ .fop .state) ≡ true → fdus (κ .fop .sentQueue) ≡ unitsOf (κ .sent) (outstanding (historyOf κ))
+  pub queued : inService (κ .fop .state) ≡ true → fdus (κ .fop .queues .sentQueue) ≡ unitsOf (κ .sent) (outstanding (historyOf κ))
   queued e =
       let l = lv set κ I e in
       let lo = low in

@@ -11,7 +11,9 @@ use native.Mathlib.Omega.{arith}
 use lib.ListN.{length, getD}
 use Rattle.base.specs.Modulo.{advanced}
 use Rattle.fop.specs.Units.{Fdu, Frame, AD, BD, Word, valid, written, wordOctets, readWord}
-use Rattle.fop.specs.Table.{State, S1, S2, S3, S4, S5, S6, FopEvent}
+use Rattle.fop.specs.declared.State.{State}
+use Rattle.fop.specs.declared.State.the-variants.{S1, S2, S3, S4, S5, S6}
+use Rattle.fop.specs.Table.{FopEvent}
 use Rattle.fop.specs.Variables.{Fop, Work}
 use Rattle.fop.specs.Machine.{fdus}
 use Rattle.fop.specs.Events.{fopTick, first, when, fopAd, fopBd, fopLower, fopDirective, directiveEvent, isEmpty, lowerEvent, wordEvent, seen}
@@ -86,8 +88,8 @@ module _ (set : Settings) (vw : Within set) (m : Ends) (t : Tied set m) (σ : Li
   unfolding work judged fopAd fopBd fopLower fopDirective directiveEvent fopWord core.wordCome core.channels
   given-by (requestAd o) lent h g = (
     reads-of set (requestAd o) lent κ g (ad-keeps set lent o κ I),
-    row-from set κ I unit (length (κ .confirmed)) (first (when (isEmpty (κ .fop .waitQueue)) FopEvent.E19 ∷ []) FopEvent.E20) o 0
-        (ad-ok (isEmpty (κ .fop .waitQueue))) (omega arith) (legal-of o (fit (set .own) (requestAd o) lent (κ .fop) g .0)),
+    row-from set κ I unit (length (κ .confirmed)) (first (when (isEmpty (κ .fop .queues .waitQueue)) FopEvent.E19 ∷ []) FopEvent.E20) o 0
+        (ad-ok (isEmpty (κ .fop .queues .waitQueue))) (omega arith) (legal-of o (fit (set .own) (requestAd o) lent (κ .fop) g .0)),
   )
   given-by (requestBd o) lent h g = (
     reads-of set (requestBd o) lent κ g (bd-keeps set lent o κ I),
@@ -157,7 +159,7 @@ module _ (set : Settings) (vw : Within set) (m : Ends) (t : Tied set m) (σ : Li
       let k = given-by e lent h g in
       let w = work (set .own) e (κ .fop) in
       let f : w .frames ≡ AD u ∷ [] = down-is (w .frames) o u (work-few (set .own) e (κ .fop)) (k .0) x q in
-      let r : Run (κ .fop .vs) (AD u ∷ []) (w .fop .vs) = subst (λ (fs : List Frame). Run (κ .fop .vs) fs (w .fop .vs)) f (work-once (set .own) (σ .words) e (κ .fop) h (O l) .1) in
+      let r : Run (κ .fop .numbers .vs) (AD u ∷ []) (w .fop .numbers .vs) = subst (λ (fs : List Frame). Run (κ .fop .numbers .vs) fs (w .fop .numbers .vs)) f (work-once (set .own) (σ .words) e (κ .fop) h (O l) .1) in
       let s : SentFrom (AD u ∷ []) = subst SentFrom f (k .1) in
       r .0 ∙ lv set κ I (live-serves (κ .fop .state) (s .0 .0)) .isVs)
       (λ x. absurd (none-some x)) d
@@ -206,7 +208,7 @@ module _ (set : Settings) (vw : Within set) (m : Ends) (t : Tied set m) (σ : Li
         atMostK = by (λ h. length (outstanding h) ≤ set .k) (at-most set κ I);
         standing = λ e. by (λ h. unitsAt (h .sent) (h .confirmed ++ somes (outstanding h)) ≡ map some (h .sent))
             (standing set κ I (ap inService (sym st-is) ∙ e));
-        queue = λ e. ap (λ (f : Fop). fdus (f .sentQueue)) (G .fop) ∙ by (λ h. fdus (κ .fop .sentQueue) ≡ unitsOf (h .sent) (outstanding h))
+        queue = λ e. ap (λ (f : Fop). fdus (f .queues .sentQueue)) (G .fop) ∙ by (λ h. fdus (κ .fop .queues .sentQueue) ≡ unitsOf (h .sent) (outstanding h))
             (queued set κ I (ap inService (sym st-is) ∙ e));
         undenied = λ e. by (λ h. h .denied ≡ []) (lv set κ I (ap inService (sym st-is) ∙ e) .fresh);
         initial = λ e. by (λ h. unitsAt (h .sent) (h .confirmed ++ h .denied) ≡ map some (h .sent))

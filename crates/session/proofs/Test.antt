@@ -7,10 +7,13 @@ use mathlib.Core.List.{List, [], _∷_}
 use mathlib.Core.Option.{Option, none, some}
 use Prim.Native.Nat.{_-_}
 use lib.Dec.{T, ltb, eqb}
-use Rattle.fop.specs.Table.{State, S1, S2, S3, S4, S5, S6, Action, Cell, Row, row, cell78, FopEvent, E16, E17, E18, E41, E42, E43, E44, E45, E46}
+use Rattle.fop.specs.declared.State.{State}
+use Rattle.fop.specs.declared.State.the-variants.{S1, S2, S3, S4, S5, S6}
+use Rattle.fop.specs.Table.{Action, Cell, Row, row, cell78, FopEvent, E16, E17, E18, E41, E42, E43, E44, E45, E46}
 use Rattle.fop.specs.Variables.{Fop, Work, begin, setClock}
 use Rattle.fop.specs.Machine.{perform, performAll, fopDo}
-use Rattle.fop.specs.Events.{Line, when, first, expiryLines, fopExpiry, fopTick, Lower, lowerEvent}
+use Rattle.fop.specs.declared.Lower.{Lower}
+use Rattle.fop.specs.Events.{Line, when, first, expiryLines, fopExpiry, fopTick, lowerEvent}
 use Rattle.session.proofs.Choices.{and-l, and-r, by-pick}
 
 -- every cell of a row
@@ -42,12 +45,12 @@ first-all t (when c x ∷ more) e h =
 
 -- the answers of the lower layer
 pub lower-all : (t : FopEvent → Bool) → T (t E41 && (t E42 && (t E43 && (t E44 && (t E45 && t E46))))) → (l : Lower) → T (t (lowerEvent l))
-lower-all t h Lower.adAccept = and-l (t E41) _ h
-lower-all t h Lower.adReject = and-l (t E42) _ (and-r (t E41) _ h)
-lower-all t h Lower.bcAccept = and-l (t E43) _ (and-r (t E42) _ (and-r (t E41) _ h))
-lower-all t h Lower.bcReject = and-l (t E44) _ (and-r (t E43) _ (and-r (t E42) _ (and-r (t E41) _ h)))
-lower-all t h Lower.bdAccept = and-l (t E45) _ (and-r (t E44) _ (and-r (t E43) _ (and-r (t E42) _ (and-r (t E41) _ h))))
-lower-all t h Lower.bdReject = and-r (t E45) _ (and-r (t E44) _ (and-r (t E43) _ (and-r (t E42) _ (and-r (t E41) _ h))))
+lower-all t h Lower.AdAccept = and-l (t E41) _ h
+lower-all t h Lower.AdReject = and-l (t E42) _ (and-r (t E41) _ h)
+lower-all t h Lower.BcAccept = and-l (t E43) _ (and-r (t E42) _ (and-r (t E41) _ h))
+lower-all t h Lower.BcReject = and-l (t E44) _ (and-r (t E43) _ (and-r (t E42) _ (and-r (t E41) _ h)))
+lower-all t h Lower.BdAccept = and-l (t E45) _ (and-r (t E44) _ (and-r (t E43) _ (and-r (t E42) _ (and-r (t E41) _ h))))
+lower-all t h Lower.BdReject = and-r (t E45) _ (and-r (t E44) _ (and-r (t E43) _ (and-r (t E42) _ (and-r (t E41) _ h))))
 
 -- the expiry of the timer, at Timeout_Type 0
 expiry-all : (t : FopEvent → Bool) → T (t E16 && t E17) → (short alerting : Bool) → alerting ≡ true → T (t (first (expiryLines short alerting) E18))

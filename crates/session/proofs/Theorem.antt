@@ -16,7 +16,8 @@ use lib.ListN.{length, take, drop, getD, take-append-drop}
 use lib.Seq.{take-take}
 use Rattle.fop.specs.Units.{Fdu, Frame, AD, Word, valid, written, wordOctets, readWord}
 use Rattle.fop.specs.Variables.{Fop}
-use Rattle.fop.specs.Events.{SenderEvent, requestAd, lower, adAccept, wordArrives}
+use Rattle.fop.specs.declared.Lower.the-variants.{AdAccept}
+use Rattle.fop.specs.Events.{SenderEvent, requestAd, lower, wordArrives}
 use Rattle.fop.specs.Answers.{needed}
 use Rattle.farm.specs.declared.Receiver.{Receiver}
 use Rattle.farm.specs.declared.State.the-variants.{Open}
@@ -151,11 +152,11 @@ module _ (set : Settings) (vw : Within set) (m : Ends) (t : Tied set m) (σ : Li
             (sends (adRequest o lent) _ (offers set κ I o lent g (lent-is (requestAd o) lent r) (rw (G .fop) at a) (rw (G .fop) at b)
             (rw (G .fop) at c) (rw (G .fop) at d) (rw (R .history) at k)));
         readyAgain = λ u lent r a b.
-            resends (lowerSays adAccept lent) u (ready-again set κ I u lent (lent-is (lower adAccept) lent r) (rw (G .fop) at a) (rw (G .fop) at b));
+            resends (lowerSays AdAccept lent) u (ready-again set κ I u lent (lent-is (lower AdAccept) lent r) (rw (G .fop) at a) (rw (G .fop) at b));
         readyNew = λ o lent r a b k w.
-            by (λ h. Sends set (nextUnit set h o) σ (ses.step set m (lowerSays adAccept lent) σ))
-            (sends (lowerSays adAccept lent) _
-            (ready-new set κ I o lent (lent-is (lower adAccept) lent r) (rw (G .fop) at a) (rw (G .fop) at b) (rw (R .history) at k) (rw (G .fop) at w)));
+            by (λ h. Sends set (nextUnit set h o) σ (ses.step set m (lowerSays AdAccept lent) σ))
+            (sends (lowerSays AdAccept lent) _
+            (ready-new set κ I o lent (lent-is (lower AdAccept) lent r) (rw (G .fop) at a) (rw (G .fop) at b) (rw (R .history) at k) (rw (G .fop) at w)));
         expires = λ i lent r a b c o.
             by (λ h. Resends set (getD (h .sent) i noUnit) σ (ses.step set m (ticks lent) σ)
             ⊎ Marked (getD (h .sent) i noUnit) ((ses.step set (tables set) (ticks lent) γ) .sender))

@@ -11,11 +11,13 @@ use lib.ListN.{length, length-append}
 use Rattle.base.specs.Choice.{pick}
 use Rattle.base.specs.Modulo.{advanced}
 use Rattle.fop.specs.Units.{Fdu, Frame, AD, BD, Unlock, SetVR, Refused, Word, wordOctets}
-use Rattle.fop.specs.Table.{State, Cell, cell, NotApplicable, FopEvent, table78, cell78}
+use Rattle.fop.specs.declared.State.{State}
+use Rattle.fop.specs.Table.{Cell, cell, NotApplicable, FopEvent, table78, cell78}
 use Rattle.fop.specs.Variables.{Work, begin}
 use Rattle.fop.specs.Machine.{fopDo, performCell, performAll, perform}
 use Rattle.fop.specs.Events.{Seen, seen, wordEvent, fopWord, fopTick, fopAd, fopBd, fopLower, fopDirective, directiveEvent}
-use Rattle.fop.specs.Events.{when, first, Lower, lowerEvent, isEmpty, SenderEvent, requestAd, requestBd, lower, directive, wordArrives, work}
+use Rattle.fop.specs.declared.Lower.{Lower}
+use Rattle.fop.specs.Events.{when, first, lowerEvent, isEmpty, SenderEvent, requestAd, requestBd, lower, directive, wordArrives, work}
 use Rattle.fop.specs.Answers.{judged}
 use Rattle.session.specs.Receiver.{wordLength}
 use Rattle.session.specs.Ends.{Settings, Within, startSender, startReceiver}
@@ -296,8 +298,8 @@ pub step-tidy : (set : Settings) → Within set → (e : Event) (σ : Session) �
 unfolding step stepWith releases work judged fopAd fopBd fopLower fopDirective directiveEvent channels
 step-tidy set vw (adRequest o lent) σ I t =
     sender-tidy set (requestAd o) lent σ t
-    (λ j. plain-tidy set σ unit (first (when (isEmpty (σ .fop .waitQueue)) FopEvent.E19 ∷ []) FopEvent.E20) o 0 I t
-    (ad-ok (isEmpty (σ .fop .waitQueue))) (ad-holds (isEmpty (σ .fop .waitQueue))) (legal-of o j))
+    (λ j. plain-tidy set σ unit (first (when (isEmpty (σ .fop .queues .waitQueue)) FopEvent.E19 ∷ []) FopEvent.E20) o 0 I t
+    (ad-ok (isEmpty (σ .fop .queues .waitQueue))) (ad-holds (isEmpty (σ .fop .queues .waitQueue))) (legal-of o j))
 step-tidy set vw (bdRequest o lent) σ I t =
     sender-tidy set (requestBd o) lent σ t
     (λ j. plain-tidy set σ unit (first (when (σ .fop .out .bd) FopEvent.E21 ∷ []) FopEvent.E22) o 0 I t (bd-ok (σ .fop .out .bd))

@@ -19,13 +19,18 @@ use Rattle.farm.specs.declared.Event.{Event as FarmEvent}
 use Rattle.farm.specs.declared.Receiver.{Receiver}
 use Rattle.fop.specs.Units as units
 use Rattle.fop.specs.Table as table
-use Rattle.fop.specs.Table.{State, Reason, FopEvent}
-use Rattle.fop.specs.Variables.{Fop, Response}
+use Rattle.fop.specs.declared.Alert.{Alert}
+use Rattle.fop.specs.declared.Alert.the-variants.{None}
+use Rattle.fop.specs.declared.State.{State}
+use Rattle.fop.specs.Table.{FopEvent}
+use Rattle.fop.specs.declared.Response.{Response}
+use Rattle.fop.specs.Variables.{Fop}
 use Rattle.fop.specs.Machine as machine
 use Rattle.fop.specs.Events as events
 use Rattle.fop.specs.Events.{requestAd, requestBd, tick, lower, directive, wordArrives}
 use Rattle.fop.specs.Answers as answers
-use Rattle.fop.specs.Answers.{Answer, Run, senderAnswer}
+use Rattle.fop.specs.declared.Run.{Run}
+use Rattle.fop.specs.Answers.{Answer, senderAnswer}
 use Rattle.session.specs.Frames as frames
 use Rattle.session.specs.Receiver as rcv
 use Rattle.session.specs.Receiver.{frameArrives, releaseBuffer, ReceiverAnswer, receiverAnswer}
@@ -103,7 +108,7 @@ answering e s = record {
   down = none;
   abort = false;
   responses = [];
-  alert = none;
+  alert = None;
   suspended = false;
   confirmed = nothing;
   denied = nothing;
@@ -116,7 +121,7 @@ abbrev pub noEvent : State → Answer
 noEvent s = answering none s
 
 -- the same answer but for the frame, the abort, the responses, the alert and the runs
-abbrev telling : Option (List ℕ) → Bool → List Response → Option Reason → Run → Run → Answer → Answer
+abbrev telling : Option (List ℕ) → Bool → List Response → Alert → Run → Run → Answer → Answer
 telling d b r l c n a = record {
   refusal = a .refusal;
   event = a .event;
@@ -152,8 +157,8 @@ aborting a = telling (a .down) true (a .responses) (a .alert) (a .confirmed) (a 
 abbrev pub responding : List Response → Answer → Answer
 responding r a = telling (a .down) (a .abort) r (a .alert) (a .confirmed) (a .denied) a
 
-abbrev pub alerting : Reason → Answer → Answer
-alerting r a = telling (a .down) (a .abort) (a .responses) (some r) (a .confirmed) (a .denied) a
+abbrev pub alerting : Alert → Answer → Answer
+alerting r a = telling (a .down) (a .abort) (a .responses) r (a .confirmed) (a .denied) a
 
 -- the receiver's: an event that hands out no unit, and one that does
 abbrev pub discarding : FarmEvent → ReceiverAnswer

@@ -5,7 +5,7 @@ use Prim.Native.Nat.{ℕ, _/_, _%_, _≤_}
 use Rattle.base.specs.Limits.{largestSpacecraft, largestChannel}
 use Rattle.fop.specs.Limits.{largestK, largestTransmissionLimit, largestTimer, largestNumber}
 use Rattle.fop.specs.Units.{Own}
-use Rattle.fop.specs.Table.{S1}
+use Rattle.fop.specs.declared.State.the-variants.{S1}
 use Rattle.fop.specs.Variables.{Fop, atStart, setState, setClock}
 use Rattle.fop.specs.Events.{SenderEvent}
 use Rattle.fop.specs.Answers.{Answer, senderNext, senderAnswer}

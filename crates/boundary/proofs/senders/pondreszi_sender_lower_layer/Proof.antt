@@ -2,7 +2,7 @@
 use borrow.Author.Needs.{needs}
 use mathlib.Core.Path.{sym, ap}
 use native.Mathlib.Omega.{arith}
-use Rattle.fop_events.specs.declared.Lower.{Lower}
+use Rattle.fop.specs.declared.Lower.{Lower}
 use Rattle.sender.specs.Events.{lowerLayerOf}
 use Rattle.sender.proofs.Steps.{same-step}
 use Rattle.boundary.specs.Senders.{lowerNumbered}

@@ -1,6 +1,6 @@
 -- Each way through the function is a case of the definition.
 use mathlib.Core.Path.{_≡_}
-use Rattle.fop_actions.specs.declared.Response.the-variants.{DenyDirective}
+use Rattle.fop.specs.declared.Response.the-variants.{DenyDirective}
 use Rattle.fop_actions.specs.Actions.{denyControl, respond}
 use Rattle.fop_actions.proofs.Ways.{deny-none}
 use borrow.Author.Needs.{needs}
