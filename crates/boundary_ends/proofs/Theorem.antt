@@ -6,7 +6,7 @@ use mathlib.Core.Path.{_≡_, refl, sym, ap, subst, _∙_}
 use mathlib.Core.Bool.{Bool}
 use mathlib.Core.List.{List, _++_, append-nil}
 use native.Mathlib.Omega.{arith}
-use borrow.Author.Tests.{le-leb}
+use borrow.Author.Tests.{le-leb, eq-eqb}
 use lib.ListN.{length, drop, drop-of-length-le}
 use Rattle.base.specs.Choice.{must}
 use Rattle.base.specs.Limits.{largestSpacecraft, largestChannel}
@@ -82,12 +82,13 @@ module _ (set : Settings) (within : Within set) (store : List ℕ) (long : small
         le-leb (set .k) largestK (within .windowMost),
         le-leb 1 (set .t1) (within .timerLeast),
         le-leb 1 (set .limit) (within .limitLeast),
+        eq-eqb (set .timeoutType) 0 (omega (arith, within .timeoutMost)),
         le-leb (set .own .spacecraft) largestSpacecraft (within .spacecraft),
         le-leb (set .own .channel) largestChannel (within .channel),
         le-leb smallestStore (length store) long,
       )
 
-  given : sender.startGiven (set .k) (set .t1) (set .limit) 0 (set .own .spacecraft) (set .own .channel) (set .n) (set .n) (length store)
+  given : sender.startGiven (set .k) (set .t1) (set .limit) (set .timeoutType) (set .own .spacecraft) (set .own .channel) (set .n) (set .n) (length store)
       ≡ record { refusal = 0; sender = record { fop = first } }
   unfolding sender.startGiven
   given =

@@ -16,7 +16,7 @@ use Rattle.boundary_ends.specs.Called.{Kept, callOf, keptAfter, BeginsKe
 -- a new sender with the settings of a session, one number for V(S) and NN(R)
 abbrev pub newSender : Settings → List ℕ → List ℕ → sender.New
 newSender set store buffer =
-    sender.newCall (set .k) (set .t1) (set .limit) 0 (set .own .spacecraft) (set .own .channel) (set .n) (set .n) store buffer
+    sender.newCall (set .k) (set .t1) (set .limit) (set .timeoutType) (set .own .spacecraft) (set .own .channel) (set .n) (set .n) store buffer
 
 -- what its caller keeps
 abbrev pub newKept : Settings → List ℕ → List ℕ → Kept

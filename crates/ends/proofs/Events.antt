@@ -122,7 +122,7 @@ module _ (own : Own) (s : SenderState) (store : List ℕ) (lent : ℕ) (good : G
   directive-valid d v t =
       agreed own lent (directive d v) f (directiveOf d v s store output) (yes _ _ _ t)
       (subst (λ (x : Step). Agrees own lent f (fopDo (directiveEvent d v (variablesOf s)) [] v f) x) (sym (no _ _ _ (valid-not-40 d v s t)))
-      (by-row (directiveEvent d v (variablesOf s)) v s good (directive-meets d v s t (good .serving)) refl (directive-plain d v)))
+      (by-row (directiveEvent d v (variablesOf s)) v s good (directive-meets d v s t (good .suspend-most)) refl (directive-plain d v)))
 
   directive-invalid : (d v : ℕ) → validDirective d v ≡ false → Does own lent (directive d v) f (directiveOf d v s store output)
   unfolding directiveOf directiveNumber judged
@@ -156,7 +156,9 @@ module _ (own : Own) (s : SenderState) (store : List ℕ) (lent : ℕ) (good : G
     limit = good .limit;
     count-least = good .count-least;
     count-most = good .count-most;
-    alerting = good .alerting;
+    type-most = good .type-most;
+    suspend-most = good .suspend-most;
+    suspend-initial = good .suspend-initial;
     serving = good .serving;
     sent-main = good .sent-main;
     waiting-main = good .waiting-main;
@@ -173,9 +175,9 @@ module _ (own : Own) (s : SenderState) (store : List ℕ) (lent : ℕ) (good : G
   lowered = fopOf (begun (ticked s)) store
 
   -- the tick that makes the timer zero
-  expires : Agrees own lent f (fopDo expired [] 0 lowered) (served (expiryNumber (ticked s)) 0 s (ticked s) store output)
+  expires : s .variables .timer ≡ 1 → Agrees own lent f (fopDo expired [] 0 lowered) (served (expiryNumber (ticked s)) 0 s (ticked s) store output)
   unfolding expiryNumber
-  expires = by-row expired 0 (ticked s) ticked-good (expiry-meets (ticked s) (good .alerting)) refl expiry-plain
+  expires one = by-row expired 0 (ticked s) ticked-good (expiry-meets (ticked s) (good .type-most) (omega (arith, one))) refl expiry-plain
 
   -- any other
   passes : Agrees own lent f (machine.begin none [] 0 lowered) (served 0 0 s (ticked s) store output)
@@ -191,11 +193,11 @@ module _ (own : Own) (s : SenderState) (store : List ℕ) (lent : ℕ) (good : G
   pub tick-does : Does own lent tick f (tickOf s store output)
   unfolding tickOf work fopTick fopExpiry judged begun
   tick-does =
-      agreed own lent tick f (tickOf s store output) refl (by (eqb (s .variables .timer) 1)) where
-        by : (b : Bool) → Agrees own lent f (pick b (fopDo expired [] 0 lowered) (machine.begin none [] 0 lowered))
+      agreed own lent tick f (tickOf s store output) refl (by (eqb (s .variables .timer) 1) refl) where
+        by : (b : Bool) → eqb (s .variables .timer) 1 ≡ b → Agrees own lent f (pick b (fopDo expired [] 0 lowered) (machine.begin none [] 0 lowered))
             (served (pick b (expiryNumber (ticked s)) 0) 0 s (ticked s) store output)
-        by true = expires
-        by false = passes
+        by true t = expires (eqb-true (s .variables .timer) 1 t)
+        by false t = passes
 
   -- Control words.
   abbrev reportIn : WordReading → ℕ

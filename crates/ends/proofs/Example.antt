@@ -66,7 +66,7 @@ our-session = refl
 -- The sender starts at 0. The lower layer takes the frame of Set V(R), the timer expires, and the lower layer takes it again; then a control
 -- word reports V(R).
 abbrev twice : Settings
-twice = record { n = 254; k = 3; w = 10; buffers = 2; t1 = 1; limit = 3; own = set .own; count = 2; counter = 2 }
+twice = record { n = 254; k = 3; w = 10; buffers = 2; t1 = 1; limit = 3; timeoutType = 0; own = set .own; count = 2; counter = 2 }
 
 abbrev receiver-twice : Receiver
 receiver-twice =
@@ -99,6 +99,7 @@ twice-within = record {
   timerMost = leb→le _ _ tt;
   limitLeast = leb→le _ _ tt;
   limitMost = leb→le _ _ tt;
+  timeoutMost = leb→le _ _ tt;
   spacecraft = leb→le _ _ tt;
   channel = leb→le _ _ tt;
   countLeast = leb→le _ _ tt;

@@ -1,7 +1,7 @@
 -- The test by which a kept state is restored (crate sender, specs/State) holds of every state that a sender can reach, and a state of which it
 -- holds is well-formed: the test is the conjunction of what every event keeps. A start with any two numbers is well-formed.
 use Prim.Native.Nat.{ℕ, zero, suc, _≤_, _<_}
-use mathlib.Core.Path.{_≡_, refl, sym, ap, subst}
+use mathlib.Core.Path.{_≡_, refl, sym, ap, subst, _∙_}
 use mathlib.Core.Bool.{Bool, true, false, not, true≢false}
 use mathlib.Core.List.{List, [], _∷_}
 use native.Mathlib.Omega.{arith}
@@ -23,7 +23,8 @@ use Rattle.fop_actions.specs.declared.Variables.{Variables}
 use Rattle.fop_actions.specs.Limits.{places}
 use Rattle.fop_actions.specs.Start.{startOf, begun}
 use Rattle.fop_rows.specs.Rows.{inMain, isFrame}
-use Rattle.fop_view.specs.State.{Good, held, withFrame}
+use Rattle.fop_view.specs.State.{Good, held, withFrame, effective}
+use Rattle.fop_view.proofs.Theorem.{effective-state}
 use Rattle.sender.specs.Limits.{smallestStore}
 use Rattle.sender.specs.Start.{settingsHold}
 use Rattle.sender.specs.State.{unitsHeld, numbersHold, isEmpty, stateHolds, lengthsHold, wellFormed}
@@ -105,7 +106,7 @@ good-passes own s store g =
     (joined _ _ (le-leb (s .settings .k) largestK (g .window))
     (joined _ _ (le-leb 1 (s .settings .«t1_initial») (g .clock-least))
     (joined _ _ (le-leb 1 (s .settings .«transmission_limit») (g .limit-least))
-    (joined _ _ (eq-eqb (s .settings .«timeout_type») 0 (g .alerting))
+    (joined _ _ (eq-eqb (s .settings .«timeout_type») 0 (omega (arith, g .type-most)))
     (joined _ _ (le-leb (s .settings .spacecraft) largestSpacecraft (omega (arith, g .spacecraft, g .spacecraft-most)))
     (le-leb (s .settings .channel) largestChannel (omega (arith, g .channel, g .channel-most)))))))))
     (joined _ _
@@ -114,9 +115,12 @@ good-passes own s store g =
     (joined _ _ (le-leb (s .queues .marked) (s .queues .sent) (g .formed .last))
     (joined _ _ (le-leb 1 (s .variables .«transmission_count») (g .count-least)) (eq-eqb (s .variables .«suspend_state») 0 (g .serving))))))
     (joined _ _
-    (state-test (s .variables) (s .queues) (s .state) (λ m. (g .sent-main m, g .waiting-main m)) (g .stopped) (g .control-s5))
+    (state-test (s .variables) (s .queues) (s .state) (λ m. (g .sent-main (outside-is m), g .waiting-main (outside-is m))) (g .stopped) (g .control-s5))
     (subst (λ (n : ℕ). lengthsHold n (s .queues .lengths) ≡ true) (sym (held-is (s .queues .sent) (s .queues .waiting)))
     (lengths-test (held (s .queues .sent) (s .queues .waiting)) (s .queues .lengths) (g .formed .units) (λ i h k. g .filled i h)))))
+  where
+    outside-is : inMain (s .state) ≡ false → inMain (effective s) ≡ false
+    outside-is m = ap inMain (effective-state s (g .serving)) ∙ m
 
 -- what the types of the struct's fields see to
 pub record Sized (s : SenderState) : Type 0 where
@@ -151,6 +155,8 @@ passes-good s store z long t =
     let i = right (leb (q .sent) x) _ h in
     let j = right (leb (q .marked) (q .sent)) _ i in
     let k = right (leb 1 (v .«transmission_count»)) _ j in
+    let zero-suspend : v .«suspend_state» ≡ 0 = eqb-true (v .«suspend_state») 0 k in
+    let outside-is : inMain (effective s) ≡ false → inMain (s .state) ≡ false = λ m. ap inMain (sym (effective-state s zero-suspend)) ∙ m in
     record {
       formed = record {
         vs-octet = z .vs;
@@ -169,10 +175,12 @@ passes-good s store z long t =
       limit = z .limit;
       count-least = leb-true 1 (v .«transmission_count») (left _ _ j);
       count-most = z .count;
-      alerting = eqb-true (g .«timeout_type») 0 (left _ _ d);
-      serving = eqb-true (v .«suspend_state») 0 k;
-      sent-main = λ m. outside v q (s .state) states m .0;
-      waiting-main = λ m. outside v q (s .state) states m .1;
+      type-most = omega (arith, eqb-true (g .«timeout_type») 0 (left _ _ d));
+      suspend-most = omega (arith, zero-suspend);
+      suspend-initial = λ m. zero-suspend;
+      serving = zero-suspend;
+      sent-main = λ m. outside v q (s .state) states (outside-is m) .0;
+      waiting-main = λ m. outside v q (s .state) states (outside-is m) .1;
       stopped = λ p. timed v q (subst (λ (y : State). stateHolds y v q ≡ true) p states);
       control-s5 = framed v q (s .state) states;
       filled = λ n p. lengths-least (unitsHeld (q .sent) (q .waiting)) (q .lengths) units n

@@ -86,6 +86,7 @@ module _ (set : Settings) (within : Within set) (v : ℕ) (octet : v ≤ largest
         le-leb (set .k) largestK (within .windowMost),
         le-leb 1 (set .t1) (within .timerLeast),
         le-leb 1 (set .limit) (within .limitLeast),
+        eq-eqb (set .timeoutType) 0 (omega (arith, within .timeoutMost)),
         le-leb (set .own .spacecraft) largestSpacecraft (within .spacecraft),
         le-leb (set .own .channel) largestChannel (within .channel),
       )

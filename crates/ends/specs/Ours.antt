@@ -93,7 +93,7 @@ senderSettings set = record {
   k = set .k;
   «t1_initial» = set .t1;
   «transmission_limit» = set .limit;
-  «timeout_type» = 0;
+  «timeout_type» = set .timeoutType;
   spacecraft = set .own .spacecraft;
   channel = set .own .channel;
 }

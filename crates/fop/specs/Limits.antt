@@ -16,3 +16,11 @@ largestTimer = 65535
 -- sequence numbers: V(S), V*(S) and V*(R) are octets
 abbrev pub largestNumber : ℕ
 largestNumber = 255
+
+-- clause 7.2.2: Suspend_State "takes one of five values, from 0 to 4"
+abbrev pub largestSuspendState : ℕ
+largestSuspendState = 4
+
+-- Timeout_Type is 0 or 1 (clause 7.2.2), and "Timeout_Type 1 is one too for now": a value outside its limit
+abbrev pub largestTimeoutType : ℕ
+largestTimeoutType = 0

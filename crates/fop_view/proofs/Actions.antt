@@ -20,7 +20,7 @@ use Rattle.fop_actions.proofs.ViewAnswers as answers
 use Rattle.fop_actions.proofs.ViewAnswers.{Room}
 use Rattle.fop_rows.specs.Rows.{done, doneAll, declaredReason}
 use Rattle.fop_view.specs.Rows.{Brings, acknowledging, offering, numbering, widening, clocking, limiting, timing, Needed}
-use Rattle.fop_view.proofs.Mode.{Stored, moved, put, Idle, started, ceased, released, offered, remaining, sending, bothPurged, Mode, going, half, over, same, same-is, onGoing, onlyIf, taking, turned, answered, repeated, purged, handedDown, controlled, looked, given, after, afterAll}
+use Rattle.fop_view.proofs.Mode.{Stored, moved, put, Idle, started, ceased, released, suspendedAt, resumed, offered, remaining, sending, bothPurged, Mode, going, half, over, same, same-is, onGoing, onlyIf, taking, turned, answered, repeated, purged, handedDown, controlled, looked, given, after, afterAll}
 use Rattle.fop_view.proofs.Known.{Case, seen, Open, At}
 use Rattle.fop_view.proofs.Onward.{on-fresh, on-going, on-half, only-if, takes}
 use Rattle.fop_view.proofs.Values as values
@@ -96,7 +96,7 @@ module _ (x : Case) (b : Brings) (meets : Needed b (x .octets) (x .value) (x .se
   step CancelTimer mode w m h = turned-mode x w (act.cancelTimer w) CancelTimer mode m h ceased (λ p f z u l g. values.cancel-timer x w m g)
   step StartTimer mode w m h = turned-mode x w (act.startTimer w) StartTimer mode m h started (λ p f z u l g. values.start-timer x w m g)
   step (Alert r) mode w m h = purged-mode x w (act.alert (declaredReason r) w) (Alert r) mode m h ceased (λ p f z l g. purge.alerts x w m g r)
-  step Initialise mode w m h = purged-mode x w (act.initialise w) Initialise mode m h (λ z. z) (λ p f z l g. purge.initialise x w m g)
+  step Initialise mode w m h = purged-mode x w (act.initialise w) Initialise mode m h (suspendedAt 0) (λ p f z l g. purge.initialise x w m g)
   step TransmitUnlock mode w m h =
       on-going x w (act.transmitUnlock w) m (perform TransmitUnlock m) controlled (λ p f z u l g. handing.transmit-unlock x w m g) mode h
   step TransmitSetVr mode w m h =
@@ -104,9 +104,10 @@ module _ (x : Case) (b : Brings) (meets : Needed b (x .octets) (x .value) (x .se
       (λ p f z u l g. only-if x w (act.transmitSetVr (x .value % 256) w) m (perform TransmitSetVr m) (same b numbering) (controlled p f z u l)
       (λ t. handing.transmit-set-vr x w m g (brought numbering t))) mode h
   step TransmitBd mode w m h = on-going x w (act.transmitBdFrame w) m (perform TransmitBd m) handedDown (λ p f z u l g. handing.transmit-bd x w m g) mode h
-  step (SetSuspendState n) mode w m h = tt
-  step Suspend mode w m h = tt
-  step Resume mode w m h = tt
+  step (SetSuspendState n) mode w m h =
+      turned-mode x w (act.setSuspendState n w) (SetSuspendState n) mode m h (suspendedAt n) (λ p f z u l g. values.set-suspend-state x w m g n)
+  step Suspend mode w m h = same-mode x w (act.suspend w) Suspend mode m h (λ p f z u l g. values.suspend x w m g)
+  step Resume mode w m h = turned-mode x w (act.resumed w) Resume mode m h resumed (λ p f z u l g. values.resume x w m g)
   step SetVs mode w m h =
       on-going x w (act.setVs (x .value % 256) w) m (perform SetVs m) (λ p f z u l. onlyIf (same b numbering) (onlyIf (z .unsent) (half p z u l)))
       (λ p f z u l g. only-if x w (act.setVs (x .value % 256) w) m (perform SetVs m) (same b numbering) (onlyIf (z .unsent) (half p z u l))

@@ -83,7 +83,7 @@ module _ (x : Case) (good : Good (x .own) (x .sender) (x .store)) where
         formed = well.remove-acknowledged-frames w (x .store) (good .formed) (x .value) o;
         ended = record {
           settled = good-settled good;
-          counted = counts-one (good .serving);
+          counted = counts-one;
           filled = filled-moved (x .value);
           no-more = no-more-moved (x .value);
           runs = record {
@@ -92,7 +92,7 @@ module _ (x : Case) (good : Good (x .own) (x .sender) (x .store)) where
             of-confirmed = confirmed-run w (x .store) (x .value) (good .formed);
             of-denied = refl;
           };
-          idle = record { unsent = tt; unasked = h .idle .unasked; stopped = h .idle .stopped; frame = h .idle .frame };
+          idle = record { unsent = tt; unasked = h .idle .unasked; stopped = h .idle .stopped; frame = h .idle .frame; is-suspend = h .idle .is-suspend };
           below = none-below handed.None _ refl;
         };
         going = record { none = refl; room = room-begun (x .sender); undenied = refl; few = omega arith };
@@ -142,7 +142,7 @@ module _ (x : Case) (good : Good (x .own) (x .sender) (x .store)) where
           filled = λ j k. subst (λ (ls : List ℕ). 1 ≤ getD ls j 0) longer (filled-set o j k);
           no-more = omega arith;
           runs = record { stored = refl; measured = sym longer; of-confirmed = refl; of-denied = refl };
-          idle = record { unsent = h .idle .unsent; unasked = tt; stopped = h .idle .stopped; frame = h .idle .frame };
+          idle = record { unsent = h .idle .unsent; unasked = tt; stopped = h .idle .stopped; frame = h .idle .frame; is-suspend = h .idle .is-suspend };
           below = none-below handed.None _ refl;
         };
         going = record { none = refl; room = room-begun (x .sender); undenied = refl; few = h .few };

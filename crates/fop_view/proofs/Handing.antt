@@ -49,7 +49,7 @@ module _ (x : Case) (w : Work) (store : List ℕ) (p : Stored) (z : Idle) (c d :
 
   bc-sent : (k : Control) → isFrame k ≡ true → (down : Handed) → OtherFrame down → EndedOf x p (framed (started z)) store c d (act.transmitBcFrame k down w)
   unfolding act.transmitBcFrame act.startTimer act.handDown act.holdControl withVariables withQueues withTold
-  bc-sent k b down t = idle-again (other-handed down t) (counts-one (e .counted .serving)) (frames (starts (e .idle)) b)
+  bc-sent k b down t = idle-again (other-handed down t) counts-one (frames (starts (e .idle)) b)
 
   marked-sent : (down : Handed) → OtherFrame down → EndedOf x p z store c d (act.sendMarkedControl down w)
   unfolding act.sendMarkedControl act.sendControl act.holdControl act.handDown withVariables withQueues withTold
@@ -101,15 +101,15 @@ oldest-marked sent marked a b c = omega arith
 one-more : (sent : ℕ) → sent ≤ largestK → advanced sent 1 ≡ suc sent
 one-more sent h = omega arith
 
-counted-for : (sent count : ℕ) {u : ℕ} → Counted count u → Counted (act.countFor sent count) u
-counted-for sent count {u} k = by (eqb sent 0) where
-  by : (b : Bool) → Counted (pick b 1 count) u
-  by true = counts-one (k .serving)
+counted-for : (sent count : ℕ) → Counted count → Counted (act.countFor sent count)
+counted-for sent count k = by (eqb sent 0) where
+  by : (b : Bool) → Counted (pick b 1 count)
+  by true = counts-one
   by false = k
 
 module _ (x : Case) (w : Work) (store : List ℕ) {p : Stored} {z : Idle} {c d : List Fdu} (e : EndedOf x p z store c d w) (formed : WellFormed w store) where
-  any-sent : {timer sent : ℕ} {waiting : Bool} → IdleIs (sending z) timer sent waiting (w .queues .control)
-  any-sent = record { unsent = tt; unasked = tt; stopped = tt; frame = e .idle .frame }
+  any-sent : {timer sent : ℕ} {waiting : Bool} → IdleIs (sending z) timer sent waiting (w .queues .control) (w .variables .«suspend_state»)
+  any-sent = record { unsent = tt; unasked = tt; stopped = tt; frame = e .idle .frame; is-suspend = e .idle .is-suspend }
 
   marked-again : 0 < w .queues .marked → EndedOf x p (sending z) store c d (act.sendMarked w)
   unfolding act.sendMarked act.handDown withVariables withQueues withTold

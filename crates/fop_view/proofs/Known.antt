@@ -11,7 +11,7 @@ use Rattle.base.specs.Limits.{largestUnit}
 use Rattle.base.specs.Modulo.{advanced}
 use Rattle.memory.specs.Placed.{placed}
 use Rattle.store.specs.Slid.{slid}
-use Rattle.fop.specs.Limits.{largestK, largestTransmissionLimit}
+use Rattle.fop.specs.Limits.{largestK, largestTransmissionLimit, largestTimeoutType}
 use Rattle.fop.specs.Units.{Fdu, Own}
 use Rattle.fop.specs.Table.{FopEvent}
 use Rattle.fop.specs.Variables as machine
@@ -32,7 +32,7 @@ use Rattle.fop_actions.proofs.ViewAnswers.{Room}
 use Rattle.fop_actions.proofs.ViewStart.{room-begun}
 use Rattle.fop_rows.specs.Rows.{isFrame}
 use Rattle.fop_view.specs.State.{Good, held}
-use Rattle.fop_view.proofs.Mode.{Stored, kept, moved, put, Idle, started, ceased, framed, released, Mode, fresh, going, half, over, bad}
+use Rattle.fop_view.proofs.Mode.{Stored, kept, moved, put, Idle, started, ceased, framed, released, suspendedAt, Mode, fresh, going, half, over, bad}
 
 -- an event at a sender and its store
 pub record Case : Type 0 where
@@ -74,22 +74,22 @@ pub record Settled (own : Own) (g : Settings) : Type 0 where
   pub clock-least : 1 ≤ g .«t1_initial»
   pub limit-least : 1 ≤ g .«transmission_limit»
   pub in-limit : g .«transmission_limit» ≤ largestTransmissionLimit
-  pub alerting : g .«timeout_type» ≡ 0
+  pub type-most : g .«timeout_type» ≤ largestTimeoutType
   pub own-spacecraft : g .spacecraft ≡ own .spacecraft
   pub own-channel : g .channel ≡ own .channel
 
--- Transmission_Count and Suspend_State
-pub record Counted (count suspend : ℕ) : Type 0 where
+-- Transmission_Count
+pub record Counted (count : ℕ) : Type 0 where
   pub least : 1 ≤ count
   pub most : count ≤ largestTransmissionLimit
-  pub serving : suspend ≡ 0
 
--- the queues and the timer
-pub record IdleIs (z : Idle) (timer sent : ℕ) (waiting : Bool) (bc : Control) : Type 0 where
+-- the queues, the timer and Suspend_State
+pub record IdleIs (z : Idle) (timer sent : ℕ) (waiting : Bool) (bc : Control) (suspend : ℕ) : Type 0 where
   pub unsent : Where (z .unsent) (sent ≡ 0)
   pub unasked : Where (z .unasked) (waiting ≡ false)
   pub stopped : Where (z .stopped) (timer ≡ 0)
   pub frame : isFrame bc ≡ z .frame
+  pub is-suspend : suspend ≡ z .suspend
 
 -- the store, the lengths and the two runs of units
 pub record Runs (x : Case) (p : Stored) (store lengths : List ℕ) (c d : List Fdu) (confirmed denied : Run) : Type 0 where
@@ -106,11 +106,11 @@ NoMore x count sent waiting = count + held sent waiting ≤ suc (x .sender .queu
 pub record Ended (x : Case) (p : Stored) (z : Idle) (store : List ℕ) (c d : List Fdu) (g : Settings) (timer count suspend sent : ℕ)
     (waiting : Bool) (bc : Control) (lengths : List ℕ) (down : Handed) (confirmed denied : Run) : Type 0 where
   pub settled : Settled (x .own) g
-  pub counted : Counted count suspend
+  pub counted : Counted count
   pub filled : (i : ℕ) → i < held sent waiting → 1 ≤ getD lengths i 0
   pub no-more : NoMore x (confirmed .count) sent waiting
   pub runs : Runs x p store lengths c d confirmed denied
-  pub idle : IdleIs z timer sent waiting bc
+  pub idle : IdleIs z timer sent waiting bc suspend
   pub below : (k i : ℕ) → down ≡ handed.Ad k i → i < sent
 
 -- what is known besides, while no frame is handed down: f is whether Transmission_Count is below 255, u whether no unit is denied yet,
@@ -136,6 +136,7 @@ pub record Fresh (x : Case) (f : Bool) (z : Idle) (w : Work) (m : machine.Work) 
   pub good : Good (x .own) (x .sender) (x .store)
   pub few : Where f (x .sender .variables .«transmission_count» < 255)
   pub idle : IdleIs z (x .sender .variables .timer) (x .sender .queues .sent) (x .sender .queues .waiting) (x .sender .queues .control)
+      (x .sender .variables .«suspend_state»)
 
 pub record Open (x : Case) (p : Stored) (f : Bool) (z : Idle) (u : Bool) (l : ℕ) (w : Work) (m : machine.Work) : Type 0 where
   pub store : List ℕ
@@ -200,19 +201,22 @@ pub where-on : {A : Type 0} (b : Bool) → (b ≡ true → A) → Where b A
 where-on true f = f refl
 where-on false f = tt
 
--- the timer started, and stopped; the type-BC frame put on the Sent_Queue, and taken off it
-module _ {z : Idle} {timer sent : ℕ} {waiting : Bool} {bc : Control} (q : IdleIs z timer sent waiting bc) where
-  pub starts : {t : ℕ} → IdleIs (started z) t sent waiting bc
-  starts = record { unsent = q .unsent; unasked = q .unasked; stopped = tt; frame = q .frame }
+-- the timer started, and stopped; the type-BC frame put on the Sent_Queue, and taken off it; Suspend_State set
+module _ {z : Idle} {timer sent : ℕ} {waiting : Bool} {bc : Control} {suspend : ℕ} (q : IdleIs z timer sent waiting bc suspend) where
+  pub starts : {t : ℕ} → IdleIs (started z) t sent waiting bc suspend
+  starts = record { unsent = q .unsent; unasked = q .unasked; stopped = tt; frame = q .frame; is-suspend = q .is-suspend }
 
-  pub stops : IdleIs (ceased z) 0 sent waiting bc
-  stops = record { unsent = q .unsent; unasked = q .unasked; stopped = refl; frame = q .frame }
+  pub stops : IdleIs (ceased z) 0 sent waiting bc suspend
+  stops = record { unsent = q .unsent; unasked = q .unasked; stopped = refl; frame = q .frame; is-suspend = q .is-suspend }
 
-  pub frames : {k : Control} → isFrame k ≡ true → IdleIs (framed z) timer sent waiting k
-  frames t = record { unsent = q .unsent; unasked = q .unasked; stopped = q .stopped; frame = t }
+  pub frames : {k : Control} → isFrame k ≡ true → IdleIs (framed z) timer sent waiting k suspend
+  frames t = record { unsent = q .unsent; unasked = q .unasked; stopped = q .stopped; frame = t; is-suspend = q .is-suspend }
 
-  pub releases : IdleIs (released z) timer sent waiting control.None
-  releases = record { unsent = q .unsent; unasked = q .unasked; stopped = q .stopped; frame = refl }
+  pub releases : IdleIs (released z) timer sent waiting control.None suspend
+  releases = record { unsent = q .unsent; unasked = q .unasked; stopped = q .stopped; frame = refl; is-suspend = q .is-suspend }
+
+  pub suspends : (n : ℕ) → IdleIs (suspendedAt n z) timer sent waiting bc n
+  suspends n = record { unsent = q .unsent; unasked = q .unasked; stopped = q .stopped; frame = q .frame; is-suspend = refl }
 
 -- other settings; another Transmission_Count, timer or type-BC frame
 module _ {x : Case} {p : Stored} {z : Idle} {store : List ℕ} {c d : List Fdu} {g : Settings} {timer count suspend sent : ℕ} {waiting : Bool} {bc : Control} {lengths : List ℕ}
@@ -220,7 +224,7 @@ module _ {x : Case} {p : Stored} {z : Idle} {store : List ℕ} {c d : List Fdu} 
   pub resettled : {g' : Settings} → Settled (x .own) g' → Ended x p z store c d g' timer count suspend sent waiting bc lengths down confirmed denied
   resettled s = record { settled = s; counted = e .counted; filled = e .filled; no-more = e .no-more; runs = e .runs; idle = e .idle; below = e .below }
 
-  pub idle-again : {z' : Idle} {t n s : ℕ} {k : Control} → Counted n s → IdleIs z' t sent waiting k
+  pub idle-again : {z' : Idle} {t n s : ℕ} {k : Control} → Counted n → IdleIs z' t sent waiting k s
       → Ended x p z' store c d g t n s sent waiting k lengths down confirmed denied
   idle-again n q = record { settled = e .settled; counted = n; filled = e .filled; no-more = e .no-more; runs = e .runs; idle = q; below = e .below }
 
@@ -232,20 +236,20 @@ good-settled g = record {
   clock-least = g .clock-least;
   limit-least = g .limit-least;
   in-limit = g .limit;
-  alerting = g .alerting;
+  type-most = g .type-most;
   own-spacecraft = g .spacecraft;
   own-channel = g .channel;
 }
 
-pub good-counted : {own : Own} {s : SenderState} {store : List ℕ} → Good own s store → Counted (s .variables .«transmission_count») (s .variables .«suspend_state»)
-good-counted g = record { least = g .count-least; most = g .count-most; serving = g .serving }
+pub good-counted : {own : Own} {s : SenderState} {store : List ℕ} → Good own s store → Counted (s .variables .«transmission_count»)
+good-counted g = record { least = g .count-least; most = g .count-most }
 
 -- Transmission_Count 1, or one more than it was
-pub counts-one : {u : ℕ} → u ≡ 0 → Counted 1 u
-counts-one h = record { least = omega arith; most = omega arith; serving = h }
+pub counts-one : Counted 1
+counts-one = record { least = omega arith; most = omega arith }
 
-pub counts-more : {n u : ℕ} → n < 255 → Counted n u → Counted (advanced n 1) u
-counts-more h k = record { least = omega arith; most = omega arith; serving = k .serving }
+pub counts-more : {n : ℕ} → n < 255 → Counted n → Counted (advanced n 1)
+counts-more h k = record { least = omega arith; most = omega arith }
 
 -- the work as it begins, with nothing told
 pub none-below : (down : Handed) (sent : ℕ) → down ≡ handed.None → (k i : ℕ) → down ≡ handed.Ad k i → i < sent

@@ -28,8 +28,8 @@ use Rattle.fop_actions.proofs.ViewRelease as release
 use Rattle.fop_actions.proofs.ViewRuns.{denied-run}
 use Rattle.fop_rows.specs.Rows.{declaredReason}
 use Rattle.fop_view.specs.State.{held}
-use Rattle.fop_view.proofs.Mode.{Stored, Idle, ceased, sentPurged, waitPurged, bothPurged}
-use Rattle.fop_view.proofs.Known.{Case, EndedOf, GoingOf, Open, held-least, held-waiting, less-room, idle-again, stops, counts-one, none-below}
+use Rattle.fop_view.proofs.Mode.{Stored, Idle, ceased, suspendedAt, sentPurged, waitPurged, bothPurged}
+use Rattle.fop_view.proofs.Known.{Case, EndedOf, GoingOf, Open, held-least, held-waiting, less-room, idle-again, stops, suspends, counts-one, none-below}
 use Rattle.fop_view.proofs.Onward.{goes-on}
 
 -- the units on the Sent_Queue
@@ -89,11 +89,11 @@ module _ {x : Case} {p : Stored} {z : Idle} {store : List ℕ} {c d : List Fdu} 
       filled = λ i h. e .filled i (held-waiting (w .queues .sent) i (w .queues .waiting) h);
       no-more = omega (arith, e .no-more, held-least (w .queues .sent) (w .queues .waiting));
       runs = e .runs;
-      idle = record { unsent = e .idle .unsent; unasked = refl; stopped = e .idle .stopped; frame = e .idle .frame };
+      idle = record { unsent = e .idle .unsent; unasked = refl; stopped = e .idle .stopped; frame = e .idle .frame; is-suspend = e .idle .is-suspend };
       below = e .below;
     }
     by false t =
-        idle-again e (e .counted) (record { unsent = e .idle .unsent; unasked = t; stopped = e .idle .stopped; frame = e .idle .frame })
+        idle-again e (e .counted) (record { unsent = e .idle .unsent; unasked = t; stopped = e .idle .stopped; frame = e .idle .frame; is-suspend = e .idle .is-suspend })
 
 -- Both queues purged, with nothing denied before.
 module _ {x : Case} {p : Stored} {f : Bool} {z : Idle} {l : ℕ} {store : List ℕ} {c d : List Fdu} (w : Work) (e : EndedOf x p z store c d w) (g : GoingOf f true (suc (suc l)) d w) where
@@ -110,7 +110,7 @@ module _ {x : Case} {p : Stored} {f : Bool} {z : Idle} {l : ℕ} {store : List �
       of-confirmed = e .runs .of-confirmed;
       of-denied = ap (λ (y : List Fdu). runOf (y ++ units w store)) (g .undenied) ∙ units-run w store;
     };
-    idle = record { unsent = refl; unasked = e .idle .unasked; stopped = e .idle .stopped; frame = refl };
+    idle = record { unsent = refl; unasked = e .idle .unasked; stopped = e .idle .stopped; frame = refl; is-suspend = e .idle .is-suspend };
     below = none-below (w .told .handed) 0 (g .none);
   }
 
@@ -130,9 +130,9 @@ module _ {x : Case} {p : Stored} {f : Bool} {z : Idle} {l : ℕ} {store : List �
 
 -- Transmission_Count 1 and Suspend_State 0
 serving : {x : Case} {p : Stored} {z : Idle} {store : List ℕ} {c d : List Fdu} (v : Work) → EndedOf x p z store c d v
-    → EndedOf x p z store c d (act.setSuspendState 0 (act.countOne v))
+    → EndedOf x p (suspendedAt 0 z) store c d (act.setSuspendState 0 (act.countOne v))
 unfolding act.setSuspendState act.countOne withVariables
-serving v e = idle-again e (counts-one refl) (e .idle)
+serving v e = idle-again e counts-one (suspends (e .idle) 0)
 
 reason-is : (r : table.Reason) → reasonOf (declaredReason r) ≡ some r
 reason-is table.synch = refl
@@ -156,7 +156,7 @@ module _ (x : Case) (w : Work) (m : machine.Work) {p : Stored} {f : Bool} {z : I
       (release.alert _ _ _ _ _ w (h .store) room (declaredReason r) r (reason-is r)) (well.alert w (h .store) (declaredReason r) (h .formed))
       (purged-ended (act.cancelTimer w) e (h .going)) (purged-going (act.cancelTimer w) e (h .going))
 
-  pub initialise : Open x p false (bothPurged z) false l (act.initialise w) (perform table.Initialise m)
+  pub initialise : Open x p false (bothPurged (suspendedAt 0 z)) false l (act.initialise w) (perform table.Initialise m)
   unfolding act.initialise act.countOne act.setSuspendState withVariables
   initialise =
       let g = purged-going w (h .ended) (h .going) in

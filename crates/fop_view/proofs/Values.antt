@@ -5,7 +5,7 @@ use mathlib.Core.Path.{_≡_, refl, sym, ap, subst, _∙_}
 use mathlib.Core.Bool.{Bool, true, false}
 use mathlib.Core.List.{List}
 use native.Mathlib.Omega.{arith}
-use Rattle.fop.specs.Limits.{largestK, largestTransmissionLimit}
+use Rattle.fop.specs.Limits.{largestK, largestTransmissionLimit, largestTimeoutType}
 use Rattle.fop.specs.Units.{Fdu}
 use Rattle.fop.specs.Table as table
 use Rattle.fop.specs.Table.{Action}
@@ -21,8 +21,8 @@ use Rattle.fop_actions.proofs.Kept as well
 use Rattle.fop_actions.proofs.ViewValues as values
 use Rattle.fop_actions.proofs.ViewAnswers.{Room, room-more}
 use Rattle.fop_actions.proofs.ViewTransmit as transmit
-use Rattle.fop_view.proofs.Mode.{Stored, Idle, started, ceased, released}
-use Rattle.fop_view.proofs.Known.{Case, seen, EndedOf, Open, Half, octet-is, less-room, known, starts, stops, releases, resettled, idle-again, counts-more}
+use Rattle.fop_view.proofs.Mode.{Stored, Idle, started, ceased, released, suspendedAt, resumed}
+use Rattle.fop_view.proofs.Known.{Case, seen, EndedOf, Open, Half, octet-is, less-room, known, starts, stops, releases, suspends, resettled, idle-again, counts-more}
 use Rattle.fop_view.proofs.Onward.{goes-on}
 
 module _ (x : Case) (w : Work) (m : machine.Work) {p : Stored} {f : Bool} {z : Idle} {u : Bool} {l : ℕ} (h : Open x p f z u l w m) where
@@ -61,6 +61,23 @@ module _ (x : Case) (w : Work) (m : machine.Work) {p : Stored} {f : Bool} {z : I
       goes-on h table.ReleaseBcFrame (act.releaseBcFrame w) (h .d) (values.release-bc-frame _ _ _ _ _ w (h .store)) (h .formed)
       (idle-again e (e .counted) (releases (e .idle))) (h .going)
 
+  -- Suspend_State set, the Suspend notification, Resume.
+  pub set-suspend-state : (n : ℕ) → Open x p f (suspendedAt n z) u l (act.setSuspendState n w) (perform (table.SetSuspendState n) m)
+  unfolding act.setSuspendState withVariables
+  set-suspend-state n =
+      goes-on h (table.SetSuspendState n) (act.setSuspendState n w) (h .d) (values.set-suspend-state _ _ _ _ _ w (h .store) n) (h .formed)
+      (idle-again e (e .counted) (suspends (e .idle) n)) (h .going)
+
+  pub suspend : Open x p f z u l (act.suspend w) (perform table.Suspend m)
+  unfolding act.suspend withTold
+  suspend = goes-on h table.Suspend (act.suspend w) (h .d) (values.suspend _ _ _ _ _ w (h .store)) (h .formed) (h .ended) (h .going)
+
+  pub resume : Open x p f (resumed z) u l (act.resumed w) (perform table.Resume m)
+  unfolding act.resumed act.setSuspendState act.startTimer withVariables
+  resume =
+      goes-on h table.Resume (act.resumed w) (h .d) (values.resume _ _ _ _ _ w (h .store)) (h .formed)
+      (idle-again e (e .counted) (suspends (starts (e .idle)) 0)) (h .going)
+
   -- The settings, within their limits.
   pub set-k : (1 ≤ x .value) × (x .value ≤ largestK) → Open x p f z u l (act.setK (x .value % 256) w) (perform table.SetK m)
   unfolding act.setK withSettings
@@ -75,7 +92,7 @@ module _ (x : Case) (w : Work) (m : machine.Work) {p : Stored} {f : Bool} {z : I
         clock-least = s .clock-least;
         limit-least = s .limit-least;
         in-limit = s .in-limit;
-        alerting = s .alerting;
+        type-most = s .type-most;
         own-spacecraft = s .own-spacecraft;
         own-channel = s .own-channel;
       })) (h .going)
@@ -91,7 +108,7 @@ module _ (x : Case) (w : Work) (m : machine.Work) {p : Stored} {f : Bool} {z : I
         clock-least = n;
         limit-least = s .limit-least;
         in-limit = s .in-limit;
-        alerting = s .alerting;
+        type-most = s .type-most;
         own-spacecraft = s .own-spacecraft;
         own-channel = s .own-channel;
       })) (h .going)
@@ -111,18 +128,18 @@ module _ (x : Case) (w : Work) (m : machine.Work) {p : Stored} {f : Bool} {z : I
         clock-least = s .clock-least;
         limit-least = omega (arith, n .0, n .1);
         in-limit = omega (arith, n .1);
-        alerting = s .alerting;
+        type-most = s .type-most;
         own-spacecraft = s .own-spacecraft;
         own-channel = s .own-channel;
       })) (h .going)
 
-  pub set-timeout-type : x .value ≡ 0 → Open x p f z u l (act.setTimeoutType (x .value % 256) w) (perform table.SetTimeoutType m)
+  pub set-timeout-type : x .value ≤ largestTimeoutType → Open x p f z u l (act.setTimeoutType (x .value % 256) w) (perform table.SetTimeoutType m)
   unfolding act.setTimeoutType withSettings
   set-timeout-type n =
       let s = e .settled in
       goes-on h table.SetTimeoutType (act.setTimeoutType (x .value % 256) w) (h .d)
       (values.set-timeout-type _ _ _ _ _ w (h .store)
-      ∙ ap (λ (k : ℕ). seen x (h .c) (h .d) (act.setTimeoutType k w) (h .store)) (sym (octet-is (x .value) (omega arith))))
+      ∙ ap (λ (k : ℕ). seen x (h .c) (h .d) (act.setTimeoutType k w) (h .store)) (sym (octet-is (x .value) (omega (arith, n)))))
       (h .formed)
       (resettled e (record {
         window-least = s .window-least;
@@ -130,7 +147,7 @@ module _ (x : Case) (w : Work) (m : machine.Work) {p : Stored} {f : Bool} {z : I
         clock-least = s .clock-least;
         limit-least = s .limit-least;
         in-limit = s .in-limit;
-        alerting = omega arith;
+        type-most = omega (arith, n);
         own-spacecraft = s .own-spacecraft;
         own-channel = s .own-channel;
       })) (h .going)

@@ -10,7 +10,7 @@ use Rattle.base.specs.Limits.{largestUnit}
 use Rattle.base.specs.Modulo.{offset}
 use Rattle.memory.specs.Placed.{placed}
 use Rattle.store.specs.Slid.{slid}
-use Rattle.fop.specs.Limits.{largestK, largestTransmissionLimit}
+use Rattle.fop.specs.Limits.{largestK, largestTransmissionLimit, largestTimeoutType}
 use Rattle.fop.specs.Units.{Own}
 use Rattle.fop.specs.Table.{FopEvent, E1, E2, E3, E4, E5, E6, E7, E8, E9, E10, E11, E12, E13, E14, E15, E16, E17, E18, E19, E20, E21, E22, E23, E24, E25, E26, E27, E28, E29, E30, E31, E32, E33, E34}
 use Rattle.fop.specs.Table.{E35, E36, E37, E38, E39, E40, E41, E42, E43, E44, E45, E46, E101, E102, E103, E104}
@@ -36,8 +36,10 @@ pub data Brings : Type 0 where
   offering : Brings
   -- V*, K, T1_Initial, Transmission_Limit, Timeout_Type within their limits
   numbering widening clocking limiting timing : Brings
-  -- Timeout_Type or Suspend_State other than 0: not met for now
-  suspending : Brings
+  -- the timer has expired, with Timeout_Type 1; the same with Transmission_Count < Transmission_Limit
+  expiring expiringAgain : Brings
+  -- Suspend_State is this
+  resuming : ℕ → Brings
 
 -- table 7-8: what the conditions of each event ask
 abbrev pub brings : FopEvent → Brings
@@ -58,7 +60,7 @@ brings E14 = nothing
 brings E15 = nothing
 brings E16 = again
 brings E17 = nothing
-brings E18 = suspending
+brings E18 = expiring
 brings E19 = offering
 brings E20 = nothing
 brings E21 = nothing
@@ -71,10 +73,10 @@ brings E27 = numbering
 brings E28 = nothing
 brings E29 = nothing
 brings E30 = nothing
-brings E31 = suspending
-brings E32 = suspending
-brings E33 = suspending
-brings E34 = suspending
+brings E31 = resuming 1
+brings E32 = resuming 2
+brings E33 = resuming 3
+brings E34 = resuming 4
 brings E35 = numbering
 brings E36 = widening
 brings E37 = clocking
@@ -90,7 +92,7 @@ brings E46 = nothing
 brings E101 = acknowledging
 brings E102 = nothing
 brings E103 = nothing
-brings E104 = suspending
+brings E104 = expiringAgain
 
 -- what holds of the unit, the value and the sender where an event brings that
 abbrev pub Needed : Brings → List ℕ → ℕ → SenderState → Type 0
@@ -102,8 +104,11 @@ Needed numbering o n s = n < 256
 Needed widening o n s = (1 ≤ n) × (n ≤ largestK)
 Needed clocking o n s = 1 ≤ n
 Needed limiting o n s = (1 ≤ n) × (n ≤ largestTransmissionLimit)
-Needed timing o n s = n ≡ 0
-Needed suspending o n s = ⊥
+Needed timing o n s = n ≤ largestTimeoutType
+Needed expiring o n s = (s .settings .«timeout_type» ≡ 1) × (s .variables .timer ≡ 0)
+Needed expiringAgain o n s =
+    (s .variables .«transmission_count» < s .settings .«transmission_limit») × (s .settings .«timeout_type» ≡ 1) × (s .variables .timer ≡ 0)
+Needed (resuming k) o n s = s .variables .«suspend_state» ≡ k
 
 -- the unit and the value are such as the event brings to the sender
 abbrev pub Meets : FopEvent → List ℕ → ℕ → SenderState → Type 0
@@ -120,7 +125,9 @@ isOffering widening = false
 isOffering clocking = false
 isOffering limiting = false
 isOffering timing = false
-isOffering suspending = false
+isOffering expiring = false
+isOffering expiringAgain = false
+isOffering (resuming k) = false
 
 -- the store after an event: the unit offered is put behind the sent ones where it is added to the Wait_Queue; the units confirmed are
 -- removed from the front

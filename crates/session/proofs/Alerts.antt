@@ -5,12 +5,13 @@ use mathlib.Core.Bool.{Bool, true, false}
 use mathlib.Core.List.{List, [], _∷_}
 use mathlib.Core.Option.{Option, none, some}
 use Prim.Native.Nat.{ℕ}
-use lib.Dec.{eqb, T}
+use lib.Dec.{T}
 use Rattle.fop.specs.Table.{State, Cell, cell, NotApplicable, Reason, Action, table78, cell78, Accept, Reject}
 use Rattle.fop.specs.Table.{Confirm, RejectAd, AcceptBd, RejectBd, AddToWaitQueue, LookForFdu, LookForDirective, RemoveAcknowledgedFrames, InitiateAdRetransmission}
 use Rattle.fop.specs.Table.{InitiateBcRetransmission, ReleaseBcFrame, CancelTimer, StartTimer, Alert, Initialise, TransmitUnlock, TransmitSetVr, TransmitBd}
 use Rattle.fop.specs.Table.{SetVs, SetNnr, SetK, SetT1Initial, SetTransmissionLimit, SetTimeoutType, AdOutReady, BcOutReady, BdOutReady}
 use Rattle.fop.specs.Variables.{Work, begin}
+use Rattle.fop.specs.Effective.{effective}
 use Rattle.fop.specs.Machine.{fopDo, performCell, perform, sendNext, sendWaiting, transmitAd, transmitBc}
 use Rattle.fop.specs.Machine.{removeAcknowledged}
 use Rattle.session.proofs.Ways.{look-ways, directive-ways, purge-ways}
@@ -94,15 +95,15 @@ allowsIn s c = cellAllows ownAlert c
 abbrev rowAllows : FopEvent → Bool
 rowAllows e = atAll allowsIn (table78 e)
 
-do-allowed : (e : FopEvent) (o : List ℕ) (v : ℕ) (f : Fop) → T (rowAllows e) → T (sound (modeOf (f .state))) → Allowed ownAlert ((fopDo e o v f) .alert)
+do-allowed : (e : FopEvent) (o : List ℕ) (v : ℕ) (f : Fop) → T (rowAllows e) → T (sound (modeOf (effective f))) → Allowed ownAlert ((fopDo e o v f) .alert)
 unfolding fopDo
-do-allowed e o v f t g = cell-allowed ownAlert (cell78 (table78 e) (f .state)) (begin (some e) o v f) (at-cell allowsIn (table78 e) (f .state) t g) (inl refl)
+do-allowed e o v f t g = cell-allowed ownAlert (cell78 (table78 e) (f .state)) (begin (some e) o v f) (at-cell allowsIn (table78 e) (f .state) (f .suspendState) t g) (inl refl)
 
--- of a sender in a state of the session, at Timeout_Type 0
-module _ (f : Fop) (g : T (sound (modeOf (f .state)))) where
-  pub tick-alerts : eqb (f .preset .timeoutType) 0 ≡ true → Allowed ownAlert ((fopTick f) .alert)
+-- of a sender in a state of the session
+module _ (f : Fop) (g : T (sound (modeOf (effective f)))) where
+  pub tick-alerts : Allowed ownAlert ((fopTick f) .alert)
   unfolding table78 allows
-  tick-alerts z = tick-ways rowAllows tt (AllowedAlert ownAlert) f z (λ e t. do-allowed e [] 0 (lowered f) t g) (inl refl)
+  tick-alerts = tick-ways rowAllows tt (AllowedAlert ownAlert) f (λ z. tt) (λ e t. do-allowed e [] 0 (lowered f) t g) (inl refl)
 
   pub lower-alerts : (l : Lower) → Allowed ownAlert ((fopLower l f) .alert)
   unfolding fopLower table78 allows

@@ -22,7 +22,7 @@ use Rattle.fop.specs.Table.{Reason}
 use Rattle.session.specs.Stronger.{KnownAlert}
 use Rattle.session.proofs.Choices.{by-pick}
 use Rattle.session.proofs.Alerts.{Allowed, ownAlert, ad-alerts, bd-alerts, tick-alerts, lower-alerts, terminate-alerts}
-use Rattle.session.proofs.Inv.{in-mode, Inv, word-read, fine, alerting}
+use Rattle.session.proofs.Inv.{in-mode, Inv, word-read, fine}
 use Rattle.session.proofs.Core.{Session, goes, used, isHeld}
 use Rattle.session.proofs.Chan.{Wds}
 use Rattle.session.proofs.Receiver.{at}
@@ -103,7 +103,7 @@ module _ (set : Settings) (vw : Within set) (m : Ends) (t : Tied set m) (σ : Li
   unfolding work
   alerts (requestAd o) lent h = known (requestAd o) lent (ad-alerts (κ .fop) (in-mode set κ I) o)
   alerts (requestBd o) lent h = known (requestBd o) lent (bd-alerts (κ .fop) (in-mode set κ I) o)
-  alerts fop.tick lent h = known fop.tick lent (tick-alerts (κ .fop) (in-mode set κ I) (alerting set κ I))
+  alerts fop.tick lent h = known fop.tick lent (tick-alerts (κ .fop) (in-mode set κ I))
   alerts (lower l) lent h = known (lower l) lent (lower-alerts (κ .fop) (in-mode set κ I) l)
   alerts (directive d v) lent h =
       subst (λ (x : ℕ). KnownAlert (set .limit) ((m .answer (directive x v) lent (σ .sender)) .alert)) (sym h)

@@ -1,10 +1,10 @@
 -- A control word that reaches a sender in service makes the count of confirmed units what it reports: no more is confirmed (Inv); no less,
 -- since by a computed test the cell that it meets first removes acknowledged frames, and no action takes a confirmed unit back.
-use mathlib.Core.Path.{_≡_, refl, ap, _∙_}
+use mathlib.Core.Path.{_≡_, refl, ap, subst, _∙_}
 use mathlib.Core.Bool.{Bool, true, false, not, false≢true}
 use mathlib.Core.List.{List, [], _∷_}
 use mathlib.Core.Option.{Option, none, some}
-use Prim.Native.Nat.{_+_, _-_, _≤_}
+use Prim.Native.Nat.{_+_, _-_, _*_, _≤_}
 use native.Mathlib.Omega.{arith}
 use lib.Dec.{eqb, T}
 use lib.ListN.{length, length-take, length-append}
@@ -16,6 +16,7 @@ use Rattle.fop.specs.Table.{RejectAd, AcceptBd, RejectBd, AddToWaitQueue, LookF
 use Rattle.fop.specs.Table.{InitiateBcRetransmission, ReleaseBcFrame, CancelTimer, StartTimer, Alert, Initialise, TransmitUnlock, TransmitSetVr, TransmitBd, SetSuspendState}
 use Rattle.fop.specs.Table.{Suspend, Resume, SetVs, SetNnr, SetK, SetT1Initial, SetTransmissionLimit, SetTimeoutType, AdOutReady, BcOutReady, BdOutReady}
 use Rattle.fop.specs.Variables.{Work, begin}
+use Rattle.fop.specs.Effective.{effective}
 use Rattle.fop.specs.Machine.{perform, performAll, performCell, removeAcknowledged, acknowledged, transmitBc, purge, fdus, fopDo}
 use Rattle.fop.specs.Events.{Seen, seen, wordEvent, fopWord}
 use Rattle.session.specs.Ends.{Settings}
@@ -27,9 +28,9 @@ use Rattle.session.proofs.Chan.{Wds, wds-le}
 use Rattle.session.proofs.Values.{word, queue-length}
 use Rattle.session.proofs.Rows.{word-ok}
 use Rattle.session.proofs.Inv.{Inv, row-bound}
-use Rattle.session.proofs.Next.{lv, acked}
+use Rattle.session.proofs.Next.{serves-as, lv, acked}
 use Rattle.session.proofs.Clear.{look-conf}
-use Rattle.session.proofs.Keys.{Tidy}
+use Rattle.session.proofs.Keys.{bit, floor, Keys, Tidy}
 use Rattle.session.proofs.Every.{implies, implied, everySeen, seen-at}
 use Rattle.session.proofs.WordAlerts.{fitting, live-fits}
 
@@ -168,11 +169,17 @@ module _ (set : Settings) (σ : Session) (I : Inv set σ) (Q : Tidy (set .n) σ)
       ap length (a .0) ∙ length-take (offset (w .nr) (σ .fop .nnr)) (fdus (σ .fop .sentQueue))
       ∙ omega (arith, new-is, ln, I .base, wds-le (set .n) (reports .0) _ ws (reports .4))
 
+  state-keys : Keys (set .n) (length (σ .sent)) (floor (effective (σ .fop)) (length (σ .confirmed))) (2 * length (σ .accepted) + bit (σ .farm .retransmit)) (w ∷ ws)
+      → Keys (set .n) (length (σ .sent)) (floor (σ .fop .state) (length (σ .confirmed))) (2 * length (σ .accepted) + bit (σ .farm .retransmit)) (w ∷ ws)
+  state-keys =
+      subst (λ (s : State). Keys (set .n) (length (σ .sent)) (floor s (length (σ .confirmed))) (2 * length (σ .accepted) + bit (σ .farm .retransmit)) (w ∷ ws))
+      (serves-as (σ .fop .state) (σ .fop .suspendState) sv)
+
   least : (b : Bool) → not (eqb (offset (w .nr) (σ .fop .nnr)) 0) ≡ b → offset (w .nr) (σ .fop .nnr) ≤ length ((fopWord w (σ .fop)) .confirmed)
   unfolding fopWord fopDo removeAcknowledged
   least false e = omega (arith, eqb-true (offset (w .nr) (σ .fop .nnr)) 0 (not-false _ e))
   least true e =
-      let f = live-fits set σ I w ws (σ .fop .state) (lv set σ I sv) (rw comes at (Q .keys)) in
+      let f = live-fits set σ I w ws (σ .fop .state) (lv set σ I sv) (state-keys (rw comes at (Q .keys))) in
       let t = implied (fitting (σ .fop .state) (seen w (σ .fop))) _ (seen-at (removesAt (σ .fop .state)) (seen w (σ .fop))
       (removes-all (σ .fop .state) sv)) f in
       let r = implied ((seen w (σ .fop)) .new) _ t e in

@@ -24,7 +24,7 @@ use Rattle.fop.specs.Events as fop
 use Rattle.base.proofs.Computed.{is-true}
 use Rattle.session.proofs.Choices.{by-pick, and-l, and-r, and-both, unrefused, upto, _also_}
 use Rattle.session.proofs.Ways.{look-ways, directive-ways, purge-ways}
-use Rattle.session.proofs.Test.{everyCell, every-cell, allLines, first-all, lower-all, lowered, tick-ways, Keeps, where-so, allKeep, all-keep}
+use Rattle.session.proofs.Test.{everyCell, every-cell, allLines, first-all, lower-all, lowered, tick-ways, never-suspends, Keeps, where-so, allKeep, all-keep}
 use Rattle.session.proofs.Inv.{fit}
 
 -- Suspend_State, Timeout_Type and the notification; z says that the value in hand is 0
@@ -104,7 +104,7 @@ tick-still : (f : Fop) → Idle f → Stays (fopTick f)
 unfolding table78 still
 tick-still f h =
     let k : Idle (lowered f) = record { notSuspended = h .notSuspended; alerting = h .alerting } in
-    tick-ways (rowStill false) tt Stays f (eq-eqb (f .preset .timeoutType) 0 (h .alerting))
+    tick-ways (rowStill false) tt Stays f (never-suspends f (eq-eqb (f .preset .timeoutType) 0 (h .alerting)))
     (λ e t. do-still false e [] 0 (lowered f) t (λ y. absurd (false≢true y)) k) (k, refl)
 
 lower-still : (l : Lower) (f : Fop) → Idle f → Stays (fopLower l f)

@@ -13,6 +13,7 @@ use Rattle.base.specs.Modulo.{advanced, offset}
 use Rattle.fop.specs.Units.{Fdu, AD, Word, legal, wordOctets}
 use Rattle.fop.specs.Table.{State, S1, S2, S3, S4, S5, S6, FopEvent, table78, cell78, AddToWaitQueue, AdOutReady, InitiateAdRetransmission}
 use Rattle.fop.specs.Variables.{Fop, Work, Entry, Preset, begin}
+use Rattle.fop.specs.Effective.{effectiveOf, effective}
 use Rattle.fop.specs.Machine.{fdus, firstMarked, acknowledged, unacknowledged, markAll, fopDo, performCell, performAll, perform, lookForFdu, sendNext}
 use Rattle.fop.specs.Variables.{setState, onFop}
 use Rattle.fop.specs.Machine.{sendWaiting, transmitAd}
@@ -74,7 +75,7 @@ in-serving P a b S6 e = absurd (false≢true e)
 pub served : (s : State) → serves s ≡ true → inService s ≡ true
 served = in-serving (λ s. inService s ≡ true) refl refl
 
--- a sender in service is live
+-- a sender is live where its effective state is in service, and so where its state is
 pub live-of : (s : State) (n C : ℕ) (sent : List Fdu) (gone : List (Option ℕ)) (q : List Fdu) (vs nn : ℕ) → inService s ≡ true
     → Side (modeOf s) n C sent gone q vs nn → Live n C gone sent [] [] q vs nn
 live-of S1 n C sent gone q vs nn e h = h
@@ -83,6 +84,14 @@ live-of S3 n C sent gone q vs nn e h = h
 live-of S4 n C sent gone q vs nn e h = absurd h
 live-of S5 n C sent gone q vs nn e h = absurd h
 live-of S6 n C sent gone q vs nn e h = absurd (false≢true e)
+
+pub serves-as : (s : State) (n : ℕ) → inService s ≡ true → effectiveOf s n ≡ s
+serves-as S1 n e = refl
+serves-as S2 n e = refl
+serves-as S3 n e = refl
+serves-as S4 n e = refl
+serves-as S5 n e = refl
+serves-as S6 n e = absurd (false≢true e)
 
 -- what is outstanding, of a live sender
 pub out-is : (set : Settings) (σ : Session) → Inv set σ → σ .denied ≡ [] → outstanding (historyOf σ)
@@ -96,7 +105,7 @@ out-is set σ I f =
 module _ (set : Settings) (σ : Session) (I : Inv set σ) (sv : inService (σ .fop .state) ≡ true) where
   -- the sender is live
   pub lv : Live (set .n) (length (σ .confirmed)) (σ .denied) (σ .sent) [] [] (fdus (σ .fop .sentQueue)) (σ .fop .vs) (σ .fop .nnr)
-  lv = live-of (σ .fop .state) (set .n) _ _ _ _ _ _ sv (I .side)
+  lv = live-of (effective (σ .fop)) (set .n) _ _ _ _ _ _ (ap inService (serves-as (σ .fop .state) (σ .fop .suspendState) sv) ∙ sv) (I .side)
 
   -- how many are outstanding
   pub out-count : length (outstanding (historyOf σ)) ≡ length (σ .sent) - length (σ .confirmed)

@@ -19,7 +19,7 @@ use Rattle.fop.specs.Variables.{Entry, Fop, Work, begin}
 use Rattle.fop.specs.Machine.{firstMarked, unacknowledged, isAcknowledged, countFor, markBc, perform, performCell, sendNext, sendWaiting, transmitAd, lookForDirective, removeAcknowledged, fopDo}
 use Rattle.fop.specs.Events.{when, first, Seen, wordLines, wordEvent, seen, fopWord, fopAd, fopBd, expiryLines, fopExpiry, fopTick, fopLower, directiveEvent, fopDirective, fopReceived, isEmpty, SenderEvent, requestAd, requestBd, lower, directive, wordArrives, work}
 use Rattle.fop.specs.Events as fop
-use Rattle.session.specs.Ends.{Settings, startSender}
+use Rattle.session.specs.Ends.{Settings, Within, startSender}
 use Rattle.session.specs.Session.{Event, adRequest, bdRequest, ticks, lowerSays, terminate, wordIn, wordLost, wordMade, frameIn, frameLost, release}
 use Rattle.session.specs.Stronger.{InSession}
 use Rattle.session.proofs.Receiver.{begun}
@@ -222,9 +222,9 @@ work-once own ws (directive d v) f i h =
 work-once own ws (wordArrives s) f i h = received-once (readWord own s) f h
 
 -- The session's sender at a limit of 1, at the start and after each event.
-pub start-once : (set : Settings) → 1 ≤ set .count → set .limit ≡ 1 → Once (begun set .fop)
+pub start-once : (set : Settings) → Within set → set .limit ≡ 1 → Once (begun set .fop)
 unfolding startSender
-start-once set k l = record { limit = l; alerting = refl; counted = k; unmarked = refl; noBc = refl }
+start-once set vw l = record { limit = l; alerting = omega (arith, vw .timeoutMost); counted = vw .countLeast; unmarked = refl; noBc = refl }
 
 module _ (set : Settings) where
   sender-once : (ws : List (List ℕ)) (e : SenderEvent) (lent : ℕ) (κ : Session) → InSession ws e → Once (κ .fop) → Once ((sender set e lent κ) .fop)

@@ -41,7 +41,7 @@ unchanged : (set : Settings) (σ : Session) (v : Variables) (b : List (List ℕ)
     → Inv set (receiver v (σ .accepted) b r fs σ)
 unfolding receiver
 unchanged set σ v b fs r I f s h =
-    record { base = refly (I .base) f; side = I .side; isSet = I .isSet; waiting = I .waiting; places = I .places; words = I .words; receiver = h; bd = s }
+    record { base = refly (I .base) f; side = I .side; suspension = I .suspension; isSet = I .isSet; waiting = I .waiting; places = I .places; words = I .words; receiver = h; bd = s }
 
 -- one that accepted the expected unit
 accepted : (set : Settings) (σ : Session) (v : Variables) (u : Fdu) (fs : List Frame) → Inv set σ
@@ -63,6 +63,7 @@ accepted set σ v u fs I eu b f s h =
         fly = fly-mono (set .k) (σ .sent) _ _ _ _ fs (omega arith) (omega arith) f;
       };
       side = I .side;
+      suspension = I .suspension;
       isSet = I .isSet;
       waiting = I .waiting;
       places = I .places;
@@ -220,6 +221,7 @@ lost-keeps set σ I =
     record {
       base = refly (I .base) (rest-fly (set .k) (σ .sent) (length (σ .accepted)) (σ .frames) (I .base .fly));
       side = I .side;
+      suspension = I .suspension;
       isSet = I .isSet;
       waiting = I .waiting;
       places = I .places;
@@ -298,6 +300,7 @@ start-inv set vw =
         fly = tt;
       };
       side = record { cut = refl; undenied = refl; fresh = refl; isVs = omega (arith, vw .number); isNn = omega (arith, vw .number) };
+      suspension = record { outside = tt; serving = refl; type-most = vw .timeoutMost };
       isSet = refl;
       waiting = tt;
       places = refl;

@@ -1,20 +1,22 @@
--- One computed test of table 7-8: what its actions do to the sender's mode, cell by cell.
-use mathlib.Core.Path.{_≡_, refl}
+-- One computed test of table 7-8: what its actions do to the sender's mode, which is that of its effective state, cell by cell.
+use mathlib.Core.Path.{_≡_, refl, sym, ap, subst, _∙_}
 use mathlib.Core.Bool.{Bool, true, false, _&&_}
 use mathlib.Core.List.{List, [], _∷_}
 use mathlib.Core.Option.{some}
 use Prim.Native.Nat.{ℕ}
-use lib.Dec.{T}
+use lib.Dec.{T, eqb, eqb→eq}
 use Rattle.fop.specs.Table.{Ignore, SetSuspendState, Suspend, Resume, State, S1, S2, S3, S4, S5, S6, Action, Cell, cell, ifNotSuspended, NotApplicable, Row, row, FopEvent, table78, cell78, Accept, Reject, Confirm}
 use Rattle.fop.specs.Table.{RejectAd, AcceptBd, RejectBd, AddToWaitQueue, LookForFdu, LookForDirective, RemoveAcknowledgedFrames, InitiateAdRetransmission}
 use Rattle.fop.specs.Table.{InitiateBcRetransmission, ReleaseBcFrame, CancelTimer, StartTimer, Alert, Initialise, TransmitUnlock, TransmitSetVr, TransmitBd}
 use Rattle.fop.specs.Table.{SetVs, SetNnr, SetK, SetT1Initial, SetTransmissionLimit, SetTimeoutType, AdOutReady, BcOutReady, BdOutReady}
 use Rattle.fop.specs.Variables.{Fop}
 use Rattle.fop.specs.Variables.{begin}
+use Rattle.fop.specs.Effective.{effectiveOf, effective}
 use Rattle.fop.specs.Machine.{performCell, fopDo}
 use Rattle.fop.specs.Events.{when, first, Seen, wordLines, wordEvent, Lower, lowerEvent}
 use Rattle.session.proofs.Choices.{and-l, and-r}
 use Rattle.session.proofs.Test.{first-all, lower-all}
+use Rattle.session.proofs.Suspended.{suspendAll, suspend-all, unsuspended}
 use Rattle.session.proofs.Values.{Mode, live, dead, bad, Given, word, unit, nothing}
 
 -- what an action does to the mode; bad: the invariant does not cover it
@@ -89,7 +91,7 @@ match bad live = false
 match bad dead = false
 match bad bad = false
 
-pub matched : (a b : Mode) → T (match a b) → a ≡ b
+matched : (a b : Mode) → T (match a b) → a ≡ b
 matched live live t = refl
 matched live dead t = absurd t
 matched live bad t = absurd t
@@ -109,22 +111,63 @@ sound bad = false
 abbrev pub atAll : (State → Cell → Bool) → Row → Bool
 atAll t (row a b c d e f) = t S1 a && (t S2 b && (t S3 c && t S6 f))
 
-pub at-cell : (t : State → Cell → Bool) (r : Row) (s : State) → T (atAll t r) → T (sound (modeOf s)) → T (t s (cell78 r s))
-at-cell t (row a b c d e f) S1 h g = and-l (t S1 a) _ h
-at-cell t (row a b c d e f) S2 h g = and-l (t S2 b) _ (and-r (t S1 a) _ h)
-at-cell t (row a b c d e f) S3 h g = and-l (t S3 c) _ (and-r (t S2 b) _ (and-r (t S1 a) _ h))
-at-cell t (row a b c d e f) S4 h g = absurd g
-at-cell t (row a b c d e f) S5 h g = absurd g
-at-cell t (row a b c d e f) S6 h g = and-r (t S3 c) _ (and-r (t S2 b) _ (and-r (t S1 a) _ h))
+pub at-cell : (t : State → Cell → Bool) (r : Row) (s : State) (n : ℕ) → T (atAll t r) → T (sound (modeOf (effectiveOf s n))) → T (t s (cell78 r s))
+at-cell t (row a b c d e f) S1 n h g = and-l (t S1 a) _ h
+at-cell t (row a b c d e f) S2 n h g = and-l (t S2 b) _ (and-r (t S1 a) _ h)
+at-cell t (row a b c d e f) S3 n h g = and-l (t S3 c) _ (and-r (t S2 b) _ (and-r (t S1 a) _ h))
+at-cell t (row a b c d e f) S4 n h g = absurd g
+at-cell t (row a b c d e f) S5 n h g = absurd g
+at-cell t (row a b c d e f) S6 n h g = and-r (t S3 c) _ (and-r (t S2 b) _ (and-r (t S1 a) _ h))
 
--- the one test of the table: each cell's actions lead to the mode of its next state
-abbrev pub cellOk : Given → State → Cell → Bool
-cellOk g s NotApplicable = true
-cellOk g s (ifNotSuspended xs ys u) = false
-cellOk g s (cell xs u) = match (afterAll g xs (modeOf s)) (modeOf u)
+-- a test that depends on Suspend_State, at Suspend_State 0
+pub at-zero : (t : ℕ → State → Cell → Bool) (r : Row) (f : Fop) → T (atAll (t 0) r) → T (sound (modeOf (effective f))) → f .suspendState ≡ 0
+    → T (t (f .suspendState) (f .state) (cell78 r (f .state)))
+at-zero t r f h g z =
+    subst (λ (n : ℕ). T (t n (f .state) (cell78 r (f .state)))) (sym z) (at-cell (t 0) r (f .state) (f .suspendState) h g)
+
+-- the one test of the table, at a Suspend_State: each cell's actions lead to the mode of its next effective state, with Suspend_State 0 but in
+-- Initial
+abbrev pub cellOk : Given → ℕ → State → Cell → Bool
+cellOk g n s NotApplicable = true
+cellOk g n s (ifNotSuspended xs ys u) = false
+cellOk g n s (cell xs u) =
+    match (afterAll g xs (modeOf (effectiveOf s n))) (modeOf (effectiveOf u (suspendAll xs n))) && unsuspended u (suspendAll xs n)
+
+pub leads : (g : Given) (n : ℕ) (s : State) (xs : List Action) (u : State) → T (cellOk g n s (cell xs u))
+    → afterAll g xs (modeOf (effectiveOf s n)) ≡ modeOf (effectiveOf u (suspendAll xs n))
+leads g n s xs u t =
+    let a : Mode = afterAll g xs (modeOf (effectiveOf s n)) in
+    let b : Mode = modeOf (effectiveOf u (suspendAll xs n)) in
+    matched a b (and-l (match a b) (unsuspended u (suspendAll xs n)) t)
+
+-- "Suspend_State stays 0"
+abbrev stays : Cell → Bool
+stays NotApplicable = true
+stays (ifNotSuspended xs ys u) = false
+stays (cell xs u) = eqb (suspendAll xs 0) 0
 
 abbrev pub rowOk : Given → FopEvent → Bool
-rowOk g e = atAll (cellOk g) (table78 e)
+rowOk g e = atAll (λ s c. cellOk g 0 s c && stays c) (table78 e)
+
+-- the cell that a sender meets passes the test
+abbrev pub Passes : Given → FopEvent → Fop → Type 0
+Passes g e f = T (cellOk g (f .suspendState) (f .state) (cell78 (table78 e) (f .state)))
+
+module _ (g : Given) (e : FopEvent) (f : Fop) (t : T (rowOk g e)) (h : T (sound (modeOf (effective f)))) (z : f .suspendState ≡ 0) where
+  both-tests : T (cellOk g (f .suspendState) (f .state) (cell78 (table78 e) (f .state)) && stays (cell78 (table78 e) (f .state)))
+  both-tests = at-zero (λ n s c. cellOk g n s c && stays c) (table78 e) f t h z
+
+  pub passes : Passes g e f
+  passes = and-l (cellOk g (f .suspendState) (f .state) (cell78 (table78 e) (f .state))) _ both-tests
+
+  pub do-stays : (o : List ℕ) (v : ℕ) → (fopDo e o v f) .fop .suspendState ≡ 0
+  unfolding fopDo performCell
+  do-stays o v = go (cell78 (table78 e) (f .state)) (and-r (cellOk g (f .suspendState) (f .state) (cell78 (table78 e) (f .state))) _ both-tests)
+    where
+      go : (c : Cell) → T (stays c) → (performCell c (begin (some e) o v f)) .fop .suspendState ≡ 0
+      go NotApplicable t = z
+      go (ifNotSuspended xs ys s) t = absurd t
+      go (cell xs s) t = suspend-all xs (begin (some e) o v f) ∙ ap (suspendAll xs) z ∙ eqb→eq (suspendAll xs 0) 0 t
 
 match-sound : (a b : Mode) → T (match a b) → T (sound b)
 match-sound a live t = tt
@@ -133,15 +176,31 @@ match-sound live bad t = absurd t
 match-sound dead bad t = absurd t
 match-sound bad bad t = absurd t
 
-pub do-sound : (g : Given) (e : FopEvent) (o : List ℕ) (v : ℕ) (f : Fop) → T (rowOk g e) → T (sound (modeOf (f .state)))
-    → T (sound (modeOf ((fopDo e o v f) .fop .state)))
-unfolding fopDo performCell
-do-sound g e o v f t h = go (cell78 (table78 e) (f .state)) (at-cell (cellOk g) (table78 e) (f .state) t h)
-  where
-    go : (c : Cell) → T (cellOk g (f .state) c) → T (sound (modeOf ((performCell c (begin (some e) o v f)) .fop .state)))
-    go NotApplicable t = h
-    go (ifNotSuspended xs ys s) t = absurd t
-    go (cell xs s) t = match-sound (afterAll g xs (modeOf (f .state))) (modeOf s) t
+-- its mode after the row
+module _ (g : Given) (e : FopEvent) (o : List ℕ) (v : ℕ) (f : Fop) (t : Passes g e f) where
+  pub do-sound : T (sound (modeOf (effective f))) → T (sound (modeOf (effective ((fopDo e o v f) .fop))))
+  unfolding fopDo performCell
+  do-sound h = go (cell78 (table78 e) (f .state)) t
+    where
+      go : (c : Cell) → T (cellOk g (f .suspendState) (f .state) c) → T (sound (modeOf (effective ((performCell c (begin (some e) o v f)) .fop))))
+      go NotApplicable t = h
+      go (ifNotSuspended xs ys s) t = absurd t
+      go (cell xs s) t =
+          subst (λ (n : ℕ). T (sound (modeOf (effectiveOf s n)))) (sym (suspend-all xs (begin (some e) o v f)))
+          (match-sound (afterAll g xs (modeOf (effective f))) (modeOf (effectiveOf s (suspendAll xs (f .suspendState))))
+          (and-l (match (afterAll g xs (modeOf (effective f))) (modeOf (effectiveOf s (suspendAll xs (f .suspendState))))) _ t))
+
+  pub do-unsuspended : T (unsuspended (f .state) (f .suspendState)) → T (unsuspended ((fopDo e o v f) .fop .state) ((fopDo e o v f) .fop .suspendState))
+  unfolding fopDo performCell
+  do-unsuspended h = go (cell78 (table78 e) (f .state)) t
+    where
+      go : (c : Cell) → T (cellOk g (f .suspendState) (f .state) c)
+          → T (unsuspended ((performCell c (begin (some e) o v f)) .fop .state) ((performCell c (begin (some e) o v f)) .fop .suspendState))
+      go NotApplicable t = h
+      go (ifNotSuspended xs ys s) t = absurd t
+      go (cell xs s) t =
+          subst (λ (n : ℕ). T (unsuspended s n)) (sym (suspend-all xs (begin (some e) o v f)))
+          (and-r (match (afterAll g xs (modeOf (effective f))) (modeOf (effectiveOf s (suspendAll xs (f .suspendState))))) _ t)
 
 pub word-ok : (s : Seen) → T (rowOk word (wordEvent s))
 unfolding table78 wordEvent

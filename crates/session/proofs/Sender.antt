@@ -1,5 +1,5 @@
 -- Every row of table 7-8 that the session can meet keeps the sender's invariant, action by action.
-use mathlib.Core.Path.{_≡_, refl, ap, _∙_}
+use mathlib.Core.Path.{_≡_, refl, sym, ap, subst, _∙_}
 use mathlib.Core.Bool.{false}
 use mathlib.Core.List.{List, [], _∷_, _++_, append-assoc, append-nil}
 use mathlib.Core.Option.{Option, some}
@@ -16,6 +16,7 @@ use Rattle.fop.specs.Table.{SetVs, SetNnr, SetK, SetT1Initial, SetTransmissionL
 use Rattle.fop.specs.Variables.{Fop, Work, Preset}
 use Rattle.fop.specs.Machine.{fdus, firstMarked, acknowledged, unacknowledged, perform, performAll}
 use Rattle.fop.specs.Variables.{begin}
+use Rattle.fop.specs.Effective.{effectiveOf, effective}
 use Rattle.fop.specs.Machine.{performCell, transmitAd, sendWaiting, sendNext, lookForFdu, purge, removeAcknowledged, fopDo}
 use Rattle.session.proofs.Ways.{look-ways, purge-ways}
 use Rattle.session.proofs.Core.{addAll}
@@ -23,7 +24,8 @@ use Rattle.session.proofs.Lists.{addAll-append}
 use Rattle.session.proofs.Values.{Mode, live, dead, bad, Given, word, unit, nothing, WI, resent, sent-new, sent-bd, confirmed, queue-length, queue-at}
 use Rattle.session.proofs.Values.{run-places}
 use Rattle.session.proofs.Queue.{fdus-mark, fdus-unmark, fdus-append, found, ack}
-use Rattle.session.proofs.Rows.{after, afterAll, modeOf, matched, sound, at-cell, cellOk, rowOk}
+use Rattle.session.proofs.Rows.{after, afterAll, modeOf, cellOk, leads, Passes}
+use Rattle.session.proofs.Suspended.{suspend-all}
 
 module _ (n : ℕ) (P : Preset) (C : ℕ) (gone : List (Option ℕ)) (acc sent0 : List Fdu) (fr0 : List Frame) (given : Given) (a : ℕ) where
   abbrev pub WInv : Mode → Work → Type 0
@@ -171,17 +173,17 @@ module _ (n : ℕ) (P : Preset) (C : ℕ) (gone : List (Option ℕ)) (acc sent0 
   keeps-all [] m w h = h
   keeps-all (x ∷ xs) m w h = keeps-all xs (after given x m) (perform x w) (keeps x m w h)
 
-  cell-keeps : (c : Cell) (w : Work) → T (cellOk given (w .fop .state) c) → I (modeOf (w .fop .state)) w
-      → I (modeOf ((performCell c w) .fop .state)) (performCell c w)
+  cell-keeps : (c : Cell) (w : Work) → T (cellOk given (w .fop .suspendState) (w .fop .state) c) → I (modeOf (effective (w .fop))) w
+      → I (modeOf (effective ((performCell c w) .fop))) (performCell c w)
   unfolding performCell
   cell-keeps NotApplicable w t h = h
   cell-keeps (ifNotSuspended xs ys s) w t h = absurd t
   cell-keeps (cell xs s) w t h =
-      rw (← matched (afterAll given xs (modeOf (w .fop .state))) (modeOf s) t) (keeps-all xs (modeOf (w .fop .state)) w h)
+      subst (λ (n : ℕ). I (modeOf (effectiveOf s n)) (performCell (cell xs s) w)) (sym (suspend-all xs w))
+      (subst (λ (m : Mode). I m (performCell (cell xs s) w)) (leads given (w .fop .suspendState) (w .fop .state) xs s t)
+      (keeps-all xs (modeOf (effective (w .fop))) w h))
 
-  pub do-keeps : (e : FopEvent) (o : List ℕ) (v : ℕ) (f : Fop) → T (rowOk given e) → T (sound (modeOf (f .state)))
-      → I (modeOf (f .state)) (begin (some e) o v f)
-      → I (modeOf ((fopDo e o v f) .fop .state)) (fopDo e o v f)
+  pub do-keeps : (e : FopEvent) (o : List ℕ) (v : ℕ) (f : Fop) → Passes given e f → I (modeOf (effective f)) (begin (some e) o v f)
+      → I (modeOf (effective ((fopDo e o v f) .fop))) (fopDo e o v f)
   unfolding fopDo
-  do-keeps e o v f t g h =
-      cell-keeps (cell78 (table78 e) (f .state)) (begin (some e) o v f) (at-cell (cellOk given) (table78 e) (f .state) t g) h
+  do-keeps e o v f t h = cell-keeps (cell78 (table78 e) (f .state)) (begin (some e) o v f) t h

@@ -8,20 +8,22 @@ use mathlib.Core.Option.{Option, some}
 use Prim.Native.Nat.{ℕ, _+_, _-_, _≤_}
 use native.Mathlib.Nat.{zero-add}
 use native.Mathlib.Omega.{arith}
+use lib.Dec.{T}
 use lib.ListN.{length, drop, length-drop}
 use lib.Seq.{take-all, take-length}
 use Rattle.fop.specs.Table.{State, S1, S2, S3, S4, S5, S6}
 use Rattle.fop.specs.Machine.{fdus}
+use Rattle.fop.specs.Effective.{effectiveOf, effective}
 use Rattle.session.specs.Ends.{Settings}
 use Rattle.session.specs.Claims.{unitsAt, outstanding, remaining, BufferFree}
 use Rattle.session.specs.Stronger.{unitsOf, somes, inService}
 use Rattle.session.proofs.Core.{Session}
 use Rattle.session.proofs.Lists.{iota, iota-append, length-nums, somes-nums, units-iota, unitsOf-nums, left-none}
 use Rattle.session.proofs.Values.{Dead}
-use Rattle.session.proofs.Rows.{modeOf}
-use Rattle.session.proofs.Inv.{Inv, Side, isLocked}
+use Rattle.session.proofs.Rows.{modeOf, sound}
+use Rattle.session.proofs.Inv.{Inv, Side, in-mode, isLocked}
 use Rattle.session.proofs.Buffers.{Full}
-use Rattle.session.proofs.Next.{historyOf, lv, out-is}
+use Rattle.session.proofs.Next.{historyOf, live-of, lv, out-is}
 use Rattle.farm.specs.declared.State.{State as FarmState}
 use Rattle.farm.specs.declared.State.the-variants.{Open, Wait, Lockout}
 
@@ -64,16 +66,28 @@ module _ (set : Settings) (κ : Session) (I : Inv set κ) where
   state-is S5 h = absurd h
   state-is S6 h = inr refl
 
+  -- the states of a session
+  pub states-are : (inService (κ .fop .state) ≡ true) ⊎ (κ .fop .state ≡ S6)
+  states-are = by (κ .fop .state) (in-mode set κ I)
+    where
+      by : (s : State) → T (sound (modeOf (effectiveOf s (κ .fop .suspendState)))) → (inService s ≡ true) ⊎ (s ≡ S6)
+      by S1 h = inl refl
+      by S2 h = inl refl
+      by S3 h = inl refl
+      by S4 h = absurd h
+      by S5 h = absurd h
+      by S6 h = inr refl
+
   pub at-most : length (outstanding (historyOf κ)) ≤ set .k
   unfolding outstanding
-  at-most = by (state-is (κ .fop .state) (I .side))
+  at-most = by (state-is (effective (κ .fop)) (I .side))
     where
-      by : (inService (κ .fop .state) ≡ true) ⊎ (κ .fop .state ≡ S6) → length (outstanding (historyOf κ)) ≤ set .k
-      by (inl e) = omega (arith, ap length (out-is set κ I (lv set κ I e .fresh)), length-nums C (S - C), I .base)
+      by : (inService (effective (κ .fop)) ≡ true) ⊎ (effective (κ .fop) ≡ S6) → length (outstanding (historyOf κ)) ≤ set .k
+      by (inl e) = omega (arith, ap length (out-is set κ I (live-of (effective (κ .fop)) (set .n) _ _ _ _ _ _ e (I .side) .fresh)), length-nums C (S - C), I .base)
       by (inr e) =
           let z : remaining (κ .confirmed) (κ .denied) 0 S ≡ [] =
           ap (λ (x : List (Option ℕ)). remaining x (κ .denied) 0 S) (I .places)
-          ∙ ap (λ (x : List (Option ℕ)). remaining (iota 0 C) x 0 S) (initial-denied (κ .fop .state) (I .side) e) ∙ left-none C (S - C) 0 S (omega (arith, low)) in
+          ∙ ap (λ (x : List (Option ℕ)). remaining (iota 0 C) x 0 S) (initial-denied (effective (κ .fop)) (I .side) e) ∙ left-none C (S - C) 0 S (omega (arith, low)) in
           omega (arith, ap length z)
 
   pub standing : inService (κ .fop .state) ≡ true → unitsAt (κ .sent) (κ .confirmed ++ somes (outstanding (historyOf κ))) ≡ map some (κ .sent)

@@ -13,6 +13,7 @@ use Rattle.base.specs.Modulo.{advanced}
 use Rattle.fop.specs.Units.{Fdu, Frame, AD, BD, Word, valid, written, wordOctets, readWord}
 use Rattle.fop.specs.Table.{State, S1, S2, S3, S4, S5, S6, FopEvent}
 use Rattle.fop.specs.Variables.{Fop, Work}
+use Rattle.fop.specs.Effective.{effective}
 use Rattle.fop.specs.Machine.{fdus}
 use Rattle.fop.specs.Events.{fopTick, first, when, fopAd, fopBd, fopLower, fopDirective, directiveEvent, isEmpty, lowerEvent, wordEvent, seen}
 use Rattle.fop.specs.Events.{fopWord, SenderEvent, requestAd, requestBd, lower, directive, wordArrives, work}
@@ -24,7 +25,8 @@ use Rattle.session.specs.Claims.{unitsAt, outstanding, IsOutstanding, ne
 use Rattle.session.specs.Stronger.{unitsOf, somes, inService, InSession, Stronger, Sub}
 use Rattle.fop.specs.Events as fop
 use Rattle.session.specs.Session as ses
-use Rattle.session.proofs.Test.{lowered, tick-ways}
+use Rattle.session.proofs.Test.{lowered, tick-ways, never-suspends}
+use Rattle.session.proofs.Suspended.{effective-is}
 use Rattle.session.proofs.Rows.{modeOf, rowOk, word-ok, timer-ok, ad-ok, bd-ok, lower-ok, terminate-ok}
 use Rattle.session.proofs.Inv.{Inv, withFop, timed, fit, legal-of, ad-keeps, bd-keeps, ticks-keeps, lower-keeps, terminate-keeps}
 use Rattle.session.proofs.Inv.{word-keeps, alerting, in-mode}
@@ -33,7 +35,7 @@ use Rattle.session.proofs.Chan.{wds-le}
 use Rattle.session.proofs.Values.{word, unit, nothing, live}
 use Rattle.session.proofs.Bds.{bd-part}
 use Rattle.session.proofs.Receiver.{at}
-use Rattle.session.proofs.Next.{historyOf, lv, word-step}
+use Rattle.session.proofs.Next.{historyOf, live-of, lv, word-step}
 use Rattle.session.proofs.Arrive.{expedites, accepts-bd}
 use Rattle.session.proofs.Asks.{responds, starts, asks}
 use Rattle.session.proofs.Link.{Rel, reads-of, same-step, tables-tied, reads, fly-reads, Reads}
@@ -43,7 +45,7 @@ use Rattle.session.proofs.Handed.{From, row-from, is-handed}
 use Rattle.session.proofs.Keys.{Tidy}
 use Rattle.session.proofs.Tidy.{step-tidy, start-tidy}
 use Rattle.session.proofs.Theorem.{oldest-frame, word-comes, either, from-start}
-use Rattle.session.proofs.Standing.{initial-denied, all-units, at-most, standing, queued, state-is, opens}
+use Rattle.session.proofs.Standing.{initial-denied, all-units, at-most, standing, queued, states-are, opens}
 use Rattle.session.proofs.Once.{Run, Once, work-once, start-once, step-once}
 use Rattle.session.proofs.Serving.{NoAd, Serving, ad-serving, bd-serving, tick-serving, lower-serving, terminate-serving, word-serving}
 use Rattle.session.proofs.Exact.{exact}
@@ -71,11 +73,11 @@ module _ (set : Settings) (vw : Within set) (m : Ends) (t : Tied set m) (σ : Li
 
   -- each AD frame of the list is a unit sent, not confirmed
   abbrev SentFrom : List Frame → Type 0
-  SentFrom fr = From (modeOf (κ .fop .state)) (length (κ .confirmed)) (addAll (set .n) (κ .sent) fr) fr
+  SentFrom fr = From (modeOf (effective (κ .fop))) (length (κ .confirmed)) (addAll (set .n) (κ .sent) fr) fr
 
   tick-from : SentFrom ((fopTick (κ .fop)) .frames)
   tick-from =
-      tick-ways (rowOk nothing) timer-ok (λ w. SentFrom (w .frames)) (κ .fop) (alerting set κ I)
+      tick-ways (rowOk nothing) timer-ok (λ w. SentFrom (w .frames)) (κ .fop) (never-suspends (κ .fop) (alerting set κ I))
       (λ e t. row-from set (withFop (lowered (κ .fop)) κ) (timed set _ _ κ I) nothing (length (κ .confirmed)) e [] 0 t (omega arith) tt) tt
 
   -- what an event of the session hands down reads back, and is such a list
@@ -159,7 +161,7 @@ module _ (set : Settings) (vw : Within set) (m : Ends) (t : Tied set m) (σ : Li
       let f : w .frames ≡ AD u ∷ [] = down-is (w .frames) o u (work-few (set .own) e (κ .fop)) (k .0) x q in
       let r : Run (κ .fop .vs) (AD u ∷ []) (w .fop .vs) = subst (λ (fs : List Frame). Run (κ .fop .vs) fs (w .fop .vs)) f (work-once (set .own) (σ .words) e (κ .fop) h (O l) .1) in
       let s : SentFrom (AD u ∷ []) = subst SentFrom f (k .1) in
-      r .0 ∙ lv set κ I (live-serves (κ .fop .state) (s .0 .0)) .isVs)
+      r .0 ∙ live-of (effective (κ .fop)) (set .n) _ _ _ _ _ _ (live-serves (effective (κ .fop)) (s .0 .0)) (I .side) .isVs)
       (λ x. absurd (none-some x)) d
 
   -- only an event that leaves the sender active or resending without wait hands an AD frame down
@@ -167,7 +169,7 @@ module _ (set : Settings) (vw : Within set) (m : Ends) (t : Tied set m) (σ : Li
   unfolding work
   work-serving (requestAd o) h = ad-serving (κ .fop) (in-mode set κ I) o
   work-serving (requestBd o) h = bd-serving (κ .fop) (in-mode set κ I) o
-  work-serving fop.tick h = tick-serving (κ .fop) (in-mode set κ I) (alerting set κ I)
+  work-serving fop.tick h = tick-serving (κ .fop) (in-mode set κ I)
   work-serving (lower l) h = lower-serving (κ .fop) (in-mode set κ I) l
   work-serving (directive d v) h =
       subst (λ (x : ℕ). Serving (fopDirective x v (κ .fop))) (sym h) (terminate-serving (κ .fop) (in-mode set κ I) v)
@@ -210,8 +212,8 @@ module _ (set : Settings) (vw : Within set) (m : Ends) (t : Tied set m) (σ : Li
             (queued set κ I (ap inService (sym st-is) ∙ e));
         undenied = λ e. by (λ h. h .denied ≡ []) (lv set κ I (ap inService (sym st-is) ∙ e) .fresh);
         initial = λ e. by (λ h. unitsAt (h .sent) (h .confirmed ++ h .denied) ≡ map some (h .sent))
-            (ap (λ (x : List (Option ℕ)). unitsAt (κ .sent) (κ .confirmed ++ x)) (initial-denied set κ I (κ .fop .state) (I .side) (sym st-is ∙ e)) ∙ all-units set κ I);
-        states = subst (λ (s : State). (inService s ≡ true) ⊎ (s ≡ S6)) (sym st-is) (state-is set κ I (κ .fop .state) (I .side));
+            (ap (λ (x : List (Option ℕ)). unitsAt (κ .sent) (κ .confirmed ++ x)) (initial-denied set κ I (effective (κ .fop)) (I .side) (effective-is (κ .fop) (I .suspension .serving) ∙ sym st-is ∙ e)) ∙ all-units set κ I);
+        states = subst (λ (s : State). (inService s ≡ true) ⊎ (s ≡ S6)) (sym st-is) (states-are set κ I);
         responds = λ o lent g r a b c d k.
             ap (λ (x : Answer). x .responses) (answer-is (requestAd o) lent)
             ∙ responds set κ I o lent g (subst (λ (f : Fop). needed (set .own) (requestAd o) f ≤ lent) (G .fop) r) (rw (G .fop) at a)
@@ -262,5 +264,5 @@ pub stronger-claims : (set : Settings) → Within set → (m : Ends) → Tied se
     → Stronger set m (run set m es (begins m)) (run set (tables set) es (begins (tables set)))
 stronger-claims set vw m t es =
     let k = from-start set vw m t (λ κ. Tidy (set .n) κ × (set .limit ≡ 1 → Once (κ .fop)))
-    (λ e κ I x. (step-tidy set vw e κ I (x .0), λ l. step-once set e κ (x .1 l))) (start-tidy set, start-once set (vw .countLeast)) es in
+    (λ e κ I x. (step-tidy set vw e κ I (x .0), λ l. step-once set e κ (x .1 l))) (start-tidy set, start-once set vw) es in
     stronger set vw m t (run set m es (begins m)) (run set (tables set) es (begins (tables set))) (k .0) (k .1) (k .2) (k .3) (k .4 .0) (k .4 .1)

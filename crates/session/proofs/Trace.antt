@@ -54,7 +54,7 @@ computing = tt
 -- the settings of the examples, by K, the count of buffers, T1_Initial and Transmission_Limit
 abbrev pub settings : ℕ → ℕ → ℕ → ℕ → Settings
 settings k buffers t1 limit =
-    record { n = 254; k = k; w = 10; buffers = buffers; t1 = t1; limit = limit; own = record { spacecraft = 5; channel = 9 }; count = 1; counter = 0 }
+    record { n = 254; k = k; w = 10; buffers = buffers; t1 = t1; limit = limit; timeoutType = 0; own = record { spacecraft = 5; channel = 9 }; count = 1; counter = 0 }
 
 -- the session of a pair of ends after a list of events
 abbrev pub after : Settings → (m : Ends) → List Event → Linked m

@@ -77,6 +77,7 @@ set-within = record {
   timerMost = leb→le _ _ tt;
   limitLeast = leb→le _ _ tt;
   limitMost = leb→le _ _ tt;
+  timeoutMost = leb→le _ _ tt;
   spacecraft = leb→le _ _ tt;
   channel = leb→le _ _ tt;
   countLeast = leb→le _ _ tt;

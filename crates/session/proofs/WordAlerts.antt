@@ -4,7 +4,7 @@ use mathlib.Core.Path.{_≡_, refl, sym, ap, _∙_}
 use mathlib.Core.Bool.{Bool, true, false, not, _&&_, _||_, true≢false, false≢true}
 use mathlib.Core.List.{List, [], _∷_}
 use mathlib.Core.Option.{none, some}
-use Prim.Native.Nat.{_+_, _-_, _*_, _≤_}
+use Prim.Native.Nat.{ℕ, _+_, _-_, _*_, _≤_}
 use native.Mathlib.Omega.{arith}
 use lib.Dec.{leb, ltb, eqb, T}
 use lib.ListN.{length}
@@ -14,6 +14,7 @@ use Rattle.base.specs.Modulo.{offset}
 use Rattle.fop.specs.Units.{Word}
 use Rattle.fop.specs.Table.{State, S1, S2, S3, S4, S5, S6, Reason, table78, cell78}
 use Rattle.fop.specs.Variables.{begin}
+use Rattle.fop.specs.Effective.{effectiveOf}
 use Rattle.fop.specs.Machine.{fopDo}
 use Rattle.fop.specs.Variables.{Preset}
 use Rattle.fop.specs.Machine.{fdus}
@@ -121,15 +122,16 @@ module _ (set : Settings) (σ : Session) (I : Inv set σ) (w : Word) (ws : List 
   live-allows s g h k =
       implied (fitting s (seen w (σ .fop))) _ (seen-at (allowsAt s) (seen w (σ .fop)) (allows-all s g)) (live-fits s h k)
 
-  allows-at : (s : State) → Side (modeOf s) (set .n) (length (σ .confirmed)) (σ .sent) (σ .denied) (fdus (σ .fop .sentQueue)) (σ .fop .vs) (σ .fop .nnr)
-      → Keys (set .n) (length (σ .sent)) (floor s (length (σ .confirmed))) (2 * length (σ .accepted) + bit (σ .farm .retransmit)) (w ∷ ws)
+  allows-at : (s : State) (n : ℕ)
+      → Side (modeOf (effectiveOf s n)) (set .n) (length (σ .confirmed)) (σ .sent) (σ .denied) (fdus (σ .fop .sentQueue)) (σ .fop .vs) (σ .fop .nnr)
+      → Keys (set .n) (length (σ .sent)) (floor (effectiveOf s n) (length (σ .confirmed))) (2 * length (σ .accepted) + bit (σ .farm .retransmit)) (w ∷ ws)
       → T (cellAllows (limitAlert ((seen w (σ .fop)) .once)) (cell78 (table78 (wordEvent (seen w (σ .fop)))) s))
-  allows-at S1 h k = live-allows S1 tt h k
-  allows-at S2 h k = live-allows S2 tt h k
-  allows-at S3 h k = live-allows S3 tt h k
-  allows-at S4 h k = absurd h
-  allows-at S5 h k = absurd h
-  allows-at S6 h k = seen-at allowsInitial (seen w (σ .fop)) allows-initial
+  allows-at S1 n h k = live-allows S1 tt h k
+  allows-at S2 n h k = live-allows S2 tt h k
+  allows-at S3 n h k = live-allows S3 tt h k
+  allows-at S4 n h k = absurd h
+  allows-at S5 n h k = absurd h
+  allows-at S6 n h k = seen-at allowsInitial (seen w (σ .fop)) allows-initial
 
 pub word-alerts : (set : Settings) (σ : Session) → Inv set σ → Tidy (set .n) σ → (w : Word) (ws : List Word) → σ .words ≡ w ∷ ws
     → ((fopWord w (σ .fop)) .alert ≡ none) ⊎ (((fopWord w (σ .fop)) .alert ≡ some Reason.limit) × (set .limit ≡ 1))
@@ -137,7 +139,7 @@ unfolding fopWord fopDo
 word-alerts set σ I t w ws e =
     last (cell-allowed (limitAlert ((seen w (σ .fop)) .once)) (cell78 (table78 (wordEvent (seen w (σ .fop)))) (σ .fop .state))
     (begin (some (wordEvent (seen w (σ .fop)))) [] (w .nr) (σ .fop))
-    (allows-at set σ I w ws (σ .fop .state) (I .side) (rw e at (t .keys))) (inl refl))
+    (allows-at set σ I w ws (σ .fop .state) (σ .fop .suspendState) (I .side) (rw e at (t .keys))) (inl refl))
   where
     last : Allowed (limitAlert ((seen w (σ .fop)) .once)) ((fopWord w (σ .fop)) .alert)
         → ((fopWord w (σ .fop)) .alert ≡ none) ⊎ (((fopWord w (σ .fop)) .alert ≡ some Reason.limit) × (set .limit ≡ 1))
