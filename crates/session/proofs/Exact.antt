@@ -26,7 +26,7 @@ use Rattle.session.proofs.Test.{isThere}
 use Rattle.session.proofs.Core.{Session}
 use Rattle.session.proofs.Chan.{Wds, wds-le}
 use Rattle.session.proofs.Values.{word, queue-length}
-use Rattle.session.proofs.Rows.{word-ok}
+use Rattle.session.proofs.Rows.{any, word-ok}
 use Rattle.session.proofs.Inv.{Inv, row-bound}
 use Rattle.session.proofs.Next.{serves-as, lv, acked}
 use Rattle.session.proofs.Clear.{look-conf}
@@ -159,7 +159,7 @@ module _ (set : Settings) (σ : Session) (I : Inv set σ) (Q : Tidy (set .n) σ)
   most : length (σ .confirmed) + length ((fopWord w (σ .fop)) .confirmed) ≤ reports .0
   unfolding fopWord
   most =
-      row-bound set σ word (reports .0) (wordEvent (seen w (σ .fop))) [] (w .nr) I (word-ok (seen w (σ .fop))) (reports .2)
+      row-bound set σ word (reports .0) (wordEvent (seen w (σ .fop))) [] (w .nr) I (any word _ (word-ok (seen w (σ .fop)))) (reports .2)
       (reports .1, wds-le (set .n) (reports .0) _ ws (reports .4))
 
   removed : length (acknowledged (σ .fop .nnr) (w .nr) (σ .fop .sentQueue)) ≡ offset (w .nr) (σ .fop .nnr)

@@ -30,7 +30,7 @@ use Rattle.session.proofs.Ways.{look-ways}
 use Rattle.session.proofs.Core.{Session, addAll}
 use Rattle.session.proofs.Lists.{addAll-append, member-out}
 use Rattle.session.proofs.Values.{Mode, live, dead, bad, Given, word, unit, nothing, Reports, same-sent, new-sent, queue-length, queue-at}
-use Rattle.session.proofs.Rows.{after, afterAll, modeOf, sound, cellOk, leads, rowOk}
+use Rattle.session.proofs.Rows.{after, afterAll, modeOf, sound, cellOk, leads, Tested}
 use Rattle.session.proofs.Suspended.{suspend-all}
 use Rattle.session.proofs.Sender.{WInv, keeps}
 use Rattle.session.proofs.Queue.{found}
@@ -210,7 +210,7 @@ end-from n C P gone acc sent0 fr0 given a m0 dead w g d = d
 end-from n C P gone acc sent0 fr0 given a m0 bad w g d = absurd g
 
 module _ (set : Settings) (σ : Session) (I : Inv set σ) where
-  pub row-from : (given : Given) (a : ℕ) (e : FopEvent) (o : List ℕ) (v : ℕ) → T (rowOk given e) → length (σ .confirmed) ≤ a
+  pub row-from : (given : Given) (a : ℕ) (e : FopEvent) (o : List ℕ) (v : ℕ) → Tested given e (σ .fop .suspendState) → length (σ .confirmed) ≤ a
       → Reports given (set .n) a (length (σ .accepted)) v o
       → From (modeOf (effective (σ .fop))) (length (σ .confirmed)) (addAll (set .n) (σ .sent) ((fopDo e o v (σ .fop)) .frames)) ((fopDo e o v (σ .fop)) .frames)
   unfolding fopDo

@@ -1,4 +1,5 @@
 -- The session's invariant, and that every event of the sender keeps it.
+use mathlib.Core.Logic.{inl}
 use mathlib.Core.Path.{_≡_, refl, sym, ap, _∙_}
 use mathlib.Core.Bool.{Bool, true, false, false≢true}
 use mathlib.Core.List.{List, [], _∷_, _++_, append-nil}
@@ -19,7 +20,7 @@ use Rattle.fop.specs.Variables.{Fop, Work, Preset, begin, setClock}
 use Rattle.fop.specs.Effective.{effective}
 use Rattle.fop.specs.Machine.{fdus, fopDo}
 use Rattle.fop.specs.Events.{fopWord, fopAd, fopBd, fopTick, fopLower, fopDirective, directiveEvent, fopReceived, isEmpty, SenderEvent, requestAd}
-use Rattle.fop.specs.Events.{requestBd, lower, directive, wordArrives, work, Lower, seen}
+use Rattle.fop.specs.Events.{requestBd, lower, directive, wordArrives, work, Lower, lowerEvent, seen}
 use Rattle.fop.specs.Answers.{judged, senderRefusal, needed}
 use Rattle.farm.specs.declared.State.{State as FarmState}
 use Rattle.farm.specs.declared.State.the-variants.{Open, Wait, Lockout}
@@ -36,7 +37,7 @@ use Rattle.session.proofs.Core.{Session, addAll, firstOf, answered, sen
 use Rattle.session.proofs.Lists.{iota, iota-append, length-iota}
 use Rattle.session.proofs.Chan.{Wds, wds-le, wds-lower}
 use Rattle.session.proofs.Values.{Base, Live, Dead, Mode, live, dead, bad, Given, word, unit, nothing, Reports, WaitOk, WI, run-places}
-use Rattle.session.proofs.Rows.{modeOf, sound, rowOk, Passes, passes, do-stays, do-sound, do-unsuspended, word-ok, timer-ok, ad-ok, bd-ok, lower-ok, terminate-ok}
+use Rattle.session.proofs.Rows.{modeOf, sound, rowAny, Tested, any, Passes, passes, do-stays, do-sound, do-unsuspended, word-ok, timer-ok, ad-ok, bd-ok, lower-ok, terminate-ok}
 use Rattle.session.proofs.Sender.{do-keeps, WInv}
 use Rattle.session.proofs.Octets.{word-back}
 use Rattle.session.proofs.Bds.{bdsOf, bd-handed}
@@ -199,9 +200,9 @@ pub in-mode : (set : Settings) (σ : Session) → Inv set σ → T (sound (modeO
 in-mode set σ I = is-sound (modeOf (effective (σ .fop))) (set .n) _ _ _ _ _ _ (I .side)
 
 -- a row that passes the test does so for the sender, and keeps what is known of Suspend_State
-module _ (set : Settings) (σ : Session) (I : Inv set σ) (given : Given) (e : FopEvent) (t : T (rowOk given e)) where
+module _ (set : Settings) (σ : Session) (I : Inv set σ) (given : Given) (e : FopEvent) (t : Tested given e (σ .fop .suspendState)) where
   pub row-passes : Passes given e (σ .fop)
-  row-passes = passes given e (σ .fop) t (in-mode set σ I) (I .suspension .serving)
+  row-passes = passes given e (σ .fop) t (in-mode set σ I) (I .suspension .outside)
 
   pub row-sound : (o : List ℕ) (v : ℕ) → T (sound (modeOf (effective ((fopDo e o v (σ .fop)) .fop))))
   row-sound o v = do-sound given e o v (σ .fop) row-passes (in-mode set σ I)
@@ -224,21 +225,21 @@ module _ (set : Settings) (σ : Session) (I : Inv set σ) (given : Given) (a : �
       enter (modeOf (effective (σ .fop))) (set .n) (presetOf set) _ (σ .accepted) (σ .sent) (σ .frames) (σ .denied) _ _ _ (σ .fop .preset) given a v
       (σ .fop .waitQueue) o (I .base) (I .side) l rp (I .isSet) (I .waiting)
 
-  row-does : (e : FopEvent) → T (rowOk given e) → W (modeOf (effective ((fopDo e o v (σ .fop)) .fop))) (fopDo e o v (σ .fop))
+  row-does : (e : FopEvent) → Tested given e (σ .fop .suspendState) → W (modeOf (effective ((fopDo e o v (σ .fop)) .fop))) (fopDo e o v (σ .fop))
   row-does e t =
       do-keeps (set .n) (presetOf set) (length (σ .confirmed)) (σ .denied) (σ .accepted) (σ .sent) (σ .frames) given a e o v (σ .fop) (row-passes set σ I given e t)
       (row-begins (some e))
 
 -- a row of the table keeps the invariant
 row-keeps : (set : Settings) (σ : Session) (ws : List Word) (given : Given) (a : ℕ) (e : FopEvent) (o : List ℕ) (v : ℕ) → Inv set σ
-    → T (rowOk given e) → length (σ .confirmed) ≤ a → Reports given (set .n) a (length (σ .accepted)) v o → Wds (set .n) a (length (σ .accepted)) ws
+    → Tested given e (σ .fop .suspendState) → length (σ .confirmed) ≤ a → Reports given (set .n) a (length (σ .accepted)) v o → Wds (set .n) a (length (σ .accepted)) ws
     → Inv set (answered (set .n) (fopDo e o v (σ .fop)) (channels (σ .frames) ws σ))
 row-keeps set σ ws given a e o v I t l rp ww =
     answered-keeps set σ ws given a (fopDo e o v (σ .fop)) I (row-suspension set σ I given e t o v) (row-sound set σ I given e t o v)
     (row-does set σ I given a o v l rp e t) ww
 
 -- no more is confirmed than what is reported
-pub row-bound : (set : Settings) (σ : Session) (given : Given) (a : ℕ) (e : FopEvent) (o : List ℕ) (v : ℕ) → Inv set σ → T (rowOk given e)
+pub row-bound : (set : Settings) (σ : Session) (given : Given) (a : ℕ) (e : FopEvent) (o : List ℕ) (v : ℕ) → Inv set σ → Tested given e (σ .fop .suspendState)
     → length (σ .confirmed) ≤ a → Reports given (set .n) a (length (σ .accepted)) v o
     → length (σ .confirmed) + length ((fopDo e o v (σ .fop)) .confirmed) ≤ a
 row-bound set σ given a e o v I t l rp =
@@ -279,7 +280,7 @@ words-are set σ ws I h =
     record { base = I .base; side = I .side; suspension = I .suspension; isSet = I .isSet; waiting = I .waiting; places = I .places; words = h; receiver = I .receiver; bd = I .bd }
 
 -- a row that no word brings
-plain-keeps : (set : Settings) (σ : Session) (given : Given) (e : FopEvent) (o : List ℕ) (v : ℕ) → Inv set σ → T (rowOk given e)
+plain-keeps : (set : Settings) (σ : Session) (given : Given) (e : FopEvent) (o : List ℕ) (v : ℕ) → Inv set σ → Tested given e (σ .fop .suspendState)
     → Reports given (set .n) (length (σ .confirmed)) (length (σ .accepted)) v o
     → Inv set (answered (set .n) (fopDo e o v (σ .fop)) σ)
 unfolding channels
@@ -294,8 +295,8 @@ unfolding answered channels
 tick-keeps set σ I =
     let τ : Session = withFop (lowered (σ .fop)) σ in
     let J : Inv set τ = timed set _ _ σ I in
-    tick-ways (rowOk nothing) timer-ok (λ w. Inv set (answered (set .n) w σ)) (σ .fop) (never-suspends (σ .fop) (alerting set σ I))
-    (λ e t. row-keeps set τ (σ .words) nothing (length (σ .confirmed)) e [] 0 J t (omega arith) tt (I .words))
+    tick-ways (rowAny nothing) timer-ok (λ w. Inv set (answered (set .n) w σ)) (σ .fop) (never-suspends (σ .fop) (alerting set σ I))
+    (λ e t. row-keeps set τ (σ .words) nothing (length (σ .confirmed)) e [] 0 J (any nothing e t) (omega arith) tt (I .words))
     (answered-keeps set τ (σ .words) nothing (length (σ .confirmed)) (begin none [] 0 (τ .fop)) J (J .suspension) (in-mode set σ I)
     (row-begins set σ I nothing (length (σ .confirmed)) [] 0 (omega arith) tt none) (I .words))
 
@@ -334,15 +335,15 @@ sender-keeps set e lent σ I h =
 
 pub ad-keeps : (set : Settings) (lent : ℕ) (o : List ℕ) (σ : Session) → Inv set σ → Inv set (sender set (requestAd o) lent σ)
 unfolding fopAd judged work
-ad-keeps set lent o σ I = sender-keeps set (requestAd o) lent σ I (λ j. plain-keeps set σ unit _ o 0 I (ad-ok (isEmpty (σ .fop .waitQueue))) (legal-of o j))
+ad-keeps set lent o σ I = sender-keeps set (requestAd o) lent σ I (λ j. plain-keeps set σ unit _ o 0 I (any unit _ (ad-ok (isEmpty (σ .fop .waitQueue)))) (legal-of o j))
 
 pub bd-keeps : (set : Settings) (lent : ℕ) (o : List ℕ) (σ : Session) → Inv set σ → Inv set (sender set (requestBd o) lent σ)
 unfolding fopBd judged work
-bd-keeps set lent o σ I = sender-keeps set (requestBd o) lent σ I (λ j. plain-keeps set σ unit _ o 0 I (bd-ok (σ .fop .out .bd)) (legal-of o j))
+bd-keeps set lent o σ I = sender-keeps set (requestBd o) lent σ I (λ j. plain-keeps set σ unit _ o 0 I (any unit _ (bd-ok (σ .fop .out .bd))) (legal-of o j))
 
 pub lower-keeps : (set : Settings) (lent : ℕ) (l : Lower) (σ : Session) → Inv set σ → Inv set (sender set (lower l) lent σ)
 unfolding fopLower work
-lower-keeps set lent l σ I = sender-keeps set (lower l) lent σ I (λ j. plain-keeps set σ nothing _ [] 0 I (lower-ok l) tt)
+lower-keeps set lent l σ I = sender-keeps set (lower l) lent σ I (λ j. plain-keeps set σ nothing (lowerEvent l) [] 0 I (lower-ok l, inl (I .suspension .serving)) tt)
 
 pub ticks-keeps : (set : Settings) (lent : ℕ) (σ : Session) → Inv set σ → Inv set (sender set fop.tick lent σ)
 unfolding work
@@ -350,7 +351,7 @@ ticks-keeps set lent σ I = sender-keeps set fop.tick lent σ I (λ j. tick-keep
 
 pub terminate-keeps : (set : Settings) (v lent : ℕ) (σ : Session) → Inv set σ → Inv set (sender set (directive 5 v) lent σ)
 unfolding fopDirective directiveEvent work
-terminate-keeps set v lent σ I = sender-keeps set (directive 5 v) lent σ I (λ j. plain-keeps set σ nothing FopEvent.E29 [] v I terminate-ok tt)
+terminate-keeps set v lent σ I = sender-keeps set (directive 5 v) lent σ I (λ j. plain-keeps set σ nothing FopEvent.E29 [] v I (any nothing FopEvent.E29 terminate-ok) tt)
 
 -- a word under way is read as it was reported
 pub word-read : (set : Settings) → Within set → (w : Word) (f : Fop) → w .counter ≤ 3 → w .nr < 256
@@ -371,4 +372,4 @@ word-keeps set vw lent σ [] I h = I
 word-keeps set vw lent σ (w ∷ ws) I h =
     sender-keeps set _ lent (channels (σ .frames) ws σ) (words-are set σ ws I (wds-lower (set .n) (h .0) _ _ ws (h .2) (h .4)))
     (λ j. rw (word-read set vw w (σ .fop) (h .3) (omega (arith, h .1)))
-    (row-keeps set σ ws word (h .0) _ [] (w .nr) I (word-ok (seen w (σ .fop))) (h .2) (h .1, wds-le (set .n) (h .0) _ ws (h .4)) (h .4)))
+    (row-keeps set σ ws word (h .0) _ [] (w .nr) I (any word _ (word-ok (seen w (σ .fop)))) (h .2) (h .1, wds-le (set .n) (h .0) _ ws (h .4)) (h .4)))

@@ -9,6 +9,7 @@ use native.Mathlib.Omega.{arith}
 use lib.Dec.{ltb, eqb}
 use lib.ListN.{length, take, drop, getD}
 use borrow.Author.Tests.{lt-ltb, eq-eqb, ltb-true, ltb-false, eqb-true, eqb-false}
+use Rattle.base.specs.Choice.{pick}
 use Rattle.base.specs.Modulo.{advanced, offset}
 use Rattle.fop.specs.Units.{Fdu, AD, Word, legal, wordOctets}
 use Rattle.fop.specs.Table.{State, S1, S2, S3, S4, S5, S6, FopEvent, table78, cell78, AddToWaitQueue, AdOutReady, InitiateAdRetransmission}
@@ -33,7 +34,7 @@ use Rattle.session.proofs.Values.{Live, live, word, same-sent, new-sent
 use Rattle.session.proofs.Rows.{modeOf}
 use Rattle.session.proofs.Queue.{found}
 use Rattle.session.proofs.Sender.{acks}
-use Rattle.session.proofs.Inv.{Inv, Side, presetOf, enter, alerting, goes-is, word-read, fine}
+use Rattle.session.proofs.Inv.{Inv, Side, presetOf, enter, goes-is, word-read, fine}
 
 -- the histories; the invariant says that the receiver never locks out
 abbrev pub historyOf : Session → History
@@ -278,19 +279,30 @@ length-mark (e ∷ q) = ap suc (length-mark q)
 unfoldable pub expired : FopEvent → ℕ → Fop → Work
 expired e v f = lookForFdu (perform InitiateAdRetransmission (begin (some e) [] v f))
 
-tick-cell : (w : Work) (s : State) → serves s ≡ true
-    → performCell (cell78 (table78 FopEvent.E16) s) w ≡ onFop (setState s ((lookForFdu (perform InitiateAdRetransmission w)) .fop))
+-- E16 at Timeout_Type 0, else E104
+abbrev expiry : Bool → FopEvent
+expiry alerting = pick alerting FopEvent.E16 FopEvent.E104
+
+tick-cell : (b : Bool) (w : Work) (s : State) → serves s ≡ true
+    → performCell (cell78 (table78 (expiry b)) s) w ≡ onFop (setState s ((lookForFdu (perform InitiateAdRetransmission w)) .fop))
     (lookForFdu (perform InitiateAdRetransmission w))
 unfolding performCell performAll perform table78
-tick-cell w =
+tick-cell true w =
     in-serving (λ s. performCell (cell78 (table78 FopEvent.E16) s) w ≡ onFop (setState s ((lookForFdu (perform InitiateAdRetransmission w)) .fop))
     (lookForFdu (perform InitiateAdRetransmission w))) refl refl
+tick-cell false w =
+    in-serving (λ s. performCell (cell78 (table78 FopEvent.E104) s) w ≡ onFop (setState s ((lookForFdu (perform InitiateAdRetransmission w)) .fop))
+    (lookForFdu (perform InitiateAdRetransmission w))) refl refl
+
+abbrev expiryOf : Fop → FopEvent
+expiryOf f = expiry (eqb (f .preset .timeoutType) 0)
 
 tick-is : (f : Fop) → serves (f .state) ≡ true → f .clock .timer ≡ 1 → f .clock .transmissionCount < f .preset .transmissionLimit
-    → eqb (f .preset .timeoutType) 0 ≡ true
-    → fopTick f ≡ onFop (setState (f .state) ((expired FopEvent.E16 0 (lowered f)) .fop)) (expired FopEvent.E16 0 (lowered f))
+    → fopTick f ≡ onFop (setState (f .state) ((expired (expiryOf f) 0 (lowered f)) .fop)) (expired (expiryOf f) 0 (lowered f))
 unfolding fopTick fopExpiry fopDo expired
-tick-is f s t c z = rw (eq-eqb (f .clock .timer) 1 t, lt-ltb (f .clock .transmissionCount) (f .preset .transmissionLimit) c, z) (tick-cell _ (f .state) s)
+tick-is f s t c =
+    rw (eq-eqb (f .clock .timer) 1 t, lt-ltb (f .clock .transmissionCount) (f .preset .transmissionLimit) c)
+    (tick-cell (eqb (f .preset .timeoutType) 0) _ (f .state) s)
 
 expired-off : (x : FopEvent) (v : ℕ) (f : Fop) → f .out .ad ≡ false → ((expired x v f) .fop .sentQueue ≡ markAll (f .sentQueue))
     × ((expired x v f) .frames ≡ [])
@@ -354,7 +366,7 @@ pub expires : (set : Settings) (σ : Session) → Inv set σ → (i lent : ℕ) 
     → Resent (getD (σ .sent) i noUnit) σ (step set (ticks lent) σ) ⊎ Marked (getD (σ .sent) i noUnit) ((step set (ticks lent) σ) .fop)
 unfolding step stepWith work judged answered
 expires set σ I i lent r sv t c o =
-    let e = tick-is (σ .fop) sv t (omega (arith, c, ap (λ (p : Preset). p .transmissionLimit) (I .isSet))) (alerting set σ I) in
+    let e = tick-is (σ .fop) sv t (omega (arith, c, ap (λ (p : Preset). p .transmissionLimit) (I .isSet))) in
     rw (sender-is set fop.tick lent σ refl r)
-    (ticked set σ I (served (σ .fop .state) sv) FopEvent.E16 0 (lowered (σ .fop)) refl i (σ .fop .sentQueue) refl (fopTick (σ .fop))
+    (ticked set σ I (served (σ .fop .state) sv) (expiryOf (σ .fop)) 0 (lowered (σ .fop)) refl i (σ .fop .sentQueue) refl (fopTick (σ .fop))
     (ap (λ (w : Work). w .fop .sentQueue) e) (ap (λ (w : Work). w .frames) e) o (σ .fop .out .ad) refl)

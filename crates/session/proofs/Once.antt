@@ -19,7 +19,7 @@ use Rattle.fop.specs.Variables.{Entry, Fop, Work, begin}
 use Rattle.fop.specs.Machine.{firstMarked, unacknowledged, isAcknowledged, countFor, markBc, perform, performCell, sendNext, sendWaiting, transmitAd, lookForDirective, removeAcknowledged, fopDo}
 use Rattle.fop.specs.Events.{when, first, Seen, wordLines, wordEvent, seen, fopWord, fopAd, fopBd, expiryLines, fopExpiry, fopTick, fopLower, directiveEvent, fopDirective, fopReceived, isEmpty, SenderEvent, requestAd, requestBd, lower, directive, wordArrives, work}
 use Rattle.fop.specs.Events as fop
-use Rattle.session.specs.Ends.{Settings, Within, startSender}
+use Rattle.session.specs.Ends.{Settings, startSender}
 use Rattle.session.specs.Session.{Event, adRequest, bdRequest, ticks, lowerSays, terminate, wordIn, wordLost, wordMade, frameIn, frameLost, release}
 use Rattle.session.specs.Stronger.{InSession}
 use Rattle.session.proofs.Receiver.{begun}
@@ -84,10 +84,10 @@ count-least : (q : List Entry) (c : ℕ) → 1 ≤ c → 1 ≤ countFor q c
 count-least [] c h = omega arith
 count-least (e ∷ q) c h = h
 
--- Transmission_Limit 1, Timeout_Type 0, Transmission_Count at least 1, nothing marked, no type-BC frame; and the frames handed down from V(S) = v on
+-- Transmission_Limit 1, Transmission_Count at least 1, nothing marked, no type-BC frame; and the frames handed down from V(S) = v on
 abbrev J : ℕ → Work → Type 0
 J v w =
-    (w .fop .preset .transmissionLimit ≡ 1) × (w .fop .preset .timeoutType ≡ 0) × (1 ≤ w .fop .clock .transmissionCount) × Unmarked (w .fop .sentQueue)
+    (w .fop .preset .transmissionLimit ≡ 1) × (1 ≤ w .fop .clock .transmissionCount) × Unmarked (w .fop .sentQueue)
     × (w .fop .bcFrame ≡ none) × Run v (w .frames) (w .fop .vs)
 
 -- every action but Initiate AD retransmission, which marks, and those of directives that the session does not have
@@ -101,20 +101,20 @@ once v RejectAd = some (λ w h. h)
 once v AcceptBd = some (λ w h. h)
 once v RejectBd = some (λ w h. h)
 once v AddToWaitQueue = some (λ w h. h)
-once v LookForFdu = some (λ w h. look-ways (J v) w h (λ u e. absurd (none-some (sym (h .3) ∙ e)))
-    (λ o r e. (h .0, h .1, count-least (w .fop .sentQueue) _ (h .2), more-unmarked (w .fop .sentQueue) _ (h .3), h .4, run-ad (w .frames) v _ _ refl (h .5))))
-once v LookForDirective = some (λ w h. subst (λ (o : Option _). J v (lookForDirective o w)) (sym (h .4)) h)
-once v RemoveAcknowledgedFrames = some (λ w h. (h .0, h .1, omega arith, rest-unmarked (w .fop .nnr) (w .value) (w .fop .sentQueue) (h .3), h .4, h .5))
+once v LookForFdu = some (λ w h. look-ways (J v) w h (λ u e. absurd (none-some (sym (h .2) ∙ e)))
+    (λ o r e. (h .0, count-least (w .fop .sentQueue) _ (h .1), more-unmarked (w .fop .sentQueue) _ (h .2), h .3, run-ad (w .frames) v _ _ refl (h .4))))
+once v LookForDirective = some (λ w h. subst (λ (o : Option _). J v (lookForDirective o w)) (sym (h .3)) h)
+once v RemoveAcknowledgedFrames = some (λ w h. (h .0, omega arith, rest-unmarked (w .fop .nnr) (w .value) (w .fop .sentQueue) (h .2), h .3, h .4))
 once v InitiateAdRetransmission = none
-once v InitiateBcRetransmission = some (λ w h. (h .0, h .1, omega arith, h .3, ap markBc (h .4), h .5))
-once v ReleaseBcFrame = some (λ w h. (h .0, h .1, h .2, h .3, refl, h .5))
+once v InitiateBcRetransmission = some (λ w h. (h .0, omega arith, h .2, ap markBc (h .3), h .4))
+once v ReleaseBcFrame = some (λ w h. (h .0, h .1, h .2, refl, h .4))
 once v CancelTimer = some (λ w h. h)
 once v StartTimer = some (λ w h. h)
-once v (Alert r) = some (λ w h. purge-ways (J v) w (h .0, h .1, h .2, refl, refl, h .5) (λ r x k. k))
+once v (Alert r) = some (λ w h. purge-ways (J v) w (h .0, h .1, refl, refl, h .4) (λ r x k. k))
 once v Initialise = none
 once v TransmitUnlock = none
 once v TransmitSetVr = none
-once v TransmitBd = some (λ w h. (h .0, h .1, h .2, h .3, h .4, run-bd (w .frames) v _ (w .octets) (h .5)))
+once v TransmitBd = some (λ w h. (h .0, h .1, h .2, h .3, run-bd (w .frames) v _ (w .octets) (h .4)))
 once v (SetSuspendState n) = some (λ w h. h)
 once v Suspend = some (λ w h. h)
 once v Resume = some (λ w h. h)
@@ -145,7 +145,6 @@ rowOnce v e = everyCell (cellOnce v) (table78 e)
 -- a sender at a transmission limit of 1
 pub record Once (f : Fop) : Type 0 where
   pub limit : f .preset .transmissionLimit ≡ 1
-  pub alerting : f .preset .timeoutType ≡ 0
   pub counted : 1 ≤ f .clock .transmissionCount
   pub unmarked : Unmarked (f .sentQueue)
   pub noBc : f .bcFrame ≡ none
@@ -158,22 +157,22 @@ do-once : (e : FopEvent) (o : List ℕ) (n : ℕ) (f : Fop) → T (rowOnce (f .v
 unfolding fopDo
 do-once e o n f t h =
     let j = cell-once (f .vs) (cell78 (table78 e) (f .state)) (begin (some e) o n f) (every-cell (cellOnce (f .vs)) (table78 e) (f .state) t)
-    (h .limit, h .alerting, h .counted, h .unmarked, h .noBc, refl) in
-    (record { limit = j .0; alerting = j .1; counted = j .2; unmarked = j .3; noBc = j .4 }, j .5)
+    (h .limit, h .counted, h .unmarked, h .noBc, refl) in
+    (record { limit = j .0; counted = j .1; unmarked = j .2; noBc = j .3 }, j .4)
 
--- the expiry at the limit is E17
-expiry-once : (v : ℕ) (short alerting : Bool) → short ≡ false → alerting ≡ true → T (rowOnce v (first (expiryLines short alerting) FopEvent.E18))
+-- the expiry at the limit is E17 or E18
+expiry-once : (v : ℕ) (short alerting : Bool) → short ≡ false → T (rowOnce v (first (expiryLines short alerting) FopEvent.E18))
 unfolding table78 once
-expiry-once v true alerting s a = absurd (true≢false s)
-expiry-once v false true s a = tt
-expiry-once v false false s a = absurd (false≢true a)
+expiry-once v true alerting s = absurd (true≢false s)
+expiry-once v false true s = tt
+expiry-once v false false s = tt
 
 tick-once : (f : Fop) → Once f → Stays (f .vs) (fopTick f)
 unfolding fopTick fopExpiry
 tick-once f h =
-    let k : Once (lowered f) = record { limit = h .limit; alerting = h .alerting; counted = h .counted; unmarked = h .unmarked; noBc = h .noBc } in
+    let k : Once (lowered f) = record { limit = h .limit; counted = h .counted; unmarked = h .unmarked; noBc = h .noBc } in
     by-pick (Stays (f .vs)) (eqb (f .clock .timer) 1)
-    (λ b. do-once _ [] 0 (lowered f) (expiry-once (f .vs) _ _ (le-ltb (f .clock .transmissionCount) (f .preset .transmissionLimit) (omega (arith, h .limit, h .counted))) (eq-eqb (f .preset .timeoutType) 0 (h .alerting))) k)
+    (λ b. do-once _ [] 0 (lowered f) (expiry-once (f .vs) _ _ (le-ltb (f .clock .transmissionCount) (f .preset .transmissionLimit) (omega (arith, h .limit, h .counted)))) k)
     (λ b. (k, refl))
 
 -- what a control word shows, with Transmission_Limit = 1 or not
@@ -222,9 +221,9 @@ work-once own ws (directive d v) f i h =
 work-once own ws (wordArrives s) f i h = received-once (readWord own s) f h
 
 -- The session's sender at a limit of 1, at the start and after each event.
-pub start-once : (set : Settings) → Within set → set .limit ≡ 1 → Once (begun set .fop)
+pub start-once : (set : Settings) → 1 ≤ set .count → set .limit ≡ 1 → Once (begun set .fop)
 unfolding startSender
-start-once set vw l = record { limit = l; alerting = omega (arith, vw .timeoutMost); counted = vw .countLeast; unmarked = refl; noBc = refl }
+start-once set k l = record { limit = l; counted = k; unmarked = refl; noBc = refl }
 
 module _ (set : Settings) where
   sender-once : (ws : List (List ℕ)) (e : SenderEvent) (lent : ℕ) (κ : Session) → InSession ws e → Once (κ .fop) → Once ((sender set e lent κ) .fop)

@@ -1,17 +1,20 @@
 -- One computed test of table 7-8: what its actions do to the sender's mode, which is that of its effective state, cell by cell.
+use mathlib.Core.Logic.{_⊎_, inl, inr}
 use mathlib.Core.Path.{_≡_, refl, sym, ap, subst, _∙_}
 use mathlib.Core.Bool.{Bool, true, false, _&&_}
 use mathlib.Core.List.{List, [], _∷_}
 use mathlib.Core.Option.{some}
-use Prim.Native.Nat.{ℕ}
+use Prim.Native.Nat.{ℕ, zero, suc, _≤_}
+use native.Mathlib.Omega.{arith}
 use lib.Dec.{T, eqb, eqb→eq}
+use borrow.Author.Tests.{ne-eqb}
 use Rattle.fop.specs.Table.{Ignore, SetSuspendState, Suspend, Resume, State, S1, S2, S3, S4, S5, S6, Action, Cell, cell, ifNotSuspended, NotApplicable, Row, row, FopEvent, table78, cell78, Accept, Reject, Confirm}
 use Rattle.fop.specs.Table.{RejectAd, AcceptBd, RejectBd, AddToWaitQueue, LookForFdu, LookForDirective, RemoveAcknowledgedFrames, InitiateAdRetransmission}
 use Rattle.fop.specs.Table.{InitiateBcRetransmission, ReleaseBcFrame, CancelTimer, StartTimer, Alert, Initialise, TransmitUnlock, TransmitSetVr, TransmitBd}
 use Rattle.fop.specs.Table.{SetVs, SetNnr, SetK, SetT1Initial, SetTransmissionLimit, SetTimeoutType, AdOutReady, BcOutReady, BdOutReady}
 use Rattle.fop.specs.Variables.{Fop}
 use Rattle.fop.specs.Variables.{begin}
-use Rattle.fop.specs.Effective.{effectiveOf, effective}
+use Rattle.fop.specs.Effective.{suspendedIn, effectiveOf, effective}
 use Rattle.fop.specs.Machine.{performCell, fopDo}
 use Rattle.fop.specs.Events.{when, first, Seen, wordLines, wordEvent, Lower, lowerEvent}
 use Rattle.session.proofs.Choices.{and-l, and-r}
@@ -119,6 +122,30 @@ at-cell t (row a b c d e f) S4 n h g = absurd g
 at-cell t (row a b c d e f) S5 n h g = absurd g
 at-cell t (row a b c d e f) S6 n h g = and-r (t S3 c) _ (and-r (t S2 b) _ (and-r (t S1 a) _ h))
 
+-- in Initial, suspended in one of the main protocol's states
+abbrev pub atSuspended : (ℕ → State → Cell → Bool) → Row → Bool
+atSuspended t (row a b c d e f) = t 1 S6 f && (t 2 S6 f && t 3 S6 f)
+
+-- a sender suspended in another is not one of the session
+above-three : (n : ℕ) → 4 ≤ n → suspendedIn n ≡ S4
+above-three n h = rw (ne-eqb n 0 (λ e. omega (arith, h, e)), ne-eqb n 1 (λ e. omega (arith, h, e)), ne-eqb n 2 (λ e. omega (arith, h, e)), ne-eqb n 3 (λ e. omega (arith, h, e)))
+
+-- a test that depends on Suspend_State: at 0, or where it holds while suspended too
+pub at-any : (t : ℕ → State → Cell → Bool) (r : Row) (s : State) (n : ℕ) → T (atAll (t 0) r) → (n ≡ 0) ⊎ T (atSuspended t r)
+    → T (sound (modeOf (effectiveOf s n))) → T (unsuspended s n) → T (t n s (cell78 r s))
+at-any t r s n h (inl z) g o = subst (λ (k : ℕ). T (t k s (cell78 r s))) (sym z) (at-cell (t 0) r s n h g)
+at-any t r S1 n h (inr u) g o = subst (λ (k : ℕ). T (t k S1 (cell78 r S1))) (sym (eqb→eq n 0 o)) (at-cell (t 0) r S1 n h g)
+at-any t r S2 n h (inr u) g o = subst (λ (k : ℕ). T (t k S2 (cell78 r S2))) (sym (eqb→eq n 0 o)) (at-cell (t 0) r S2 n h g)
+at-any t r S3 n h (inr u) g o = subst (λ (k : ℕ). T (t k S3 (cell78 r S3))) (sym (eqb→eq n 0 o)) (at-cell (t 0) r S3 n h g)
+at-any t r S4 n h (inr u) g o = absurd g
+at-any t r S5 n h (inr u) g o = absurd g
+at-any t (row a b c d e f) S6 zero h (inr u) g o = at-cell (t 0) (row a b c d e f) S6 0 h g
+at-any t (row a b c d e f) S6 (suc zero) h (inr u) g o = and-l (t 1 S6 f) _ u
+at-any t (row a b c d e f) S6 (suc (suc zero)) h (inr u) g o = and-l (t 2 S6 f) _ (and-r (t 1 S6 f) _ u)
+at-any t (row a b c d e f) S6 (suc (suc (suc zero))) h (inr u) g o = and-r (t 2 S6 f) _ (and-r (t 1 S6 f) _ u)
+at-any t (row a b c d e f) S6 (suc (suc (suc (suc k)))) h (inr u) g o =
+    absurd (subst (λ (s : State). T (sound (modeOf s))) (above-three (suc (suc (suc (suc k)))) (omega arith)) g)
+
 -- a test that depends on Suspend_State, at Suspend_State 0
 pub at-zero : (t : ℕ → State → Cell → Bool) (r : Row) (f : Fop) → T (atAll (t 0) r) → T (sound (modeOf (effective f))) → f .suspendState ≡ 0
     → T (t (f .suspendState) (f .state) (cell78 r (f .state)))
@@ -147,22 +174,37 @@ stays (ifNotSuspended xs ys u) = false
 stays (cell xs u) = eqb (suspendAll xs 0) 0
 
 abbrev pub rowOk : Given → FopEvent → Bool
-rowOk g e = atAll (λ s c. cellOk g 0 s c && stays c) (table78 e)
+rowOk g e = atAll (cellOk g 0) (table78 e) && atAll (λ s c. stays c) (table78 e)
+
+-- the same while suspended
+abbrev pub rowSuspended : Given → FopEvent → Bool
+rowSuspended g e = atSuspended (cellOk g) (table78 e)
+
+-- a row is tested at a Suspend_State
+abbrev pub Tested : Given → FopEvent → ℕ → Type 0
+Tested g e n = T (rowOk g e) × ((n ≡ 0) ⊎ T (rowSuspended g e))
+
+abbrev pub rowAny : Given → FopEvent → Bool
+rowAny g e = rowOk g e && rowSuspended g e
+
+pub any : (g : Given) (e : FopEvent) {n : ℕ} → T (rowAny g e) → Tested g e n
+any g e t = (and-l (rowOk g e) (rowSuspended g e) t, inr (and-r (rowOk g e) (rowSuspended g e) t))
 
 -- the cell that a sender meets passes the test
 abbrev pub Passes : Given → FopEvent → Fop → Type 0
 Passes g e f = T (cellOk g (f .suspendState) (f .state) (cell78 (table78 e) (f .state)))
 
-module _ (g : Given) (e : FopEvent) (f : Fop) (t : T (rowOk g e)) (h : T (sound (modeOf (effective f)))) (z : f .suspendState ≡ 0) where
-  both-tests : T (cellOk g (f .suspendState) (f .state) (cell78 (table78 e) (f .state)) && stays (cell78 (table78 e) (f .state)))
-  both-tests = at-zero (λ n s c. cellOk g n s c && stays c) (table78 e) f t h z
+module _ (g : Given) (e : FopEvent) (f : Fop) (t : Tested g e (f .suspendState)) (h : T (sound (modeOf (effective f)))) where
+  row-ok : T (atAll (cellOk g 0) (table78 e))
+  row-ok = and-l (atAll (cellOk g 0) (table78 e)) _ (t .0)
 
-  pub passes : Passes g e f
-  passes = and-l (cellOk g (f .suspendState) (f .state) (cell78 (table78 e) (f .state))) _ both-tests
+  pub passes : T (unsuspended (f .state) (f .suspendState)) → Passes g e f
+  passes o = at-any (cellOk g) (table78 e) (f .state) (f .suspendState) row-ok (t .1) h o
 
-  pub do-stays : (o : List ℕ) (v : ℕ) → (fopDo e o v f) .fop .suspendState ≡ 0
+  pub do-stays : f .suspendState ≡ 0 → (o : List ℕ) (v : ℕ) → (fopDo e o v f) .fop .suspendState ≡ 0
   unfolding fopDo performCell
-  do-stays o v = go (cell78 (table78 e) (f .state)) (and-r (cellOk g (f .suspendState) (f .state) (cell78 (table78 e) (f .state))) _ both-tests)
+  do-stays z o v =
+      go (cell78 (table78 e) (f .state)) (at-cell (λ s c. stays c) (table78 e) (f .state) (f .suspendState) (and-r (atAll (cellOk g 0) (table78 e)) _ (t .0)) h)
     where
       go : (c : Cell) → T (stays c) → (performCell c (begin (some e) o v f)) .fop .suspendState ≡ 0
       go NotApplicable t = z
@@ -202,27 +244,28 @@ module _ (g : Given) (e : FopEvent) (o : List ℕ) (v : ℕ) (f : Fop) (t : Pass
           subst (λ (n : ℕ). T (unsuspended s n)) (sym (suspend-all xs (begin (some e) o v f)))
           (and-r (match (afterAll g xs (modeOf (effective f))) (modeOf (effectiveOf s (suspendAll xs (f .suspendState))))) _ t)
 
-pub word-ok : (s : Seen) → T (rowOk word (wordEvent s))
+pub word-ok : (s : Seen) → T (rowAny word (wordEvent s))
 unfolding table78 wordEvent
-word-ok s = first-all (rowOk word) (wordLines s) FopEvent.E103 tt
+word-ok s = first-all (rowAny word) (wordLines s) FopEvent.E103 tt
 
+-- the answers of the lower layer: a reject alerts, and while suspended it leaves Suspend_State with nothing to resume
 pub lower-ok : (l : Lower) → T (rowOk nothing (lowerEvent l))
 unfolding table78
 lower-ok = lower-all (rowOk nothing) tt
 
 -- the expiry of the timer, at Timeout_Type 0
-pub timer-ok : T (rowOk nothing FopEvent.E16 && rowOk nothing FopEvent.E17)
+pub timer-ok : T (rowAny nothing FopEvent.E16 && rowAny nothing FopEvent.E17)
 unfolding table78
 timer-ok = tt
 
-pub ad-ok : (c : Bool) → T (rowOk unit (first (when c FopEvent.E19 ∷ []) FopEvent.E20))
+pub ad-ok : (c : Bool) → T (rowAny unit (first (when c FopEvent.E19 ∷ []) FopEvent.E20))
 unfolding table78
-ad-ok c = first-all (rowOk unit) (when c FopEvent.E19 ∷ []) FopEvent.E20 tt
+ad-ok c = first-all (rowAny unit) (when c FopEvent.E19 ∷ []) FopEvent.E20 tt
 
-pub bd-ok : (c : Bool) → T (rowOk unit (first (when c FopEvent.E21 ∷ []) FopEvent.E22))
+pub bd-ok : (c : Bool) → T (rowAny unit (first (when c FopEvent.E21 ∷ []) FopEvent.E22))
 unfolding table78
-bd-ok c = first-all (rowOk unit) (when c FopEvent.E21 ∷ []) FopEvent.E22 tt
+bd-ok c = first-all (rowAny unit) (when c FopEvent.E21 ∷ []) FopEvent.E22 tt
 
-pub terminate-ok : T (rowOk nothing FopEvent.E29)
+pub terminate-ok : T (rowAny nothing FopEvent.E29)
 unfolding table78
 terminate-ok = tt

@@ -27,7 +27,7 @@ use Rattle.fop.specs.Events as fop
 use Rattle.session.specs.Session as ses
 use Rattle.session.proofs.Test.{lowered, tick-ways, never-suspends}
 use Rattle.session.proofs.Suspended.{effective-is}
-use Rattle.session.proofs.Rows.{modeOf, rowOk, word-ok, timer-ok, ad-ok, bd-ok, lower-ok, terminate-ok}
+use Rattle.session.proofs.Rows.{modeOf, rowAny, any, word-ok, timer-ok, ad-ok, bd-ok, lower-ok, terminate-ok}
 use Rattle.session.proofs.Inv.{Inv, withFop, timed, fit, legal-of, ad-keeps, bd-keeps, ticks-keeps, lower-keeps, terminate-keeps}
 use Rattle.session.proofs.Inv.{word-keeps, alerting, in-mode}
 use Rattle.session.proofs.Core.{Session, goes, addAll}
@@ -77,8 +77,8 @@ module _ (set : Settings) (vw : Within set) (m : Ends) (t : Tied set m) (σ : Li
 
   tick-from : SentFrom ((fopTick (κ .fop)) .frames)
   tick-from =
-      tick-ways (rowOk nothing) timer-ok (λ w. SentFrom (w .frames)) (κ .fop) (never-suspends (κ .fop) (alerting set κ I))
-      (λ e t. row-from set (withFop (lowered (κ .fop)) κ) (timed set _ _ κ I) nothing (length (κ .confirmed)) e [] 0 t (omega arith) tt) tt
+      tick-ways (rowAny nothing) timer-ok (λ w. SentFrom (w .frames)) (κ .fop) (never-suspends (κ .fop) (alerting set κ I))
+      (λ e t. row-from set (withFop (lowered (κ .fop)) κ) (timed set _ _ κ I) nothing (length (κ .confirmed)) e [] 0 (any nothing e t) (omega arith) tt) tt
 
   -- what an event of the session hands down reads back, and is such a list
   abbrev Given-by : SenderEvent → Type 0
@@ -89,24 +89,24 @@ module _ (set : Settings) (vw : Within set) (m : Ends) (t : Tied set m) (σ : Li
   given-by (requestAd o) lent h g = (
     reads-of set (requestAd o) lent κ g (ad-keeps set lent o κ I),
     row-from set κ I unit (length (κ .confirmed)) (first (when (isEmpty (κ .fop .waitQueue)) FopEvent.E19 ∷ []) FopEvent.E20) o 0
-        (ad-ok (isEmpty (κ .fop .waitQueue))) (omega arith) (legal-of o (fit (set .own) (requestAd o) lent (κ .fop) g .0)),
+        (any unit _ (ad-ok (isEmpty (κ .fop .waitQueue)))) (omega arith) (legal-of o (fit (set .own) (requestAd o) lent (κ .fop) g .0)),
   )
   given-by (requestBd o) lent h g = (
     reads-of set (requestBd o) lent κ g (bd-keeps set lent o κ I),
-    row-from set κ I unit (length (κ .confirmed)) (first (when (κ .fop .out .bd) FopEvent.E21 ∷ []) FopEvent.E22) o 0 (bd-ok (κ .fop .out .bd))
+    row-from set κ I unit (length (κ .confirmed)) (first (when (κ .fop .out .bd) FopEvent.E21 ∷ []) FopEvent.E22) o 0 (any unit _ (bd-ok (κ .fop .out .bd)))
         (omega arith) (legal-of o (fit (set .own) (requestBd o) lent (κ .fop) g .0)),
   )
   given-by fop.tick lent h g = (reads-of set fop.tick lent κ g (ticks-keeps set lent κ I), tick-from)
   given-by (lower l) lent h g = (
     reads-of set (lower l) lent κ g (lower-keeps set lent l κ I),
-    row-from set κ I nothing (length (κ .confirmed)) (lowerEvent l) [] 0 (lower-ok l)
+    row-from set κ I nothing (length (κ .confirmed)) (lowerEvent l) [] 0 (lower-ok l, inl (I .suspension .serving))
         (omega arith) tt,
   )
   given-by (directive d v) lent h g =
       let g' : goes (set .own) (directive 5 v) lent (κ .fop) ≡ true = subst (λ (x : ℕ). goes (set .own) (directive x v) lent (κ .fop) ≡ true) h g in
       subst (λ (x : ℕ). Given-by (directive x v)) (sym h) (
         reads-of set (directive 5 v) lent κ g' (terminate-keeps set v lent κ I),
-        row-from set κ I nothing (length (κ .confirmed)) FopEvent.E29 [] v terminate-ok (omega arith) tt,
+        row-from set κ I nothing (length (κ .confirmed)) FopEvent.E29 [] v (any nothing FopEvent.E29 terminate-ok) (omega arith) tt,
       )
   given-by (wordArrives s) lent h g =
       let l = A.oldest-read set vw m t σ γ κ R G I Q s (h .0) (h .1) in
@@ -116,7 +116,7 @@ module _ (set : Settings) (vw : Within set) (m : Ends) (t : Tied set m) (σ : Li
         subst (λ (x : List ℕ). Reads ((work (set .own) (wordArrives x) (κ .fop)) .frames)) (sym (l .3))
             (reads-of set (wordArrives (wordOctets (set .own) (l .0))) lent (core.channels (κ .frames) (l .1) κ) g' (word-keeps set vw lent κ (l .0 ∷ l .1) I wd)),
         subst (λ (w : Work). SentFrom (w .frames)) (sym (l .5))
-            (row-from set κ I word (wd .0) (wordEvent (seen (l .0) (κ .fop))) [] ((l .0) .nr) (word-ok (seen (l .0) (κ .fop))) (wd .2)
+            (row-from set κ I word (wd .0) (wordEvent (seen (l .0) (κ .fop))) [] ((l .0) .nr) (any word _ (word-ok (seen (l .0) (κ .fop)))) (wd .2)
             (wd .1, wds-le (set .n) (wd .0) _ (l .1) (wd .4))),
       )
 
@@ -264,5 +264,5 @@ pub stronger-claims : (set : Settings) → Within set → (m : Ends) → Tied se
     → Stronger set m (run set m es (begins m)) (run set (tables set) es (begins (tables set)))
 stronger-claims set vw m t es =
     let k = from-start set vw m t (λ κ. Tidy (set .n) κ × (set .limit ≡ 1 → Once (κ .fop)))
-    (λ e κ I x. (step-tidy set vw e κ I (x .0), λ l. step-once set e κ (x .1 l))) (start-tidy set, start-once set vw) es in
+    (λ e κ I x. (step-tidy set vw e κ I (x .0), λ l. step-once set e κ (x .1 l))) (start-tidy set, start-once set (vw .countLeast)) es in
     stronger set vw m t (run set m es (begins m)) (run set (tables set) es (begins (tables set))) (k .0) (k .1) (k .2) (k .3) (k .4 .0) (k .4 .1)

@@ -40,6 +40,14 @@ first-all t (when c x ∷ more) e h =
     past true b d h = h
     past false b d h = absurd h
 
+abbrev pub EachLine : (FopEvent → Type 0) → List Line → Type 0
+EachLine P [] = Unit {0}
+EachLine P (when c x ∷ more) = P x × EachLine P more
+
+pub first-each : (P : FopEvent → Type 0) (l : List Line) (e : FopEvent) → EachLine P l → P e → P (first l e)
+first-each P [] e each last = last
+first-each P (when c x ∷ more) e each last = by-pick P c (λ t. each .0) (λ t. first-each P more e (each .1) last)
+
 -- the answers of the lower layer
 pub lower-all : (t : FopEvent → Bool) → T (t E41 && (t E42 && (t E43 && (t E44 && (t E45 && t E46))))) → (l : Lower) → T (t (lowerEvent l))
 lower-all t h Lower.adAccept = and-l (t E41) _ h
