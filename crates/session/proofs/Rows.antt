@@ -122,21 +122,28 @@ at-cell t (row a b c d e f) S4 n h g = absurd g
 at-cell t (row a b c d e f) S5 n h g = absurd g
 at-cell t (row a b c d e f) S6 n h g = and-r (t S3 c) _ (and-r (t S2 b) _ (and-r (t S1 a) _ h))
 
+-- a test that depends on Suspend_State, at Suspend_State 0
+pub at-zero : (t : ℕ → State → Cell → Bool) (r : Row) (s : State) (n : ℕ) → T (atAll (t 0) r) → T (sound (modeOf (effectiveOf s n))) → n ≡ 0
+    → T (t n s (cell78 r s))
+at-zero t r s n h g z = subst (λ (k : ℕ). T (t k s (cell78 r s))) (sym z) (at-cell (t 0) r s n h g)
+
 -- in Initial, suspended in one of the main protocol's states
 abbrev pub atSuspended : (ℕ → State → Cell → Bool) → Row → Bool
 atSuspended t (row a b c d e f) = t 1 S6 f && (t 2 S6 f && t 3 S6 f)
 
 -- a sender suspended in another is not one of the session
 above-three : (n : ℕ) → 4 ≤ n → suspendedIn n ≡ S4
-above-three n h = rw (ne-eqb n 0 (λ e. omega (arith, h, e)), ne-eqb n 1 (λ e. omega (arith, h, e)), ne-eqb n 2 (λ e. omega (arith, h, e)), ne-eqb n 3 (λ e. omega (arith, h, e)))
+above-three n h =
+    let no : (k : ℕ) → k ≤ 3 → eqb n k ≡ false = λ k l. ne-eqb n k (λ e. omega (arith, h, l, e)) in
+    rw (no 0 (omega arith), no 1 (omega arith), no 2 (omega arith), no 3 (omega arith))
 
--- a test that depends on Suspend_State: at 0, or where it holds while suspended too
+-- such a test at 0, or where it holds while suspended too
 pub at-any : (t : ℕ → State → Cell → Bool) (r : Row) (s : State) (n : ℕ) → T (atAll (t 0) r) → (n ≡ 0) ⊎ T (atSuspended t r)
     → T (sound (modeOf (effectiveOf s n))) → T (unsuspended s n) → T (t n s (cell78 r s))
-at-any t r s n h (inl z) g o = subst (λ (k : ℕ). T (t k s (cell78 r s))) (sym z) (at-cell (t 0) r s n h g)
-at-any t r S1 n h (inr u) g o = subst (λ (k : ℕ). T (t k S1 (cell78 r S1))) (sym (eqb→eq n 0 o)) (at-cell (t 0) r S1 n h g)
-at-any t r S2 n h (inr u) g o = subst (λ (k : ℕ). T (t k S2 (cell78 r S2))) (sym (eqb→eq n 0 o)) (at-cell (t 0) r S2 n h g)
-at-any t r S3 n h (inr u) g o = subst (λ (k : ℕ). T (t k S3 (cell78 r S3))) (sym (eqb→eq n 0 o)) (at-cell (t 0) r S3 n h g)
+at-any t r s n h (inl z) g o = at-zero t r s n h g z
+at-any t r S1 n h (inr u) g o = at-zero t r S1 n h g (eqb→eq n 0 o)
+at-any t r S2 n h (inr u) g o = at-zero t r S2 n h g (eqb→eq n 0 o)
+at-any t r S3 n h (inr u) g o = at-zero t r S3 n h g (eqb→eq n 0 o)
 at-any t r S4 n h (inr u) g o = absurd g
 at-any t r S5 n h (inr u) g o = absurd g
 at-any t (row a b c d e f) S6 zero h (inr u) g o = at-cell (t 0) (row a b c d e f) S6 0 h g
@@ -145,12 +152,6 @@ at-any t (row a b c d e f) S6 (suc (suc zero)) h (inr u) g o = and-l (t 2 S6 f) 
 at-any t (row a b c d e f) S6 (suc (suc (suc zero))) h (inr u) g o = and-r (t 2 S6 f) _ (and-r (t 1 S6 f) _ u)
 at-any t (row a b c d e f) S6 (suc (suc (suc (suc k)))) h (inr u) g o =
     absurd (subst (λ (s : State). T (sound (modeOf s))) (above-three (suc (suc (suc (suc k)))) (omega arith)) g)
-
--- a test that depends on Suspend_State, at Suspend_State 0
-pub at-zero : (t : ℕ → State → Cell → Bool) (r : Row) (f : Fop) → T (atAll (t 0) r) → T (sound (modeOf (effective f))) → f .suspendState ≡ 0
-    → T (t (f .suspendState) (f .state) (cell78 r (f .state)))
-at-zero t r f h g z =
-    subst (λ (n : ℕ). T (t n (f .state) (cell78 r (f .state)))) (sym z) (at-cell (t 0) r (f .state) (f .suspendState) h g)
 
 -- the one test of the table, at a Suspend_State: each cell's actions lead to the mode of its next effective state, with Suspend_State 0 but in
 -- Initial
@@ -173,10 +174,11 @@ stays NotApplicable = true
 stays (ifNotSuspended xs ys u) = false
 stays (cell xs u) = eqb (suspendAll xs 0) 0
 
+-- the test of a row, at Suspend_State 0
 abbrev pub rowOk : Given → FopEvent → Bool
 rowOk g e = atAll (cellOk g 0) (table78 e) && atAll (λ s c. stays c) (table78 e)
 
--- the same while suspended
+-- while suspended
 abbrev pub rowSuspended : Given → FopEvent → Bool
 rowSuspended g e = atSuspended (cellOk g) (table78 e)
 
@@ -184,6 +186,7 @@ rowSuspended g e = atSuspended (cellOk g) (table78 e)
 abbrev pub Tested : Given → FopEvent → ℕ → Type 0
 Tested g e n = T (rowOk g e) × ((n ≡ 0) ⊎ T (rowSuspended g e))
 
+-- at every one
 abbrev pub rowAny : Given → FopEvent → Bool
 rowAny g e = rowOk g e && rowSuspended g e
 

@@ -110,7 +110,7 @@ module _ (x : Seen) (r : x .retransmit ≡ false) (e : Option FopEvent) (o : Lis
 
   forward-zero : f .suspendState ≡ 0 → Falls
   forward-zero z =
-      inl (forward-next (cell78 (table78 (wordEvent x)) (f .state)) (begin e o v f) (at-zero forward (table78 (wordEvent x)) f (word-forward x r) g z))
+      inl (forward-next (cell78 (table78 (wordEvent x)) (f .state)) (begin e o v f) (at-zero forward (table78 (wordEvent x)) (f .state) (f .suspendState) (word-forward x r) g z))
 
   ignored-initial : f .state ≡ S6 → Falls
   ignored-initial q =
