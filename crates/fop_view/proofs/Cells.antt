@@ -30,8 +30,8 @@ use Rattle.fop_actions.proofs.ViewValues as values
 use Rattle.fop_rows.specs.Rows.{declared, doneAll, doneCell, inMain}
 use Rattle.fop_view.specs.State.{Good, initial, effectiveIn}
 use Rattle.fop_view.specs.Rows.{Brings, nothing, acknowledging, again, offering, numbering, widening, clocking, limiting, timing, expiring, expiringAgain, resuming, brings, Needed, storeBy, lengthsBy, Shows}
-use Rattle.fop_view.proofs.Mode.{Stored, kept, moved, put, Idle, suspendedAt, Mode, fresh, going, half, over, bad, same, ceased, idleIn, repeats, expired, begins, implied, agrees, covers, notPut, putWhere, fits, suspends, stays, leaves, ends, afterAll, allows}
-use Rattle.fop_view.proofs.Known.{Case, seen, Where, Left, StoreIs, LengthsIs, IdleIs, NoMore, Shut, At, known, where-on, none-below, no-more-first}
+use Rattle.fop_view.proofs.Mode.{Stored, kept, moved, put, Idle, suspendedAt, Mode, fresh, going, half, over, bad, same, ceased, idleIn, repeats, expired, begins, implied, agrees, covers, notPut, putWhere, fits, maySuspend, stays, leaves, ends, afterAll, allows}
+use Rattle.fop_view.proofs.Known.{Case, seen, Where, Left, StoreIs, LengthsIs, IdleIs, NoMore, Shut, At, known, where-on, suspends, none-below, no-more-first}
 use Rattle.fop_view.proofs.Actions.{steps}
 
 -- The store and the lengths after the event.
@@ -172,8 +172,8 @@ module _ (x : Case) (good : Good (x .own) (x .sender) (x .store)) (meets : Neede
       subst (λ (k : ℕ). leaves (brings (x .event)) (x .sender .state) before y p (suspendedAt k z) ≡ true) known-suspend a in
       let b = both-right (fits (brings (x .event)) (inMain (x .sender .state)) p) _ now in
       let d = both-right (covers (idleIn y n) (suspendedAt n z)) _ b in
-      let f : suspends y n ≡ true = both-left _ _ d in
-      let q = covered (idleIn y n) (suspendedAt n z) (both-left _ _ b) refl (again n (e .idle)) in
+      let f : maySuspend y n ≡ true = both-left _ _ d in
+      let q = covered (idleIn y n) (suspendedAt n z) (both-left _ _ b) refl (suspends (e .idle) n) in
       let v = act.toState (declared t) w in
       let to : machine.Work → machine.Work = λ k. machine.onFop (machine.setState t (k .fop)) k in
       let is : to m ≡ seen x (h .c) (h .d) v (h .store) =
@@ -197,7 +197,7 @@ module _ (x : Case) (good : Good (x .own) (x .sender) (x .store)) (meets : Neede
           type-most = e .settled .type-most;
           suspend-most = leb-true n largestSuspendState (both-left _ _ f);
           suspend-initial = suspend-outside (initial y) n (both-right (leb n largestSuspendState) _ f);
-          serving = still-serving n (both-right (suspends y n) _ d);
+          serving = still-serving n (both-right (maySuspend y n) _ d);
           sent-main = λ k. known (ap not k) (q .unsent);
           waiting-main = λ k. known (ap not k) (q .unasked);
           stopped = λ k. known (ap initial k) (q .stopped);
@@ -210,9 +210,6 @@ module _ (x : Case) (good : Good (x .own) (x .sender) (x .store)) (meets : Neede
         };
         sent = e .below;
       })
-    where
-      again : (n : ℕ) {timer sent : ℕ} {waiting : Bool} {bc : Control} → IdleIs z timer sent waiting bc n → IdleIs (suspendedAt n z) timer sent waiting bc n
-      again n i = record { unsent = i .unsent; unasked = i .unasked; stopped = i .stopped; frame = i .frame; is-suspend = refl }
 
   ended : (mode : Mode) (t : table.State) (w : Work) (m : machine.Work) → ends (brings (x .event)) (x .sender .state) before t mode ≡ true → At x mode w m
       → Shown x (act.toState (declared t) w) (machine.onFop (machine.setState t (m .fop)) m)

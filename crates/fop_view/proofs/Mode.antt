@@ -320,8 +320,8 @@ fits expiringAgain x p = notPut p
 fits (resuming k) x p = notPut p
 
 -- Suspend_State is one that the state allows (specs/State)
-abbrev pub suspends : State → ℕ → Bool
-suspends x n = both (leb n largestSuspendState) (pick (initial x) true (eqb n 0))
+abbrev pub maySuspend : State → ℕ → Bool
+maySuspend x n = both (leb n largestSuspendState) (pick (initial x) true (eqb n 0))
 
 -- "Suspend_State stays 0" where the timer has not expired with Timeout_Type 1
 abbrev pub stays : Brings → ℕ → ℕ → Bool
@@ -330,7 +330,7 @@ stays b was n = pick (expired b) true (pick (eqb was 0) (eqb n 0) true)
 -- what is known at the end of a cell, at Suspend_State `was` before it, is what its next state asks
 abbrev pub leaves : Brings → State → ℕ → State → Stored → Idle → Bool
 leaves b x was y p z =
-    both (fits b (inMain x) p) (both (covers (idleIn y (z .suspend)) z) (both (suspends y (z .suspend)) (stays b was (z .suspend))))
+    both (fits b (inMain x) p) (both (covers (idleIn y (z .suspend)) z) (both (maySuspend y (z .suspend)) (stays b was (z .suspend))))
 
 abbrev pub ends : Brings → State → ℕ → table.State → Mode → Bool
 ends b x was s (fresh f z) = false
