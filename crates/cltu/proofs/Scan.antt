@@ -1,166 +1,207 @@
--- Searching for the start sequence, and the run of good codeblocks, one step at a time as the loops take them.
+-- The run of good codeblocks by any judge, one codeblock at a time as the loop takes them (`Taken`).
 use mathlib.Core.Path.{_≡_, refl, sym, ap, ap₂, _∙_}
 use mathlib.Core.Bool.{Bool, true, false}
-use mathlib.Core.List.{List, [], _∷_, _++_}
-use Prim.Native.Nat.{ℕ, zero, suc, _+_, _-_, _*_, _/_, _%_, _<_, _≤_}
-use native.Mathlib.Nat.{le-of-suc-le-suc, not-suc-le-zero, zero-add, mul-suc}
+use mathlib.Core.List.{List, [], _∷_, _++_, append-assoc, append-nil}
+use Prim.Native.Nat.{ℕ, zero, suc, _+_, _-_, _*_, _/_, _<_, _≤_}
+use native.Mathlib.Nat.{not-suc-le-zero, zero-add, add-zero, add-assoc, mul-suc, suc-add, add-suc}
 use native.Mathlib.Numerals.{add-one}
 use native.Mathlib.Omega.{arith}
-use lib.ListN.{length, take, drop, getD, length-append, length-take, length-drop, List·getD-append, drop-of-length-le}
-use lib.Dec.{eqb}
 use lib.Bits.{bitXor}
-use lib.Seq.{drop-cons, drop-drop, take-take, getD-drop, getD-append-add, getD-take}
-use Rattle.base.specs.Choice.{pick, both}
-use Rattle.base.specs.Octets.{same}
-use Rattle.base.proofs.Tests.{apart, both-false, both-true}
-use Rattle.codeblock.specs.Codeblock.{Judged, judged, isGood, informationOf, correctedOf}
-use Rattle.codeblock.proofs.Codeblock.{good-judged}
+use lib.ListN.{length, take, drop, length-append}
+use lib.Seq.{take-at, drop-drop}
+use Rattle.base.specs.Choice.{pick}
+use Rattle.codeblock.specs.Codeblock.{isGood}
+use Rattle.codeblock.specs.declared.Judged.{Judged}
+use Rattle.memory.specs.Placed.{placed}
+use Rattle.memory.proofs.Laws.{placed-fits, placed-behind}
 use Rattle.randomizer.specs.Randomizer.{octet, randomized}
-use Rattle.randomizer.proofs.Randomized.{randomized-at, length-randomized}
-use Rattle.cltu.specs.Cltu.{starts, startOf, goodRun, informationIn, correctedIn, startSequence}
+use Rattle.randomizer.proofs.Randomized.{length-randomized}
+use Rattle.cltu.specs.Cltu.{goodRun, informationIn, correctedIn}
 
--- the test for a start sequence, by the places of the whole
-pub starts-by : (s : List ℕ) (i : ℕ) → i + 1 < length s → starts (drop i s) ≡ both (eqb (getD s i 0) 0xEB) (eqb (getD s (i + 1) 0) 0x90)
-unfolding starts
-starts-by s i h =
-    ap (λ (l : List ℕ). same (take 2 l) startSequence) (drop-cons s i 0 (omega arith) ∙ ap (λ (l : List ℕ). getD s i 0 ∷ l) (drop-cons s (suc i) 0 (omega arith)))
-    ∙ ap (both (eqb (getD s i 0) 0xEB)) (both-true (eqb (getD s (suc i) 0) 0x90))
-    ∙ ap (λ (j : ℕ). both (eqb (getD s i 0) 0xEB) (eqb (getD s j 0) 0x90)) (sym (add-one i))
+-- octets behind others are randomized by the sequence from their place on
+randomized-append : (k : ℕ) (xs ys : List ℕ) → randomized k (xs ++ ys) ≡ randomized k xs ++ randomized (k + length xs) ys
+unfolding randomized
+randomized-append k [] ys = ap (λ (j : ℕ). randomized j ys) (sym (add-zero k))
+randomized-append k (x ∷ xs) ys =
+    let e : suc k + length xs ≡ k + suc (length xs) = omega arith in
+    ap (λ (l : List ℕ). bitXor x (octet k) ∷ l) (randomized-append (suc k) xs ys ∙ ap (λ (j : ℕ). randomized (suc k) xs ++ randomized j ys) e)
 
--- a last octet starts nothing
-pub starts-last : (s : List ℕ) (i : ℕ) → length s ≤ i + 1 → i < length s → starts (drop i s) ≡ false
-unfolding starts
-starts-last s i h k =
-    ap (λ (l : List ℕ). same (take 2 l) startSequence) (drop-cons s i 0 k ∙ ap (λ (l : List ℕ). getD s i 0 ∷ l) (drop-of-length-le s {i = suc i} (omega arith)))
-    ∙ both-false (eqb (getD s i 0) 0xEB)
+module _ (judge : List ℕ → Judged) where
+  -- codeblock n
+  abbrev pub blockAt : List ℕ → ℕ → Judged
+  blockAt s n = judge (take 8 (drop (8 * n) s))
 
--- no start at i: the search goes on; a start at i: it ends
-pub search-on : (s : List ℕ) (i : ℕ) → i < length s → starts (drop i s) ≡ false → startOf (drop i s) ≡ suc (startOf (drop (i + 1) s))
-unfolding startOf
-search-on s i h e =
-    let e' = rw (drop-cons s i 0) at e in
-    rw (add-one, drop-cons s i 0, e')
+  -- codeblock n of all but the first
+  pub block-next : (s : List ℕ) (n : ℕ) → blockAt (drop 8 s) n ≡ blockAt s (suc n)
+  block-next s n =
+      let e : 8 + 8 * n ≡ 8 * suc n = omega (arith, mul-suc 8 n) in
+      ap (λ (l : List ℕ). judge (take 8 l)) (drop-drop (8 * n) 8 s ∙ ap (λ (j : ℕ). drop j s) e)
 
-pub search-found : (s : List ℕ) (i : ℕ) → i < length s → starts (drop i s) ≡ true → startOf (drop i s) ≡ 0
-unfolding startOf
-search-found s i h e =
-    let e' = rw (drop-cons s i 0) at e in
-    rw (drop-cons s i 0, e')
+  -- the run at its first codeblock
+  run-on : (m : ℕ) (s : List ℕ) → 0 < m → isGood (judge (take 8 s)) ≡ true → goodRun judge m s ≡ suc (goodRun judge (m - 1) (drop 8 s))
+  unfolding goodRun
+  run-on zero s h e = absurd (not-suc-le-zero h)
+  run-on (suc m) s h e =
+      let p : m ≡ suc m - 1 = omega arith in
+      rw e (ap (λ (k : ℕ). suc (goodRun judge k (drop 8 s))) p)
 
--- where a start is found, its two octets are there
-pub start-room : (s : List ℕ) → startOf s < length s → startOf s + 2 ≤ length s
-unfolding startOf
-start-room [] h = absurd (not-suc-le-zero h)
-start-room (x ∷ []) h = absurd (go (starts (x ∷ [])) (starts-last (x ∷ []) 0 (omega arith) (omega arith)) h)
-  where
-    go : (b : Bool) → b ≡ false → pick b 0 1 < 1 → ⊥
-    go true e h = apart (sym e)
-    go false e h = omega arith
-start-room (x ∷ y ∷ ys) h = go (starts (x ∷ y ∷ ys)) (start-room (y ∷ ys)) h
-  where
-    go : (b : Bool) → (startOf (y ∷ ys) < length (y ∷ ys) → startOf (y ∷ ys) + 2 ≤ length (y ∷ ys))
-        → pick b 0 (suc (startOf (y ∷ ys))) < length (x ∷ y ∷ ys) → pick b 0 (suc (startOf (y ∷ ys))) + 2 ≤ length (x ∷ y ∷ ys)
-    go true ih h = omega arith
-    go false ih h =
-        let l = ih (le-of-suc-le-suc h) in
-        omega arith
+  run-stop : (m : ℕ) (s : List ℕ) → isGood (judge (take 8 s)) ≡ false → goodRun judge m s ≡ 0
+  unfolding goodRun
+  run-stop zero s e = refl
+  run-stop (suc m) s e = rw e
 
--- the run of good codeblocks
-pub run-on : (m : ℕ) (s : List ℕ) → 0 < m → isGood (judged (take 8 s)) ≡ true → goodRun m s ≡ suc (goodRun (m - 1) (drop 8 s))
-unfolding goodRun
-run-on zero s h e = absurd (not-suc-le-zero h)
-run-on (suc m) s h e =
-    let p : m ≡ suc m - 1 = omega arith in
-    rw e (ap (λ (k : ℕ). suc (goodRun k (drop 8 s))) p)
+  -- and at codeblock n of s
+  run-step : (s : List ℕ) (m n : ℕ) → n < m → isGood (blockAt s n) ≡ true
+      → goodRun judge (m - n) (drop (8 * n) s) ≡ suc (goodRun judge (m - (n + 1)) (drop (8 * (n + 1)) s))
+  run-step s m n h e =
+      let p : 0 < m - n = omega arith in
+      let a : m - n - 1 ≡ m - (n + 1) = omega arith in
+      let b : 8 * n + 8 ≡ 8 * (n + 1) = omega arith in
+      run-on (m - n) (drop (8 * n) s) p e
+      ∙ ap₂ (λ (j : ℕ) (l : List ℕ). suc (goodRun judge j l)) a (drop-drop 8 (8 * n) s ∙ ap (λ (j : ℕ). drop j s) b)
 
-pub run-stop : (m : ℕ) (s : List ℕ) → isGood (judged (take 8 s)) ≡ false → goodRun m s ≡ 0
-unfolding goodRun
-run-stop zero s e = refl
-run-stop (suc m) s e = rw e
+  pub run-le : (m : ℕ) (s : List ℕ) → goodRun judge m s ≤ m
+  unfolding goodRun
+  run-le zero s = omega arith
+  run-le (suc m) s = go (isGood (judge (take 8 s))) (goodRun judge m (drop 8 s)) (run-le m (drop 8 s))
+    where
+      go : (b : Bool) (k : ℕ) → k ≤ m → pick b (suc k) 0 ≤ suc m
+      go true k h = omega arith
+      go false k h = omega arith
 
--- the same, at codeblock n of s
-pub run-step : (s : List ℕ) (m n : ℕ) → n < m → isGood (judged (take 8 (drop (8 * n) s))) ≡ true
-    → goodRun (m - n) (drop (8 * n) s) ≡ suc (goodRun (m - (n + 1)) (drop (8 * (n + 1)) s))
-run-step s m n h e =
-    let p : 0 < m - n = omega arith in
-    let a : m - n - 1 ≡ m - (n + 1) = omega arith in
-    let b : 8 * n + 8 ≡ 8 * (n + 1) = omega arith in
-    run-on (m - n) (drop (8 * n) s) p e
-    ∙ ap₂ (λ (j : ℕ) (l : List ℕ). suc (goodRun j l)) a (drop-drop 8 (8 * n) s ∙ ap (λ (j : ℕ). drop j s) b)
+  -- the first of a run that is not empty is good, and the rest is a run
+  pub run-first : (m n : ℕ) (s : List ℕ) → suc n ≤ goodRun judge (suc m) s → (isGood (judge (take 8 s)) ≡ true) × (n ≤ goodRun judge m (drop 8 s))
+  unfolding goodRun
+  run-first m n s h = go (isGood (judge (take 8 s))) h
+    where
+      go : (b : Bool) → suc n ≤ pick b (suc (goodRun judge m (drop 8 s))) 0 → (b ≡ true) × (n ≤ goodRun judge m (drop 8 s))
+      go true h = (refl, omega arith)
+      go false h = absurd (omega arith)
 
--- a test of the part from 8 * n to 8 * n + 8
-pub tested : (s : List ℕ) (n : ℕ) (b : Bool) → isGood (judged (take (8 * n + 8 - 8 * n) (drop (8 * n) s))) ≡ b → isGood (judged (take 8 (drop (8 * n) s))) ≡ b
-tested s n b e =
-    let k : 8 ≡ 8 * n + 8 - 8 * n = omega arith in
-    ap (λ (j : ℕ). isGood (judged (take j (drop (8 * n) s)))) k ∙ e
+  -- each of a run is good
+  pub run-good : (m : ℕ) (s : List ℕ) (b : ℕ) → b < goodRun judge m s → isGood (blockAt s b) ≡ true
+  run-good zero s b h = absurd (omega (arith, run-le 0 s))
+  run-good (suc m) s zero h = run-first m 0 s h .0
+  run-good (suc m) s (suc b) h = ap isGood (sym (block-next s b)) ∙ run-good m (drop 8 s) b (run-first m (suc b) s h .1)
 
-pub run-le : (m : ℕ) (s : List ℕ) → goodRun m s ≤ m
-unfolding goodRun
-run-le zero s = omega arith
-run-le (suc m) s = go (isGood (judged (take 8 s))) (goodRun m (drop 8 s)) (run-le m (drop 8 s))
-  where
-    go : (b : Bool) (k : ℕ) → k ≤ m → pick b (suc k) 0 ≤ suc m
-    go true k h = omega arith
-    go false k h = omega arith
+  -- the codeblock behind a run that ends early is bad
+  pub run-ends : (m : ℕ) (s : List ℕ) → goodRun judge m s < m → isGood (blockAt s (goodRun judge m s)) ≡ false
+  unfolding goodRun
+  run-ends zero s h = absurd (not-suc-le-zero h)
+  run-ends (suc m) s h = go (isGood (judge (take 8 s))) refl h (run-ends m (drop 8 s))
+    where
+      go : (b : Bool) → isGood (judge (take 8 s)) ≡ b → pick b (suc (goodRun judge m (drop 8 s))) 0 < suc m
+          → (goodRun judge m (drop 8 s) < m → isGood (blockAt (drop 8 s) (goodRun judge m (drop 8 s))) ≡ false)
+          → isGood (blockAt s (pick b (suc (goodRun judge m (drop 8 s))) 0)) ≡ false
+      go false e h ih = e
+      go true e h ih = ap isGood (sym (block-next s (goodRun judge m (drop 8 s)))) ∙ ih (omega arith)
 
--- the first of a run that is not empty is good, and the rest is a run
-pub run-first : (m n : ℕ) (s : List ℕ) → suc n ≤ goodRun (suc m) s → (isGood (judged (take 8 s)) ≡ true) × (n ≤ goodRun m (drop 8 s))
-unfolding goodRun
-run-first m n s h = go (isGood (judged (take 8 s))) h
-  where
-    go : (b : Bool) → suc n ≤ pick b (suc (goodRun m (drop 8 s))) 0 → (b ≡ true) × (n ≤ goodRun m (drop 8 s))
-    go true h = (refl, omega arith)
-    go false h = absurd (omega arith)
+  -- one codeblock more: its information behind the others', its corrections with theirs
+  information-more : (n : ℕ) (s : List ℕ) → informationIn judge (suc n) s ≡ informationIn judge n s ++ blockAt s n .information
+  unfolding informationIn
+  information-more zero s = append-nil (judge (take 8 s) .information)
+  information-more (suc n) s =
+      ap (λ (l : List ℕ). judge (take 8 s) .information ++ l)
+      (information-more n (drop 8 s) ∙ ap (λ (j : Judged). informationIn judge n (drop 8 s) ++ j .information) (block-next s n))
+      ∙ sym (append-assoc (judge (take 8 s) .information) (informationIn judge n (drop 8 s)) (blockAt s (suc n) .information))
 
--- n codeblocks of a run: their information, seven octets of each eight, with nothing corrected
-pub information-next : (m n : ℕ) (s : List ℕ) → suc n ≤ goodRun (suc m) s → informationIn (suc n) s ≡ take 7 s ++ informationIn n (drop 8 s)
-unfolding informationIn
-information-next m n s h =
-    ap (λ (j : Judged). informationOf j ++ informationIn n (drop 8 s)) (good-judged (take 8 s) (run-first m n s h .0))
-    ∙ ap (λ (l : List ℕ). l ++ informationIn n (drop 8 s)) (take-take 7 8 s (omega arith))
+  corrected-more : (n : ℕ) (s : List ℕ) → correctedIn judge (suc n) s ≡ correctedIn judge n s + blockAt s n .corrected
+  unfolding correctedIn
+  corrected-more zero s = add-zero (judge (take 8 s) .corrected) ∙ sym (zero-add (judge (take 8 s) .corrected))
+  corrected-more (suc n) s =
+      ap (λ (k : ℕ). judge (take 8 s) .corrected + k)
+      (corrected-more n (drop 8 s) ∙ ap (λ (j : Judged). correctedIn judge n (drop 8 s) + j .corrected) (block-next s n))
+      ∙ sym (add-assoc (judge (take 8 s) .corrected) (correctedIn judge n (drop 8 s)) (blockAt s (suc n) .corrected))
 
-pub corrected-none : (m n : ℕ) (s : List ℕ) → n ≤ goodRun m s → correctedIn n s ≡ 0
-unfolding correctedIn
-corrected-none m zero s h = refl
-corrected-none zero (suc n) s h = absurd (omega (arith, run-le 0 s))
-corrected-none (suc m) (suc n) s h =
-    ap₂ (λ (j : Judged) (k : ℕ). correctedOf j + k) (good-judged (take 8 s) (run-first m n s h .0)) (corrected-none m n (drop 8 s) (run-first m n s h .1))
+  -- the octets that the first n codeblocks hand out
+  abbrev pub handed : ℕ → List ℕ → List ℕ
+  handed n s = randomized 0 (informationIn judge n s)
 
-pub length-information-in : (m n : ℕ) (s : List ℕ) → 8 * m ≤ length s → n ≤ goodRun m s → length (informationIn n s) ≡ 7 * n
-unfolding informationIn
-length-information-in m zero s l h = refl
-length-information-in zero (suc n) s l h = absurd (omega (arith, run-le 0 s))
-length-information-in (suc m) (suc n) s l h =
-    let e = length-information-in m n (drop 8 s) (simp length-drop (omega (arith, mul-suc 8 m))) (run-first m n s h .1) in
-    ap length (information-next m n s h) ∙ simp (length-append, length-take) (omega (arith, mul-suc 8 m, mul-suc 7 n))
+  -- n codeblocks of s are taken: they are good, and their octets stand at the front of a memory that was `old`
+  pub record Taken (whole : ℕ) (s old memory : List ℕ) (corrected n : ℕ) : Type 0 where
+    pub within : n ≤ whole
+    pub run : goodRun judge whole s ≡ n + goodRun judge (whole - n) (drop (8 * n) s)
+    pub count : corrected ≡ correctedIn judge n s
+    pub few : corrected ≤ 255 * n
+    pub long : length (handed n s) ≡ 7 * n
+    pub front : memory ≡ handed n s ++ drop (length (handed n s)) old
 
-information-in-at : (m n : ℕ) (s : List ℕ) (b i : ℕ) → 8 * m ≤ length s → n ≤ goodRun m s → b < n → i < 7
-    → getD (informationIn n s) (7 * b + i) 0 ≡ getD s (8 * b + i) 0
-information-in-at m zero s b i l h hb hi = absurd (not-suc-le-zero hb)
-information-in-at zero (suc n) s b i l h hb hi = absurd (omega (arith, run-le 0 s))
-information-in-at (suc m) (suc n) s zero i l h hb hi =
-    let k : i < length (take 7 s) = simp length-take (omega (arith, mul-suc 8 m)) in
-    ap₂ (λ (t : List ℕ) (j : ℕ). getD t j 0) (information-next m n s h) (zero-add i)
-    ∙ List·getD-append (take 7 s) (informationIn n (drop 8 s)) 0 i k ∙ getD-take 7 s i 0 hi ∙ ap (λ (j : ℕ). getD s j 0) (sym (zero-add i))
-information-in-at (suc m) (suc n) s (suc b) i l h hb hi =
-    let k : length (take 7 s) ≡ 7 = simp length-take (omega (arith, mul-suc 8 m)) in
-    let e : 7 * suc b + i ≡ length (take 7 s) + (7 * b + i) = omega (arith, mul-suc 7 b) in
-    let d : 8 + (8 * b + i) ≡ 8 * suc b + i = omega (arith, mul-suc 8 b) in
-    ap₂ (λ (t : List ℕ) (j : ℕ). getD t j 0) (information-next m n s h) e
-    ∙ getD-append-add (take 7 s) (informationIn n (drop 8 s)) (7 * b + i) 0
-    ∙ information-in-at m n (drop 8 s) b i (simp length-drop (omega (arith, mul-suc 8 m))) (run-first m n s h .1) (le-of-suc-le-suc hb) hi
-    ∙ getD-drop 8 s (8 * b + i) 0 ∙ ap (λ (j : ℕ). getD s j 0) d
+  pub taken-none : (whole : ℕ) (s old : List ℕ) → Taken whole s old old 0 0
+  unfolding informationIn correctedIn randomized
+  taken-none whole s old =
+      let e : whole ≡ whole - 0 = omega arith in
+      record {
+        within = omega arith;
+        run = ap (λ (j : ℕ). goodRun judge j s) e ∙ sym (zero-add (goodRun judge (whole - 0) s));
+        count = refl;
+        few = omega arith;
+        long = refl;
+        front = refl;
+      }
 
--- the octets handed out
-module _ (s : List ℕ) (n : ℕ) (h : n ≤ goodRun (length s / 8) s) where
-  pub length-out : length (randomized 0 (informationIn n s)) ≡ 7 * n
-  length-out = length-randomized 0 (informationIn n s) ∙ length-information-in (length s / 8) n s (omega arith) h
+  module _ {whole : ℕ} {s old memory : List ℕ} {corrected n : ℕ} (t : Taken whole s old memory corrected n) where
+    -- the codeblock as the loop's part of s, from 8 * n to 8 * n + 8
+    block-is : (j : Judged) → j ≡ judge (take (8 * n + 8 - 8 * n) (drop (8 * n) s)) → j ≡ blockAt s n
+    block-is j e =
+        let k : 8 * n + 8 - 8 * n ≡ 8 = omega arith in
+        e ∙ ap (λ (i : ℕ). judge (take i (drop (8 * n) s))) k
 
-  pub out-at : (i : ℕ) → i < 7 * n → getD (randomized 0 (informationIn n s)) i 0 ≡ bitXor (getD s (8 * (i / 7) + i % 7) 0) (octet i)
-  out-at i hi =
-      let l : i < length (informationIn n s) = omega (arith, length-information-in (length s / 8) n s (omega arith) h) in
-      let e : i ≡ 7 * (i / 7) + i % 7 = omega arith in
-      randomized-at 0 (informationIn n s) i l
-      ∙ ap₂ (λ (x j : ℕ). bitXor x (octet j))
-      (ap (λ (j : ℕ). getD (informationIn n s) j 0) e ∙ information-in-at (length s / 8) n s (i / 7) (i % 7) (omega arith) h (omega arith) (omega arith))
-      (zero-add i)
+    pub taken-bad : (j : Judged) → j ≡ judge (take (8 * n + 8 - 8 * n) (drop (8 * n) s)) → isGood j ≡ false → goodRun judge whole s ≡ n
+    taken-bad j e b =
+        let r = run-stop (whole - n) (drop (8 * n) s) (ap isGood (sym (block-is j e)) ∙ b) in
+        omega (arith, t .run)
+
+    pub taken-all : whole ≤ n → goodRun judge whole s ≡ n
+    unfolding goodRun
+    taken-all h =
+        let z : whole - n ≡ 0 = omega arith in
+        let r : goodRun judge (whole - n) (drop (8 * n) s) ≡ 0 = ap (λ (j : ℕ). goodRun judge j (drop (8 * n) s)) z in
+        omega (arith, t .run)
+
+    pub taken-more : (j : Judged) → j ≡ judge (take (8 * n + 8 - 8 * n) (drop (8 * n) s)) → isGood j ≡ true → n < whole
+        → length (j .information) ≡ 7 → j .corrected ≤ 255 → 7 * whole ≤ length old
+        → Taken whole s old (placed memory (7 * n) (randomized (7 * n) (j .information))) (corrected + j .corrected) (n + 1)
+    taken-more j e g h seven one room =
+        let b : j ≡ blockAt s n = block-is j e in
+        let i : length (informationIn judge n s) ≡ 7 * n = sym (length-randomized 0 (informationIn judge n s)) ∙ t .long in
+        let l : length (randomized (7 * n) (j .information)) ≡ 7 = length-randomized (7 * n) (j .information) ∙ seven in
+        let p : 7 * n ≡ 0 + length (informationIn judge n s) = omega (arith, i) in
+        let o : handed n s ++ randomized (7 * n) (j .information) ≡ handed (n + 1) s =
+        ap (λ (k : ℕ). handed n s ++ randomized k (j .information)) p
+        ∙ sym (randomized-append 0 (informationIn judge n s) (j .information))
+        ∙ ap (λ (x : Judged). randomized 0 (informationIn judge n s ++ x .information)) b
+        ∙ ap (randomized 0) (sym (information-more n s) ∙ ap (λ (k : ℕ). informationIn judge k s) (sym (add-one n))) in
+        record {
+          within = omega arith;
+          run = t .run ∙ ap (λ (k : ℕ). n + k) (run-step s whole n h (ap isGood (sym b) ∙ g)) ∙ (omega arith);
+          count = ap₂ (λ (k : ℕ) (x : Judged). k + x .corrected) (t .count) b ∙ sym (corrected-more n s) ∙ ap (λ (k : ℕ). correctedIn judge k s) (sym (add-one n));
+          few = omega (arith, t .few);
+          long = ap length (sym o) ∙ length-append (handed n s) (randomized (7 * n) (j .information)) ∙ (omega (arith, l, t .long));
+          front = placed-behind old (handed n s) (randomized (7 * n) (j .information)) memory (7 * n) (t .front) (sym (t .long)) (omega (arith, l))
+              ∙ ap (λ (x : List ℕ). x ++ drop (length x) old) o;
+        }
+
+  -- where what is good has seven octets of information, n codeblocks of a run hand out seven octets each
+  module _ (seven : (block : List ℕ) → isGood (judge block) ≡ true → length (judge block .information) ≡ 7) where
+    length-information-in : (m n : ℕ) (s : List ℕ) → n ≤ goodRun judge m s → length (informationIn judge n s) ≡ 7 * n
+    unfolding informationIn
+    length-information-in m zero s h = refl
+    length-information-in zero (suc n) s h = absurd (omega (arith, run-le 0 s))
+    length-information-in (suc m) (suc n) s h =
+        let f = run-first m n s h in
+        length-append (judge (take 8 s) .information) (informationIn judge n (drop 8 s))
+        ∙ ap₂ _+_ (seven (take 8 s) (f .0)) (length-information-in m n (drop 8 s) (f .1))
+        ∙ (omega (arith, mul-suc 7 n))
+
+    pub length-handed : (m n : ℕ) (s : List ℕ) → n ≤ goodRun judge m s → length (handed n s) ≡ 7 * n
+    length-handed m n s h = length-randomized 0 (informationIn judge n s) ∙ length-information-in m n s h
+
+-- octets at the front of a memory, put to the front of another
+pub put-front : (octets behind old memory : List ℕ) (k : ℕ) → memory ≡ octets ++ behind → k ≡ length octets → k ≤ length old
+    → placed old 0 (take (k - 0) (drop 0 memory)) ≡ octets ++ drop (length octets) old
+put-front octets behind old memory k e l h =
+    let z : k - 0 ≡ k = omega arith in
+    let t : take (k - 0) memory ≡ octets = ap₂ (λ (j : ℕ) (m : List ℕ). take j m) z e ∙ take-at octets behind k (sym l) in
+    ap (placed old 0) t
+    ∙ placed-fits old 0 octets (omega arith)
+    ∙ ap (λ (j : ℕ). octets ++ drop j old) (zero-add (length octets))

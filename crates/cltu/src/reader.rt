@@ -8,7 +8,8 @@ ghost use lib.ListN.{length, drop};
 ghost use Rattle.base.specs.Limits.{largestInput};
 ghost use Rattle.base.specs.Outcome.{answer, after};
 ghost use Rattle.randomizer.specs.Randomizer.{randomized, sequenceOf};
-ghost use Rattle.cltu.specs.Cltu.{starts, startOf, goodRun, informationIn, readingAfter, reading};
+ghost use Rattle.codeblock.specs.Codeblock.{judged};
+ghost use Rattle.cltu.specs.Cltu.{goodRun, informationIn, correctedIn, readingAfter, reading};
 ghost use Rattle.cltu.specs.Answers.{readAnswer};
 
 // The octets handed out, the bad codeblock's offset and the count of corrected codeblocks; or document 01's refusal 1, 2 or 3
@@ -26,72 +27,71 @@ pub enum CltuReading {
     Room,
 }
 
-fn starts_at(input: &[u8], i: usize) -> bool
-    requires { ⌜ i < length (now input) ⌝ }
-    ensures { λ r. ⌜ r ≡ starts (drop i (now (input .entry))) ⌝ }
-{
-    if i + 1 < input.len() {
-        if input[i] == 0xEB {
-            input[i + 1] == 0x90
-        } else {
-            false
-        }
-    } else {
-        false
-    }
+// The information of as many codeblocks as the largest input has.
+const LARGEST_INFORMATION: usize = LARGEST_INPUT / 8 * 7;
+
+// The good codeblocks at the front of an input: how many, and how many of them were corrected.
+struct Run {
+    blocks: usize,
+    corrected: usize,
 }
 
-// The offset of the first start sequence, or the length.
-fn find_start(input: &[u8]) -> usize
-    ensures { λ r. ⌜ r ≡ startOf (now (input .entry)) ⌝ }
+// The information of a codeblock, derandomized, where it begins at a place of the whole information.
+fn derandomized(information: [u8; 7], place: usize, sequence: &[u8]) -> [u8; 7]
+    requires { ⌜ (place ≤ largestInput) × (now sequence ≡ sequenceOf 255 0) ⌝ }
+    ensures { λ r. ⌜ r ≡ randomized place information ⌝ }
 {
+    let mut octets = [0u8; 7];
     let mut i = 0;
-    while i < input.len() {
-        if starts_at(input, i) {
-            return i;
-        }
+    while i < 7 {
+        octets[i] = information[i] ^ sequence[(place + i) % PERIOD];
         i += 1;
     }
-    i
+    octets
 }
 
-// How many good codeblocks stand at the front.
-fn good_run(input: &[u8]) -> usize
-    ensures { λ r. ⌜ r ≡ goodRun (length (now (input .entry)) / 8) (now (input .entry)) ⌝ }
+// Takes the good codeblocks at the front, each judged once; their information, derandomized, at the front of the lent memory.
+fn take_good(input: &[u8], sequence: &[u8], decoded: &mut [u8]) -> Run
+    requires { ⌜ (length (now input) ≤ largestInput) × (7 * (length (now input) / 8) ≤ length (now decoded)) × (now sequence ≡ sequenceOf 255 0) ⌝ }
+    ensures run { λ r. ⌜ (r .blocks ≡ goodRun judged (length (now (input .entry)) / 8) (now (input .entry))) × (r .corrected ≡ correctedIn judged (r .blocks) (now (input .entry))) ⌝ }
+    ensures memory { λ r. ⌜ now (decoded .exit) ≡ randomized 0 (informationIn judged (r .blocks) (now (input .entry))) ++ drop (length (randomized 0 (informationIn judged (r .blocks) (now (input .entry))))) (now (decoded .entry)) ⌝ }
 {
     let whole = input.len() / 8;
+    let mut corrected: usize = 0;
     let mut n: usize = 0;
     while n < whole {
         let at = 8 * n;
         let end = at + 8;
-        if !codeblock::is_good(&input[at..end]) {
-            return n;
+        let block = codeblock::judge(&input[at..end]);
+        if !block.good {
+            return Run {
+                blocks: n,
+                corrected: corrected,
+            };
         }
+        let information = block.information;
+        let octets = derandomized(information, 7 * n, sequence);
+        memory::put(decoded, 7 * n, &octets);
+        corrected += block.corrected as usize;
         n += 1;
     }
-    n
-}
-
-// The information of n good codeblocks, derandomized, at the front of the output.
-fn unpack(input: &[u8], n: usize, sequence: &[u8], out: &mut [u8])
-    requires { ⌜ (n ≤ goodRun (length (now input) / 8) (now input)) × (7 * n ≤ length (now out)) × (now sequence ≡ sequenceOf 255 0) ⌝ }
-    ensures { λ _. ⌜ now (out .exit) ≡ randomized 0 (informationIn n (now (input .entry))) ++ drop (length (randomized 0 (informationIn n (now (input .entry))))) (now (out .entry)) ⌝ }
-{
-    let mut i = 0;
-    while i < 7 * n {
-        let place = 8 * (i / 7) + i % 7;
-        out[i] = input[place] ^ sequence[i % PERIOD];
-        i += 1;
+    Run {
+        blocks: n,
+        corrected: corrected,
     }
 }
 
 // Reads the codeblocks after a start sequence; the rest of the input stands at an offset.
 fn read_after(input: &[u8], offset: usize, out: &mut [u8]) -> CltuReading
-    requires { ⌜ offset ≤ largestInput ⌝ }
-    ensures answer { λ r. ⌜ readAnswer r ≡ answer (readingAfter offset (now (input .entry)) (length (now (out .entry)))) ⌝ }
-    ensures memory { λ r. ⌜ now (out .exit) ≡ after (readingAfter offset (now (input .entry)) (length (now (out .entry)))) (now (out .entry)) ⌝ }
+    requires { ⌜ offset + length (now input) ≤ largestInput ⌝ }
+    ensures answer { λ r. ⌜ readAnswer r ≡ answer (readingAfter judged offset (now (input .entry)) (length (now (out .entry)))) ⌝ }
+    ensures memory { λ r. ⌜ now (out .exit) ≡ after (readingAfter judged offset (now (input .entry)) (length (now (out .entry)))) (now (out .entry)) ⌝ }
 {
-    let n = good_run(input);
+    let mut sequence = [0u8; PERIOD];
+    randomizer::sequence(&mut sequence);
+    let mut decoded = [0u8; LARGEST_INFORMATION];
+    let run = take_good(input, &sequence, &mut decoded);
+    let n = run.blocks;
     if input.len() / 8 <= n {
         return CltuReading::NoEnd(offset + 8 * n);
     }
@@ -101,13 +101,12 @@ fn read_after(input: &[u8], offset: usize, out: &mut [u8]) -> CltuReading
     if out.len() < 7 * n {
         return CltuReading::Room;
     }
-    let mut sequence = [0u8; PERIOD];
-    randomizer::sequence(&mut sequence);
-    unpack(input, n, &sequence, out);
+    let count = 7 * n;
+    memory::put(out, 0, &decoded[0..count]);
     CltuReading::Done {
-        count: 7 * n,
+        count: count,
         place: offset + 8 * n,
-        corrected: 0,
+        corrected: run.corrected,
     }
 }
 
@@ -120,7 +119,7 @@ pub fn read(input: &[u8], out: &mut [u8]) -> CltuReading
     if LARGEST_INPUT < len {
         return CltuReading::Length;
     }
-    let first = find_start(input);
+    let first = start_sequence::find_start(input);
     if len <= first {
         return CltuReading::NoStart(len);
     }

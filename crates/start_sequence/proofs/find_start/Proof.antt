@@ -5,10 +5,10 @@ use denote.Ref.{now}
 use native.Mathlib.Omega.{arith}
 use Prim.Native.Nat.{_+_, _-_, _≤_}
 use lib.ListN.{length, drop, drop-of-length-le}
-use Rattle.cltu.specs.Cltu.{startOf}
-use Rattle.cltu.proofs.Scan.{search-on, search-found}
-use Rattle.cltu.proofs.reader.find_start.Statement.{statement}
-use Rattle.cltu.proofs.reader.find_start.Tie as tie
+use Rattle.start_sequence.specs.StartSequence.{startOf}
+use Rattle.start_sequence.proofs.Search.{search-on, search-found}
+use Rattle.start_sequence.proofs.find_start.Statement.{statement}
+use Rattle.start_sequence.proofs.find_start.Tie as tie
 
 abbrev Inv-loop : tie.InvT-loop
 Inv-loop input i₀ i = (i ≤ length input) × (startOf input ≡ i + startOf (drop i input))

@@ -3,9 +3,9 @@ use borrow.Author.Needs.{needs}
 use mathlib.Core.Path.{sym}
 use denote.Ref.{now}
 use borrow.Author.Tests.{eq-eqb, ne-eqb}
-use Rattle.cltu.proofs.Scan.{starts-by, starts-last}
-use Rattle.cltu.proofs.reader.starts_at.Statement.{statement}
-use Rattle.cltu.proofs.reader.starts_at.Tie as tie
+use Rattle.start_sequence.proofs.Starts.{starts-by, starts-last}
+use Rattle.start_sequence.proofs.starts_at.Statement.{statement}
+use Rattle.start_sequence.proofs.starts_at.Tie as tie
 
 add-if1 : tie.Need-add-if1
 add-if1 c = search needs
