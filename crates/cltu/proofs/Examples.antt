@@ -9,7 +9,8 @@ use Rattle.base.specs.Limits.{largestFrame, largestInput}
 use Rattle.codeblock.specs.Codeblock.{parity, errorControl, codeblockOf, judged}
 use Rattle.randomizer.specs.Randomizer.{nextBit, later, octet, randomized}
 use Rattle.start_sequence.specs.StartSequence.{startSequence, starts, startOf}
-use Rattle.cltu.specs.Cltu.{filled, encoded, informationFor, cltuOf, need, writing, goodRun, informationIn, correctedIn, readingRun, readingBy, reading}
+use Rattle.encoded_data.specs.EncodedData.{goodRun, informationIn, correctedIn}
+use Rattle.cltu.specs.Cltu.{filled, encoded, informationFor, cltuOf, need, writing, readingRun, readingBy, reading}
 
 -- a frame of eight octets
 abbrev pub frame : List ℕ

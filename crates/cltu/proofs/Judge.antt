@@ -8,7 +8,8 @@ use Rattle.base.specs.Register.{shiftBit, shiftBits, register}
 use Rattle.codeblock.specs.Codeblock.{parity, errorControl, codeblockOf, good, bad, judged, isGood}
 use Rattle.codeblock.specs.declared.Judged.{Judged}
 use Rattle.codeblock.proofs.Codeblock.{judged-codeblock, good-seven, corrects-none}
-use Rattle.cltu.specs.Cltu.{tailSequence, correctedIn}
+use Rattle.encoded_data.specs.EncodedData.{correctedIn}
+use Rattle.cltu.specs.Cltu.{tailSequence}
 
 -- an encoding is good with nothing corrected, the tail sequence is bad, and what is good has seven octets of information
 pub record Judge (judge : List ℕ → Judged) : Type 0 where

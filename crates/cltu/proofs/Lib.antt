@@ -1,6 +1,5 @@
 pub mod Places
 pub mod Judge
-pub mod Scan
 pub mod Outcomes
 pub mod RoundTrip
 pub mod Sound

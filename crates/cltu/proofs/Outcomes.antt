@@ -11,7 +11,8 @@ use Rattle.base.proofs.Lists.{rest}
 use Rattle.codeblock.specs.declared.Judged.{Judged}
 use Rattle.randomizer.specs.Randomizer.{randomized}
 use Rattle.start_sequence.specs.StartSequence.{startOf}
-use Rattle.cltu.specs.Cltu.{need, cltuOf, writing, goodRun, informationIn, correctedIn, readingRun, readingAfter, readingBy}
+use Rattle.encoded_data.specs.EncodedData.{goodRun, informationIn, correctedIn}
+use Rattle.cltu.specs.Cltu.{need, cltuOf, writing, readingRun, readingAfter, readingBy}
 
 module _ (frame : List ℕ) (room : ℕ) where
   pub writing-short : length frame < smallestFrame → writing frame room ≡ refused 10 0

@@ -19,12 +19,13 @@ use Rattle.codeblock.specs.Codeblock.{codeblockOf, judged, isGood}
 use Rattle.codeblock.specs.declared.Judged.{Judged}
 use Rattle.codeblock.proofs.Codeblock.{good-is, good-judged}
 use Rattle.randomizer.specs.Randomizer.{randomized}
-use Rattle.randomizer.proofs.Randomized.{randomized-twice}
+use Rattle.randomizer.proofs.Randomized.{randomized-twice, length-randomized}
 use Rattle.start_sequence.specs.StartSequence.{starts, startOf}
 use Rattle.start_sequence.proofs.Search.{found-starts}
-use Rattle.cltu.specs.Cltu.{encoded, goodRun, informationIn, correctedIn, Found, readingAfter, readingBy, reading}
+use Rattle.encoded_data.specs.EncodedData.{goodRun, informationIn, correctedIn}
+use Rattle.cltu.specs.Cltu.{encoded, Found, readingAfter, readingBy, reading}
 use Rattle.cltu.proofs.Judge.{Judge, detects, corrected-none}
-use Rattle.cltu.proofs.Scan.{blockAt, handed, length-handed, block-next, run-good, run-ends}
+use Rattle.encoded_data.proofs.Scan.{length-information-in, block-next, run-good, run-ends}
 use Rattle.cltu.proofs.Outcomes.{reading-long, reading-none, reading-found, after-end, after-none, after-room, after-done}
 
 -- what comes after the first start sequence
@@ -132,20 +133,24 @@ refused-not : {o : Outcome Found} {n p : ℕ} {octets : List ℕ} {f : Found} �
 refused-not a b = let z : _≡_ {A = ℕ} 0 1 = cc in omega arith
 
 module _ {judge : List ℕ → Judged} (laws : Judge judge) (input : List ℕ) where
-  -- what the definition finds
+  -- what the definition hands out and tells
+  abbrev handed : List ℕ
+  handed = randomized 0 (informationIn judge (run judge input) (afterStart input))
+
   abbrev told : Found
   told = record { place = behindRun judge input; corrected = correctedIn judge (run judge input) (afterStart input) }
 
   -- of what the definition hands out
   sound-read : startOf input < length input → run judge input < length (afterStart input) / 8 → 0 < run judge input
-      → SoundBy judge input (handed judge (run judge input) (afterStart input)) told
+      → SoundBy judge input handed told
   sound-read s l z = record {
     start = startOf input;
     first = refl;
     starting = found-starts input s;
     blocks = run judge input;
     some = z;
-    count = length-handed judge (laws .seven) (length (afterStart input) / 8) (run judge input) (afterStart input) (omega arith);
+    count = length-randomized 0 (informationIn judge (run judge input) (afterStart input))
+        ∙ length-information-in judge (laws .seven) (length (afterStart input) / 8) (run judge input) (afterStart input) (omega arith);
     good = λ b h. run-good judge (length (afterStart input) / 8) (afterStart input) b h;
     information = refl;
     place = refl;
@@ -165,7 +170,7 @@ module _ {judge : List ℕ → Judged} (laws : Judge judge) (input : List ℕ) w
       go (no-end a b c r) = absurd (refused-not r e)
       go (no-room a b c d g r) = absurd (refused-not r e)
       go (read a b c d g r) =
-          let p : handed judge (run judge input) (afterStart input) ≡ octets = cc in
+          let p : handed ≡ octets = cc in
           let q : told ≡ f = cc in
           subst (λ (x : Found). SoundBy judge input octets x) q (subst (λ (o : List ℕ). SoundBy judge input o told) p (sound-read b c d))
 

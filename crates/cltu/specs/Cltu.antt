@@ -3,11 +3,12 @@ use Prim.Native.Nat.{ℕ, zero, suc, _+_, _-_, _*_, _/_}
 use mathlib.Core.List.{List, [], _∷_, _++_}
 use lib.Dec.{ltb, leb}
 use lib.ListN.{length, take, drop, replicate}
-use Rattle.base.specs.Choice.{pick, must}
+use Rattle.base.specs.Choice.{must}
 use Rattle.base.specs.Limits.{smallestFrame, largestFrame, largestInput}
 use Rattle.base.specs.Outcome.{Outcome, Outcome.done, Outcome.refused}
-use Rattle.codeblock.specs.Codeblock.{codeblockOf, judged, isGood}
+use Rattle.codeblock.specs.Codeblock.{codeblockOf, judged}
 use Rattle.codeblock.specs.declared.Judged.{Judged}
+use Rattle.encoded_data.specs.EncodedData.{goodRun, informationIn, correctedIn}
 use Rattle.randomizer.specs.Randomizer.{randomized}
 use Rattle.start_sequence.specs.StartSequence.{startSequence, startOf}
 
@@ -59,21 +60,6 @@ pub record Found : Type 0 where
 
 -- clause 8.7, over any judge of codeblocks
 module _ (judge : List ℕ → Judged) where
-  -- clause 8.7, state S3: how many of n codeblocks are good, from the front up to the first bad one
-  unfoldable pub goodRun : ℕ → List ℕ → ℕ
-  goodRun zero input = 0
-  goodRun (suc n) input = pick (isGood (judge (take 8 input))) (suc (goodRun n (drop 8 input))) 0
-
-  -- the information of the first n codeblocks
-  unfoldable pub informationIn : ℕ → List ℕ → List ℕ
-  informationIn zero input = []
-  informationIn (suc n) input = judge (take 8 input) .information ++ informationIn n (drop 8 input)
-
-  -- how many of the first n codeblocks were corrected, a bit in each
-  unfoldable pub correctedIn : ℕ → List ℕ → ℕ
-  correctedIn zero input = 0
-  correctedIn (suc n) input = judge (take 8 input) .corrected + correctedIn n (drop 8 input)
-
   -- reading on after the start sequence, where the rest of the input stands at an offset and n of its codeblocks are good:
   -- 3 where none of its whole codeblocks is bad, 2 where the first is, then 11
   unfoldable pub readingRun : ℕ → List ℕ → ℕ → ℕ → Outcome Found
@@ -81,11 +67,11 @@ module _ (judge : List ℕ → Judged) where
       must (ltb n (length input / 8)) (refused 3 (offset + 8 * n))
       (must (ltb 0 n) (refused 2 offset)
       (must (leb (7 * n) room) (refused 11 0)
-      (done (randomized 0 (informationIn n input)) (record { place = offset + 8 * n; corrected = correctedIn n input }))))
+      (done (randomized 0 (informationIn judge n input)) (record { place = offset + 8 * n; corrected = correctedIn judge n input }))))
 
   -- reading on, with the count of good codeblocks that the rest has
   abbrev pub readingAfter : ℕ → List ℕ → ℕ → Outcome Found
-  readingAfter offset input room = readingRun offset input room (goodRun (length input / 8) input)
+  readingAfter offset input room = readingRun offset input room (goodRun judge (length input / 8) input)
 
   -- document 01: reading a CLTU out of lent input into a room of so many octets: 10, 1, then 2 or 3, then 11
   unfoldable pub readingBy : List ℕ → ℕ → Outcome Found

@@ -2,7 +2,7 @@
 use mathlib.Core.Path.{_≡_, refl, sym, ap, _∙_}
 use mathlib.Core.Bool.{Bool, true, false}
 use mathlib.Core.List.{List, [], _∷_, _++_}
-use Prim.Native.Nat.{ℕ, _+_, _/_, _%_}
+use Prim.Native.Nat.{ℕ, _+_, _/_, _%_, _≤_}
 use native.Mathlib.Omega.{arith}
 use borrow.Author.Tests.{eq-eqb, ne-eqb, eqb-true, eqb-false}
 use lib.Dec.{eqb}
@@ -68,6 +68,10 @@ bad-judged block e = by-bad (same block (codeblockOf (take 7 block))) (take 7 bl
 pub corrects-none : (block : List ℕ) → judged block .corrected ≡ 0
 unfolding judged
 corrects-none block = none-by (same block (codeblockOf (take 7 block))) (take 7 block)
+
+-- at most one bit is corrected
+pub corrects-few : (block : List ℕ) → judged block .corrected ≤ 1
+corrects-few block = omega (arith, corrects-none block)
 
 -- the information of a good codeblock has seven octets
 pub good-seven : (block : List ℕ) → isGood (judged block) ≡ true → length (judged block .information) ≡ 7

@@ -1,29 +1,29 @@
 -- The loop's invariant: n codeblocks are taken.
 use borrow.Author.Needs.{needs}
-use mathlib.Core.Path.{_≡_, refl, sym, ap, _∙_, subst}
+use mathlib.Core.Path.{_≡_, refl, sym, subst}
 use mathlib.Core.List.{List}
-use Prim.Native.Nat.{ℕ, _+_, _-_, _*_, _/_, _≤_}
+use Prim.Native.Nat.{ℕ, _+_, _-_, _*_, _≤_}
 use borrow.Author.Tests.{not-true, not-false}
-use native.Mathlib.Omega.{arith}
 use denote.Ref.{now}
 use lib.ListN.{length}
 use Rattle.codeblock.specs.Codeblock.{judged}
+use Rattle.codeblock.specs.declared.Judged.{Judged}
+use Rattle.codeblock.proofs.Codeblock.{corrects-few}
 use Rattle.memory.specs.Placed.{placed}
-use Rattle.randomizer.specs.Randomizer.{randomized}
-use Rattle.cltu.proofs.Scan.{Taken, taken-none, taken-bad, taken-all, taken-more}
-use Rattle.cltu.proofs.reader.take_good.Statement.{statement}
-use Rattle.cltu.proofs.reader.take_good.Tie as tie
+use Rattle.encoded_data.proofs.Scan.{Taken, taken-none, taken-bad, taken-all, taken-more}
+use Rattle.encoded_data.proofs.take.Statement.{statement}
+use Rattle.encoded_data.proofs.take.Tie as tie
 
 abbrev Inv-loop : tie.InvT-loop
-Inv-loop input sequence decoded₀ whole corrected₀ n₀ decoded corrected n = Taken judged whole input decoded₀ decoded corrected n × (length decoded ≡ length decoded₀)
+Inv-loop input whole information₀ corrected₀ n₀ information corrected n = Taken judged whole input information₀ information corrected n × (length information ≡ length information₀)
 
 abbrev μ-loop : tie.MeasureT-loop
-μ-loop input sequence decoded₀ whole corrected₀ n₀ decoded corrected n = whole - n
+μ-loop input whole information₀ corrected₀ n₀ information corrected n = whole - n
 
 loop-holds : tie.Need-loop-holds Inv-loop μ-loop
 loop-holds c =
-    let a = c .before .before .before .args in
-    (taken-none judged (length (now (a .input)) / 8) (now (a .input)) (now (a .decoded)), refl)
+    let a = c .before .before .args in
+    (taken-none judged (a .whole) (now (a .input)) (now (a .information)), refl)
 
 mul-at : tie.Need-mul-at Inv-loop μ-loop
 mul-at c = search needs
@@ -52,12 +52,6 @@ returns c =
     let j = c .before .before .judge in
     ((sym (taken-bad judged t (j .result) (j .ensures) (not-true _ (c .if1 .taken))), t .count), t .front)
 
-mul-derandomized : tie.Need-mul-derandomized Inv-loop μ-loop
-mul-derandomized c = search needs
-
-derandomized-requires : tie.Need-derandomized-requires Inv-loop μ-loop
-derandomized-requires c κs = search needs
-
 mul-put : tie.Need-mul-put Inv-loop μ-loop
 mul-put c = search needs
 
@@ -81,16 +75,15 @@ loop-less c = search needs
 
 loop-again : tie.Need-loop-again Inv-loop μ-loop
 loop-again c =
-    let a = c .before .before .before .before .before .before .before .before .before .before .before .before .before .before .before .before .before .args in
-    let l = c .before .before .before .before .before .before .before .before .before .before .before .before .before .loop in
-    let j = c .before .before .before .before .before .before .before .before .before .before .judge in
-    let d = c .before .before .before .before .before .before .derandomized in
+    let a = c .before .before .before .before .before .before .before .before .before .before .before .before .before .before .before .args in
+    let l = c .before .before .before .before .before .before .before .before .before .before .before .before .loop in
+    let j = c .before .before .before .before .before .before .before .before .before .judge in
     let p = c .before .before .before .put in
-    let e : p .last .0 ≡ placed (l .decoded) (7 * l .n) (randomized (7 * l .n) (j .result .information)) = p .ensures ∙ ap (placed (l .decoded) (7 * l .n)) (d .ensures) in
+    let e : p .last .0 ≡ placed (l .information) (7 * l .n) (j .result .information) = p .ensures in
     let seven : length (j .result .information) ≡ 7 = search needs in
-    let one : j .result .corrected ≤ 255 = search needs in
-    let t = taken-more judged (l .inv .0) (j .result) (j .ensures) (not-false _ (c .before .before .before .before .before .before .before .before .if1 .left)) (search needs) seven one (c .before .before .before .before .before .before .before .before .before .before .before .before .before .before .before .before .before .pre .1) in (
-      subst (λ (m : List ℕ). Taken judged (length (now (a .input)) / 8) (now (a .input)) (now (a .decoded)) m (l .corrected + j .result .corrected) (l .n + 1)) (sym e) t,
+    let one : j .result .corrected ≤ 1 = subst (λ (x : Judged). x .corrected ≤ 1) (sym (j .ensures)) (corrects-few _) in
+    let t = taken-more judged (l .inv .0) (j .result) (j .ensures) (not-false _ (c .before .before .before .before .before .before .before .if1 .left)) (search needs) seven one (c .before .before .before .before .before .before .before .before .before .before .before .before .before .before .before .pre .1) in (
+      subst (λ (m : List ℕ). Taken judged (a .whole) (now (a .input)) (now (a .information)) m (l .corrected + j .result .corrected) (l .n + 1)) (sym e) t,
       search needs,
     )
 
@@ -102,8 +95,8 @@ returns-2 c =
     let t = c .before .loop .inv .0 in
     ((sym (taken-all judged t (c .loop-test .left)), t .count), t .front)
 
-pub take-good-spec : {M : Type 1} → statement M
-take-good-spec =
+pub take-spec : {M : Type 1} → statement M
+take-spec =
     tie.close
     (tie.spec
     Inv-loop
@@ -117,8 +110,6 @@ take-good-spec =
     judge-requires
     same-length
     returns
-    mul-derandomized
-    derandomized-requires
     mul-put
     slice-aggregate-put
     put-requires

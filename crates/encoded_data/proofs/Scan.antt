@@ -6,7 +6,7 @@ use Prim.Native.Nat.{ℕ, zero, suc, _+_, _-_, _*_, _/_, _<_, _≤_}
 use native.Mathlib.Nat.{not-suc-le-zero, zero-add, add-zero, add-assoc, mul-suc, suc-add, add-suc}
 use native.Mathlib.Numerals.{add-one}
 use native.Mathlib.Omega.{arith}
-use lib.Bits.{bitXor}
+use borrow.Author.Tests.{le-leb, lt-leb}
 use lib.ListN.{length, take, drop, length-append}
 use lib.Seq.{take-at, drop-drop}
 use Rattle.base.specs.Choice.{pick}
@@ -14,17 +14,7 @@ use Rattle.codeblock.specs.Codeblock.{isGood}
 use Rattle.codeblock.specs.declared.Judged.{Judged}
 use Rattle.memory.specs.Placed.{placed}
 use Rattle.memory.proofs.Laws.{placed-fits, placed-behind}
-use Rattle.randomizer.specs.Randomizer.{octet, randomized}
-use Rattle.randomizer.proofs.Randomized.{length-randomized}
-use Rattle.cltu.specs.Cltu.{goodRun, informationIn, correctedIn}
-
--- octets behind others are randomized by the sequence from their place on
-randomized-append : (k : ℕ) (xs ys : List ℕ) → randomized k (xs ++ ys) ≡ randomized k xs ++ randomized (k + length xs) ys
-unfolding randomized
-randomized-append k [] ys = ap (λ (j : ℕ). randomized j ys) (sym (add-zero k))
-randomized-append k (x ∷ xs) ys =
-    let e : suc k + length xs ≡ k + suc (length xs) = omega arith in
-    ap (λ (l : List ℕ). bitXor x (octet k) ∷ l) (randomized-append (suc k) xs ys ∙ ap (λ (j : ℕ). randomized (suc k) xs ++ randomized j ys) e)
+use Rattle.encoded_data.specs.EncodedData.{goodRun, informationIn, correctedIn, wholeIn}
 
 module _ (judge : List ℕ → Judged) where
   -- codeblock n
@@ -113,21 +103,17 @@ module _ (judge : List ℕ → Judged) where
       (corrected-more n (drop 8 s) ∙ ap (λ (j : Judged). correctedIn judge n (drop 8 s) + j .corrected) (block-next s n))
       ∙ sym (add-assoc (judge (take 8 s) .corrected) (correctedIn judge n (drop 8 s)) (blockAt s (suc n) .corrected))
 
-  -- the octets that the first n codeblocks hand out
-  abbrev pub handed : ℕ → List ℕ → List ℕ
-  handed n s = randomized 0 (informationIn judge n s)
-
-  -- n codeblocks of s are taken: they are good, and their octets stand at the front of a memory that was `old`
+  -- n codeblocks of s are taken: they are good, and their information stands at the front of a memory that was `old`
   pub record Taken (whole : ℕ) (s old memory : List ℕ) (corrected n : ℕ) : Type 0 where
     pub within : n ≤ whole
     pub run : goodRun judge whole s ≡ n + goodRun judge (whole - n) (drop (8 * n) s)
     pub count : corrected ≡ correctedIn judge n s
-    pub few : corrected ≤ 255 * n
-    pub long : length (handed n s) ≡ 7 * n
-    pub front : memory ≡ handed n s ++ drop (length (handed n s)) old
+    pub few : corrected ≤ n
+    pub long : length (informationIn judge n s) ≡ 7 * n
+    pub front : memory ≡ informationIn judge n s ++ drop (length (informationIn judge n s)) old
 
   pub taken-none : (whole : ℕ) (s old : List ℕ) → Taken whole s old old 0 0
-  unfolding informationIn correctedIn randomized
+  unfolding informationIn correctedIn
   taken-none whole s old =
       let e : whole ≡ whole - 0 = omega arith in
       record {
@@ -159,31 +145,27 @@ module _ (judge : List ℕ → Judged) where
         omega (arith, t .run)
 
     pub taken-more : (j : Judged) → j ≡ judge (take (8 * n + 8 - 8 * n) (drop (8 * n) s)) → isGood j ≡ true → n < whole
-        → length (j .information) ≡ 7 → j .corrected ≤ 255 → 7 * whole ≤ length old
-        → Taken whole s old (placed memory (7 * n) (randomized (7 * n) (j .information))) (corrected + j .corrected) (n + 1)
+        → length (j .information) ≡ 7 → j .corrected ≤ 1 → 7 * whole ≤ length old
+        → Taken whole s old (placed memory (7 * n) (j .information)) (corrected + j .corrected) (n + 1)
     taken-more j e g h seven one room =
         let b : j ≡ blockAt s n = block-is j e in
-        let i : length (informationIn judge n s) ≡ 7 * n = sym (length-randomized 0 (informationIn judge n s)) ∙ t .long in
-        let l : length (randomized (7 * n) (j .information)) ≡ 7 = length-randomized (7 * n) (j .information) ∙ seven in
-        let p : 7 * n ≡ 0 + length (informationIn judge n s) = omega (arith, i) in
-        let o : handed n s ++ randomized (7 * n) (j .information) ≡ handed (n + 1) s =
-        ap (λ (k : ℕ). handed n s ++ randomized k (j .information)) p
-        ∙ sym (randomized-append 0 (informationIn judge n s) (j .information))
-        ∙ ap (λ (x : Judged). randomized 0 (informationIn judge n s ++ x .information)) b
-        ∙ ap (randomized 0) (sym (information-more n s) ∙ ap (λ (k : ℕ). informationIn judge k s) (sym (add-one n))) in
+        let o : informationIn judge n s ++ j .information ≡ informationIn judge (n + 1) s =
+        ap (λ (x : Judged). informationIn judge n s ++ x .information) b
+        ∙ sym (information-more n s)
+        ∙ ap (λ (k : ℕ). informationIn judge k s) (sym (add-one n)) in
         record {
           within = omega arith;
           run = t .run ∙ ap (λ (k : ℕ). n + k) (run-step s whole n h (ap isGood (sym b) ∙ g)) ∙ (omega arith);
           count = ap₂ (λ (k : ℕ) (x : Judged). k + x .corrected) (t .count) b ∙ sym (corrected-more n s) ∙ ap (λ (k : ℕ). correctedIn judge k s) (sym (add-one n));
           few = omega (arith, t .few);
-          long = ap length (sym o) ∙ length-append (handed n s) (randomized (7 * n) (j .information)) ∙ (omega (arith, l, t .long));
-          front = placed-behind old (handed n s) (randomized (7 * n) (j .information)) memory (7 * n) (t .front) (sym (t .long)) (omega (arith, l))
+          long = ap length (sym o) ∙ length-append (informationIn judge n s) (j .information) ∙ (omega (arith, seven, t .long));
+          front = placed-behind old (informationIn judge n s) (j .information) memory (7 * n) (t .front) (sym (t .long)) (omega arith)
               ∙ ap (λ (x : List ℕ). x ++ drop (length x) old) o;
         }
 
-  -- where what is good has seven octets of information, n codeblocks of a run hand out seven octets each
+  -- where what is good has seven octets of information, n codeblocks of a run have seven each
   module _ (seven : (block : List ℕ) → isGood (judge block) ≡ true → length (judge block .information) ≡ 7) where
-    length-information-in : (m n : ℕ) (s : List ℕ) → n ≤ goodRun judge m s → length (informationIn judge n s) ≡ 7 * n
+    pub length-information-in : (m n : ℕ) (s : List ℕ) → n ≤ goodRun judge m s → length (informationIn judge n s) ≡ 7 * n
     unfolding informationIn
     length-information-in m zero s h = refl
     length-information-in zero (suc n) s h = absurd (omega (arith, run-le 0 s))
@@ -193,15 +175,25 @@ module _ (judge : List ℕ → Judged) where
         ∙ ap₂ _+_ (seven (take 8 s) (f .0)) (length-information-in m n (drop 8 s) (f .1))
         ∙ (omega (arith, mul-suc 7 n))
 
-    pub length-handed : (m n : ℕ) (s : List ℕ) → n ≤ goodRun judge m s → length (handed n s) ≡ 7 * n
-    length-handed m n s h = length-randomized 0 (informationIn judge n s) ∙ length-information-in m n s h
+-- the codeblocks looked at, by whether there is room for their information
+pub whole-room : (octets room : ℕ) → 7 * (octets / 8) ≤ room → wholeIn octets room ≡ octets / 8
+whole-room octets room h = simp (le-leb (7 * (octets / 8)) room h)
 
--- octets at the front of a memory, put to the front of another
-pub put-front : (octets behind old memory : List ℕ) (k : ℕ) → memory ≡ octets ++ behind → k ≡ length octets → k ≤ length old
-    → placed old 0 (take (k - 0) (drop 0 memory)) ≡ octets ++ drop (length octets) old
-put-front octets behind old memory k e l h =
+pub whole-none : (octets room : ℕ) → room < 7 * (octets / 8) → wholeIn octets room ≡ 0
+whole-none octets room h = simp (lt-leb (7 * (octets / 8)) room h)
+
+-- the run of all whole codeblocks, where there is room
+pub run-whole : (judge : List ℕ → Judged) (s : List ℕ) {n room : ℕ} → n ≡ goodRun judge (wholeIn (length s) room) s → 7 * (length s / 8) ≤ room
+    → n ≡ goodRun judge (length s / 8) s
+run-whole judge s {n} {room} e h = e ∙ ap (λ (k : ℕ). goodRun judge k s) (whole-room (length s) room h)
+
+-- octets placed at the front
+pub placed-front : (memory octets : List ℕ) → length octets ≤ length memory → placed memory 0 octets ≡ octets ++ drop (length octets) memory
+placed-front memory octets h =
+    placed-fits memory 0 octets (omega arith) ∙ ap (λ (j : ℕ). octets ++ drop j memory) (zero-add (length octets))
+
+-- the octets at the front of a memory, as the part from 0 to their count
+pub part-front : (octets behind memory : List ℕ) (k : ℕ) → memory ≡ octets ++ behind → k ≡ length octets → take (k - 0) (drop 0 memory) ≡ octets
+part-front octets behind memory k e l =
     let z : k - 0 ≡ k = omega arith in
-    let t : take (k - 0) memory ≡ octets = ap₂ (λ (j : ℕ) (m : List ℕ). take j m) z e ∙ take-at octets behind k (sym l) in
-    ap (placed old 0) t
-    ∙ placed-fits old 0 octets (omega arith)
-    ∙ ap (λ (j : ℕ). octets ++ drop j old) (zero-add (length octets))
+    ap₂ (λ (j : ℕ) (m : List ℕ). take j m) z e ∙ take-at octets behind k (sym l)
