@@ -19,7 +19,7 @@ use Rattle.randomizer.proofs.Randomized.{randomized-twice}
 use Rattle.start_sequence.specs.StartSequence.{startSequence, startOf}
 use Rattle.start_sequence.proofs.Search.{first-start}
 use Rattle.encoded_data.specs.EncodedData.{goodRun, informationIn, correctedIn}
-use Rattle.cltu.specs.Cltu.{codeblocks, filled, encoded, informationFor, cltuOf, tailSequence, Found, readingAfter, readingBy, reading}
+use Rattle.cltu.specs.Cltu.{codeblocks, filled, encoded, informationFor, cltuOf, tailSequence, readingAfter, readingBy, reading}
 use Rattle.cltu.proofs.Judge.{Judge, detects}
 use Rattle.cltu.proofs.Places.{length-block, length-information, length-encoded}
 use Rattle.cltu.proofs.Outcomes.{reading-found, after-done}

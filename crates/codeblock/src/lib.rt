@@ -1,4 +1,4 @@
-// Clauses 8.2 and 8.5: the BCH codeblock. Its error control octet, and the test of a received codeblock.
+// Clauses 8.2 and 8.5: the BCH codeblock. Its error control octet, and the judgement of a received codeblock.
 ghost use mathlib.Core.Path.{_≡_};
 ghost use Prim.Native.Nat.{_<_};
 ghost use Rattle.base.specs.Register.{shiftBit, shiftBits};

@@ -7,7 +7,6 @@ use native.Mathlib.Omega.{arith}
 use borrow.Author.Tests.{eq-eqb, ne-eqb}
 use denote.Ref.{now}
 use lib.ListN.{getD, take, length-take}
-use Rattle.codeblock.specs.declared.Judged.{Judged}
 use Rattle.codeblock.specs.Codeblock.{errorControl, good}
 use Rattle.codeblock.proofs.Codeblock.{good-judged, bad-judged, first-seven, judged-length, judged-parity, judged-filler}
 use Rattle.codeblock.proofs.judge.Statement.{statement}
