@@ -14,12 +14,12 @@ use Rattle.base.specs.Fields.{fieldAt}
 use Rattle.base.specs.Limits.{smallestFrame, largestSpacecraft, largestChannel}
 use Rattle.base.specs.Outcome.{Outcome}
 use Rattle.base.proofs.Tests.{both-false}
-use Rattle.frame.specs.Header.{spacecraftIdentifier, virtualChannelIdentifier}
+use Rattle.frame_header.specs.Header.{spacecraftIdentifier, virtualChannelIdentifier}
 use Rattle.frame.specs.Frame.{setVrCommand, rawWriting, writing, headerRefusal, contentRefusal, refusalOf}
 use Rattle.frame.specs.Answers.{readingOf, fieldsOf}
 use Rattle.frame.specs.declared.Kind.the-variants.{Ad, SetVr}
 use Rattle.frame.specs.declared.FrameReading.the-variants.{Frame, Refused}
-use Rattle.frame.proofs.Octets.{spacecraft-is, channel-is}
+use Rattle.frame_header.proofs.Octets.{spacecraft-is, channel-is}
 use Rattle.clcw.specs.Clcw.{virtualChannel, writing as wordWriting}
 use Rattle.clcw.specs.Answers.{readingOf as wordReading}
 use Rattle.clcw.specs.declared.WordReading.the-variants.{Length as NotFour}
@@ -118,7 +118,7 @@ module _ (octets : List ℕ) (at : (i : ℕ) → getD octets i 0 < 256) where
       checked (leb smallestFrame (length octets)) 4 _ _
       (λ e.
       let l = leb-true smallestFrame (length octets) e in
-      let f = spacecraft-is octets at l in
+      let f = spacecraft-is octets at (omega arith) in
       let b = at 1 in
       rw (ne-eqb (fieldAt spacecraftIdentifier octets) y (λ p. omega arith), ne-eqb (fieldAt spacecraftIdentifier octets) z (λ p. omega arith)))
 
@@ -128,7 +128,7 @@ module _ (octets : List ℕ) (at : (i : ℕ) → getD octets i 0 < 256) where
       checked (leb smallestFrame (length octets)) 4 _ _
       (λ e.
       let l = leb-true smallestFrame (length octets) e in
-      let f = channel-is octets at l in
+      let f = channel-is octets at (omega arith) in
       let b = at 2 in
       rw
       (ne-eqb (fieldAt virtualChannelIdentifier octets) y (λ p. omega arith), ne-eqb (fieldAt virtualChannelIdentifier octets) z (λ p. omega arith)))

@@ -5,8 +5,8 @@ use crate::numbers::narrow_u8;
 use crate::numbers::narrow_u16;
 use crate::numbers::with_number;
 use frame::FrameReading;
+use frame::FrameWritten;
 use frame::Kind;
-use frame::writer::FrameWritten;
 ghost use mathlib.Core.Path.{_≡_};
 ghost use mathlib.Core.List.{[]};
 ghost use lib.ListN.{length};
@@ -58,7 +58,7 @@ pub extern "C" fn pondreszi_frame_write_ad(
     let own_spacecraft = narrow_u16(judged, NO_SPACECRAFT);
     let own_channel = narrow_u8(channel, NO_CHANNEL);
     let sequence_number = narrow_u8(number, 0);
-    let written = frame::writer::write_ad(
+    let written = frame_writer::write_ad(
         own_spacecraft,
         own_channel,
         sequence_number,
@@ -82,7 +82,7 @@ pub extern "C" fn pondreszi_frame_write_bd(
 {
     let own_spacecraft = narrow_u16(spacecraft, NO_SPACECRAFT);
     let own_channel = narrow_u8(channel, NO_CHANNEL);
-    let written = frame::writer::write_bd(own_spacecraft, own_channel, unit, output);
+    let written = frame_writer::write_bd(own_spacecraft, own_channel, unit, output);
     told(written, count)
 }
 
@@ -99,7 +99,7 @@ pub extern "C" fn pondreszi_frame_write_unlock(
 {
     let own_spacecraft = narrow_u16(spacecraft, NO_SPACECRAFT);
     let own_channel = narrow_u8(channel, NO_CHANNEL);
-    let written = frame::writer::write_unlock(own_spacecraft, own_channel, output);
+    let written = frame_writer::write_unlock(own_spacecraft, own_channel, output);
     told(written, count)
 }
 
@@ -119,7 +119,7 @@ pub extern "C" fn pondreszi_frame_write_set_vr(
     let own_spacecraft = narrow_u16(judged, NO_SPACECRAFT);
     let own_channel = narrow_u8(channel, NO_CHANNEL);
     let set_value = narrow_u8(value, 0);
-    let written = frame::writer::write_set_vr(own_spacecraft, own_channel, set_value, output);
+    let written = frame_writer::write_set_vr(own_spacecraft, own_channel, set_value, output);
     told(written, count)
 }
 

@@ -16,13 +16,13 @@ use Rattle.base.specs.Limits.{largestUnit, largestSpacecraft, largestChannel}
 use Rattle.base.specs.Octets.{Octets}
 use Rattle.base.specs.Outcome.{Outcome, Outcome.done, Outcome.refused}
 use Rattle.base.proofs.Fields.{length-digits, bits-digits, value-digits, digits-value}
-use Rattle.frame.specs.Header.{headerFields, headerOf}
+use Rattle.frame_header.specs.Header.{headerFields, headerOf}
 use Rattle.frame.specs.Frame.{bypassOf, controlOf, numberOf, dataOf, overhead, bodyOf, rawFrame, frameOf, rawWriting, writing}
 use Rattle.frame.specs.Answers.{readingOf, partOf}
 use Rattle.frame.specs.declared.Kind.{Kind}
 use Rattle.frame.specs.declared.Kind.the-variants as kind
 use Rattle.frame.specs.declared.FrameReading.{FrameReading}
-use Rattle.frame.proofs.Emitted.{length-frame}
+use Rattle.frame.proofs.Lengths.{length-frame}
 use Rattle.frame.proofs.Back.{Legal, frame-back}
 use Rattle.fecf.specs.Fecf.{fecfOf, fieldOctets}
 use Rattle.fop.specs.Units.{Own}

@@ -9,7 +9,7 @@ use native.Mathlib.Omega.{arith}
 use lib.ListN.{length, length-replicate}
 use Rattle.base.specs.Outcome.{Outcome}
 use Rattle.frame.specs.Frame.{bypassOf, controlOf, numberOf, dataOf, frameOf}
-use Rattle.frame.proofs.Emitted.{length-frame}
+use Rattle.frame.proofs.Lengths.{length-frame}
 use Rattle.frame.specs.declared.Kind.{Kind}
 use Rattle.frame.specs.declared.Kind.the-variants as kind
 use Rattle.fop.specs.Units.{Own, Frame, Unlock, written}

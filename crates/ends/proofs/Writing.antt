@@ -15,7 +15,8 @@ use Rattle.base.specs.Outcome.{Outcome, Outcome.done, Outcome.refused}
 use Rattle.frame.specs.Frame.{bypassOf, controlOf, numberOf, dataOf, frameOf, writing}
 use Rattle.frame.specs.declared.Kind.{Kind}
 use Rattle.frame.specs.declared.Kind.the-variants as kind
-use Rattle.frame.proofs.Emitted.{length-frame, writing-room, writing-done}
+use Rattle.frame.proofs.Lengths.{length-frame}
+use Rattle.frame_writer.proofs.Emitted.{writing-room, writing-done}
 use Rattle.fop.specs.Limits.{largestK}
 use Rattle.fop.specs.Units.{Own, written}
 use Rattle.fop.specs.Answers.{octetsDown, room}

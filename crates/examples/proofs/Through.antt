@@ -15,7 +15,7 @@ use Rattle.frame.specs.Answers.{readingOf, partOf}
 use Rattle.frame.specs.declared.Kind.{Kind}
 use Rattle.frame.specs.declared.FrameReading.the-variants.{Frame}
 use Rattle.frame.proofs.Back.{Legal, frame-back, data-back}
-use Rattle.frame.proofs.Emitted.{length-frame}
+use Rattle.frame.proofs.Lengths.{length-frame}
 
 octets-fill : (n : ℕ) → Octets (replicate n fillOctet)
 octets-fill zero = tt

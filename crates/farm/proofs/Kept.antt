@@ -17,7 +17,7 @@ use Rattle.base.specs.Limits.{largestSpacecraft, largestChannel}
 use Rattle.base.proofs.Lists.{octets-at, below-take, below-drop}
 use Rattle.base.proofs.Tests.{apart, both-true, both-false}
 use Rattle.clcw.specs.Clcw.{clcwOf, writing}
-use Rattle.frame.specs.Header.{bypassFlag, controlCommandFlag, frameSequenceNumber}
+use Rattle.frame_header.specs.Header.{bypassFlag, controlCommandFlag, frameSequenceNumber}
 use Rattle.frame.specs.Frame.{unlockCommand, totalOf, dataField, refusalOf, kindOf}
 use Rattle.frame.specs.Answers.{fieldsOf, readingOf}
 use Rattle.frame.specs.declared.Kind.{Kind}

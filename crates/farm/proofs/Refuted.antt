@@ -13,6 +13,7 @@ use Rattle.base.specs.Register.{shiftBit, shiftBits, register}
 use Rattle.base.proofs.Tests.{apart}
 use Rattle.clcw.specs.declared.Clcw.{Clcw}
 use Rattle.fecf.specs.Fecf.{syndromeOf}
+use Rattle.frame_header.specs.Header.{validHeader}
 use Rattle.frame.specs.Frame.{totalOf, dataField, commandHeld, headerRefusal, contentRefusal, refusalOf, kindOf}
 use Rattle.frame.specs.Answers.{fieldsOf, readingOf}
 use Rattle.frame.specs.declared.Kind.the-variants.{Ad}
@@ -40,7 +41,7 @@ pub always-e4 : (receiver : Receiver → List ℕ → Received)
     → ((r : Receiver) (octets : List ℕ) (fields : Fields) (number : ℕ) → readingOf octets (r .spacecraft) (r .channel) ≡ Frame fields → fields .kind ≡ Ad number
     → receiver r octets .event ≡ E4)
     → ((r : Receiver) (octets : List ℕ) → receiver r octets ≡ receiveOf r octets) → ⊥
-unfolding receiveOf byReading arrived answered eventOf adEvent readingOf fieldsOf kindOf refusalOf contentRefusal headerRefusal commandHeld dataField totalOf fieldAt valueOf octetBits bitsOf syndromeOf register shiftBits shiftBit
+unfolding receiveOf byReading arrived answered eventOf adEvent readingOf fieldsOf kindOf refusalOf contentRefusal headerRefusal validHeader commandHeld dataField totalOf fieldAt valueOf octetBits bitsOf syndromeOf register shiftBits shiftBit
 always-e4 receiver always agrees =
     let r = atStart 0 0 20 0 1 in
     differ E1 E4 refl (sym (ap (λ (x : Received). x .event) (agrees r frame)) ∙ always r frame (fieldsOf frame) 0 refl refl)

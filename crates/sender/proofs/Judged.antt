@@ -13,7 +13,7 @@ use Rattle.base.specs.Limits.{largestUnit}
 use Rattle.base.proofs.Tests.{yes, no}
 use Rattle.memory.specs.Placed.{placed}
 use Rattle.frame.specs.Answers.{writtenAnswer}
-use Rattle.frame.specs.declared.writer.FrameWritten.{FrameWritten}
+use Rattle.frame.specs.declared.FrameWritten.{FrameWritten}
 use Rattle.clcw.specs.Answers.{readingOf}
 use Rattle.clcw.specs.declared.ReceivedWord.{ReceivedWord}
 use Rattle.clcw.specs.declared.WordReading.{WordReading}

@@ -9,8 +9,8 @@ use Rattle.base.specs.Choice.{must}
 use Rattle.base.specs.Outcome.{Outcome, answer, after}
 use Rattle.base.specs.Outcome as outcome
 use Rattle.frame.specs.Answers.{writtenAnswer}
-use Rattle.frame.specs.declared.writer.FrameWritten.{FrameWritten}
-use Rattle.frame.specs.declared.writer.FrameWritten.the-variants.{Done, Length, Setting, Room}
+use Rattle.frame.specs.declared.FrameWritten.{FrameWritten}
+use Rattle.frame.specs.declared.FrameWritten.the-variants.{Done, Length, Setting, Room}
 use Rattle.fop_actions.specs.declared.Settings.{Settings}
 use Rattle.fop_actions.specs.declared.Handed.{Handed}
 use Rattle.fop_actions.specs.declared.SenderState.{SenderState}

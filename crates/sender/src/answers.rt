@@ -9,7 +9,7 @@ use fop_actions::Responses;
 use fop_actions::Run;
 use fop_actions::Work;
 use fop_actions::start::sender_of;
-use frame::writer::FrameWritten;
+use frame::FrameWritten;
 ghost use mathlib.Core.Path.{_≡_};
 ghost use Rattle.frame.specs.Answers.{writtenAnswer};
 ghost use Rattle.sender.specs.Answers.{kindHanded, answered, refusing, concluded, refusedResponses, refusedEvent};

@@ -37,7 +37,7 @@ use fop_events::expiry_event;
 use fop_events::lower_event;
 use fop_events::words::word_event;
 use fop_rows::row;
-use frame::writer::FrameWritten;
+use frame::FrameWritten;
 ghost use mathlib.Core.Path.{_≡_};
 ghost use Prim.Native.Nat.{_≤_};
 ghost use lib.Dec.{leb};

@@ -14,7 +14,7 @@ use Rattle.base.specs.Limits.{largestFrame, largestUnit, largestSpacecraft, lar
 use Rattle.base.specs.Outcome.{Outcome, Outcome.done, Outcome.refused, answer, countOf}
 use Rattle.base.specs.Outcome as outcome
 use Rattle.frame.specs.Frame.{rawFrame, rawWriting, unlockCommand, setVrCommand}
-use Rattle.frame.proofs.Emitted.{length-frame}
+use Rattle.frame.proofs.Lengths.{length-frame}
 use Rattle.fop_actions.specs.Limits.{largestResponses}
 use Rattle.fop_actions.specs.declared.Alert.{Alert}
 use Rattle.fop_actions.specs.declared.Alert.the-variants as alert

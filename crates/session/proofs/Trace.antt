@@ -7,7 +7,7 @@ use Rattle.base.specs.Octets as octets
 use Rattle.base.specs.Fields as fields
 use Rattle.base.specs.Register as register
 use Rattle.fecf.specs.Fecf as fecf
-use Rattle.frame.specs.Header as header
+use Rattle.frame_header.specs.Header as header
 use Rattle.frame.specs.Frame as frame
 use Rattle.frame.specs.Answers as frameAnswers
 use Rattle.clcw.specs.Clcw as clcw
@@ -45,7 +45,7 @@ unfolding outstanding ses.run ses.begins ses.step ses.toSender ses.wordCome ses.
     events.directiveEvent events.fopDirective events.fopReceived events.work answers.needed answers.judged answers.senderRefusal
     answers.senderAnswer answers.senderNext t79.table t79.perform t79.performAll t79.stepOf t79.accepts window.adEvent receiver.eventOf
     receiver.answered receiver.arrived receiver.byReading receiver.receiveOf receiver.unitPart receiver.releaseOf receiver.wordOf frame.bodyOf
-    frame.rawFrame frame.totalOf frame.dataField frame.isCommand frame.commandHeld frame.headerRefusal frame.contentRefusal frame.refusalOf frame.kindOf
+    frame.rawFrame frame.totalOf frame.dataField frame.isCommand frame.commandHeld header.validHeader frame.headerRefusal frame.contentRefusal frame.refusalOf frame.kindOf
     frameAnswers.fieldsOf frameAnswers.readingOf frameAnswers.partOf header.headerFields header.headerOf clcw.wordFields clcw.clcwOf clcw.writing
     clcw.isValid clcw.wordOf clcwAnswers.receivedOf clcwAnswers.readingOf fecf.fecfOf fecf.syndromeOf register.shiftBit register.shiftBits
     register.register fields.digitsOf fields.valueOf fields.packed fields.octetsOf fields.fieldAt octets.bitsOf octets.octetBits

@@ -6,7 +6,7 @@ use native.Mathlib.Omega.{arith}
 use denote.Ref.{now}
 use lib.ListN.{take, length-take}
 use Rattle.fecf.specs.Fecf.{fecfOf}
-use Rattle.frame.proofs.Octets.{o}
+use Rattle.frame_header.proofs.Octets.{o}
 use Rattle.frame.proofs.Content.{content-bad, content-good}
 use Rattle.frame.proofs.content_refusal.Statement.{statement}
 use Rattle.frame.proofs.content_refusal.Tie as tie

@@ -9,7 +9,8 @@ use denote.Ref.{now}
 use lib.Dec.{eqb}
 use Rattle.base.specs.Choice.{both}
 use Rattle.frame.specs.Frame.{isCommand, dataField}
-use Rattle.frame.proofs.Octets.{o, command-one, command-three, command-other}
+use Rattle.frame_header.proofs.Octets.{o}
+use Rattle.frame.proofs.Octets.{command-one, command-three, command-other}
 use Rattle.frame.proofs.is_command.Statement.{statement}
 use Rattle.frame.proofs.is_command.Tie as tie
 

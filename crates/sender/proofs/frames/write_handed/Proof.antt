@@ -1,7 +1,7 @@
 -- What is handed down picks the frame.
 use borrow.Author.Needs.{needs}
 use mathlib.Core.Path.{refl}
-use Rattle.frame.specs.declared.writer.FrameWritten.the-variants.{Done}
+use Rattle.frame.specs.declared.FrameWritten.the-variants.{Done}
 use Rattle.sender.specs.Events.{handedWriting}
 use Rattle.sender.proofs.Steps.{handed-told}
 use Rattle.sender.proofs.frames.write_handed.Statement.{statement}

@@ -4,35 +4,19 @@ use mathlib.Core.List.{List, [], _++_}
 use Prim.Native.Nat.{ℕ, _+_, _<_, _≤_}
 use native.Mathlib.Omega.{arith}
 use borrow.Author.Tests.{le-leb, lt-leb}
-use lib.ListN.{length, take, drop, length-append}
+use lib.ListN.{length, take, drop}
 use lib.Seq.{take-at}
 use Rattle.base.specs.Outcome.{Outcome, Outcome.done, Outcome.refused}
-use Rattle.base.proofs.Fields.{length-octets}
 use Rattle.memory.specs.Placed.{placed}
 use Rattle.memory.proofs.Laws.{placed-behind}
 use Rattle.fecf.specs.Fecf.{fecfOf, fieldOctets}
-use Rattle.base.specs.Fields.{packed}
 use Rattle.base.specs.Limits.{largestUnit, largestSpacecraft, largestChannel}
-use Rattle.frame.specs.Header.{headerFields, headerOf}
+use Rattle.frame_header.specs.Header.{headerOf}
+use Rattle.frame_header.proofs.Packed.{length-header}
+use Rattle.frame.proofs.Lengths.{length-body, length-frame}
 use Rattle.frame.specs.Frame.{bodyOf, rawFrame, rawWriting}
-
-pub length-header : (bypass control spacecraft channel total number : ℕ) → length (headerOf bypass control spacecraft channel total number) ≡ 5
-unfolding headerOf
-length-header bypass control spacecraft channel total number = length-octets 5 (packed (headerFields bypass control spacecraft channel total number))
 
 module _ (bypass control number spacecraft channel : ℕ) (field : List ℕ) where
-  pub length-body : length (bodyOf bypass control number spacecraft channel field) ≡ 5 + length field
-  unfolding bodyOf
-  length-body =
-      length-append (headerOf bypass control spacecraft channel (length field + 7) number) field
-      ∙ ap (λ (j : ℕ). j + length field) (length-header bypass control spacecraft channel (length field + 7) number)
-
-  pub length-frame : length (rawFrame bypass control number spacecraft channel field) ≡ length field + 7
-  unfolding rawFrame
-  length-frame =
-      length-append (bodyOf bypass control number spacecraft channel field) (fieldOctets (fecfOf (bodyOf bypass control number spacecraft channel field)))
-      ∙ omega (arith, length-body)
-
   -- header, data and FECF, one behind the other
   pub emitted : (old header one two octets three : List ℕ) (check : ℕ) → length field + 7 ≤ length old
       → header ≡ headerOf bypass control spacecraft channel (length field + 7) number
@@ -41,16 +25,18 @@ module _ (bypass control number spacecraft channel : ℕ) (field : List ℕ) whe
       → three ≡ rawFrame bypass control number spacecraft channel field ++ drop (length field + 7) old
   unfolding rawFrame bodyOf
   emitted old header one two octets three check room eh e1 e2 ec eo e3 =
+      let lb = length-body bypass control number spacecraft channel field in
+      let lf = length-frame bypass control number spacecraft channel field in
       let h = headerOf bypass control spacecraft channel (length field + 7) number in
       let b = bodyOf bypass control number spacecraft channel field in
       let lh = length-header bypass control spacecraft channel (length field + 7) number in
       let s1 : one ≡ h ++ drop (length h) old = e1 ∙ ap (placed old 0) eh ∙ placed-behind old [] h old 0 refl refl (omega arith) in
       let s2 : two ≡ b ++ drop (length b) old = e2 ∙ placed-behind old h field one 5 s1 (sym lh) (omega arith) in
-      let c : check ≡ fecfOf b = ec ∙ ap fecfOf (ap (take (5 + length field)) s2 ∙ take-at b (drop (length b) old) (5 + length field) length-body) in
+      let c : check ≡ fecfOf b = ec ∙ ap fecfOf (ap (take (5 + length field)) s2 ∙ take-at b (drop (length b) old) (5 + length field) lb) in
       let o : octets ≡ fieldOctets (fecfOf b) = eo ∙ ap fieldOctets c in
       e3 ∙ ap (placed two (5 + length field)) o
-      ∙ placed-behind old b (fieldOctets (fecfOf b)) two (5 + length field) s2 (sym length-body) (omega arith)
-      ∙ ap (λ (n : ℕ). (b ++ fieldOctets (fecfOf b)) ++ drop n old) length-frame
+      ∙ placed-behind old b (fieldOctets (fecfOf b)) two (5 + length field) s2 (sym lb) (omega arith)
+      ∙ ap (λ (n : ℕ). (b ++ fieldOctets (fecfOf b)) ++ drop n old) lf
 
   -- writing, check by check
   module _ (room : ℕ) where

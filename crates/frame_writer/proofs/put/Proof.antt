@@ -3,9 +3,9 @@ use borrow.Author.Needs.{needs}
 use native.Mathlib.Omega.{arith}
 use denote.Ref.{now}
 use lib.ListN.{length-take}
-use Rattle.frame.proofs.Emitted.{emitted}
-use Rattle.frame.proofs.writer.put.Statement.{statement}
-use Rattle.frame.proofs.writer.put.Tie as tie
+use Rattle.frame_writer.proofs.Emitted.{emitted}
+use Rattle.frame_writer.proofs.put.Statement.{statement}
+use Rattle.frame_writer.proofs.put.Tie as tie
 
 add-header : tie.Need-add-header
 add-header c = search needs

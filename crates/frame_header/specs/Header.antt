@@ -1,7 +1,16 @@
--- Clause 6.2.2: the Transfer Frame Primary Header, its eight fields at their locations.
+-- Clauses 6.2.2 and 6.8: the Transfer Frame Primary Header, its eight fields at their locations, and which of its values are valid
+-- whatever the receiver.
 use Prim.Native.Nat.{ℕ, _-_}
+use mathlib.Core.Bool.{Bool, not}
 use mathlib.Core.List.{List, [], _∷_}
-use Rattle.base.specs.Fields.{Location, Field, packed, octetsOf, at, holds}
+use lib.Dec.{leb, eqb}
+use lib.ListN.{length}
+use Rattle.base.specs.Choice.{both}
+use Rattle.base.specs.Fields.{Location, Field, packed, octetsOf, fieldAt, at, holds}
+
+-- clause 6.2.2.1: the header has five octets
+abbrev pub headerLength : ℕ
+headerLength = 5
 
 -- 6.2.2.2 Transfer Frame Version Number: bits 0-1
 abbrev pub version : Location
@@ -48,6 +57,18 @@ headerFields bypass control spacecraft channel total number =
     ∷ holds frameSequenceNumber number
     ∷ []
 
--- the header's five octets
+-- the header's octets
 unfoldable pub headerOf : ℕ → ℕ → ℕ → ℕ → ℕ → ℕ → List ℕ
-headerOf bypass control spacecraft channel total number = octetsOf 5 (packed (headerFields bypass control spacecraft channel total number))
+headerOf bypass control spacecraft channel total number = octetsOf headerLength (packed (headerFields bypass control spacecraft channel total number))
+
+-- clause 6.8: the Bypass Flag and the Control Command Flag are a valid combination; table 6-3 has no (0,1)
+abbrev pub validCombination : ℕ → ℕ → Bool
+validCombination bypass control = not (both (eqb bypass 0) (eqb control 1))
+
+-- clause 6.8, and document 01's refusal 6: a whole header, its Version Number and Reserved Spare zero, its flags a valid combination
+unfoldable pub validHeader : List ℕ → Bool
+validHeader octets =
+    both (leb headerLength (length octets))
+    (both (eqb (fieldAt version octets) 0)
+    (both (eqb (fieldAt reservedSpare octets) 0)
+    (validCombination (fieldAt bypassFlag octets) (fieldAt controlCommandFlag octets))))

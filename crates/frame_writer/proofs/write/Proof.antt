@@ -7,12 +7,13 @@ use native.Mathlib.Omega.{arith}
 use denote.Ref.{now}
 use lib.ListN.{length, drop}
 use Rattle.base.proofs.Tests.{told}
 use Rattle.frame.specs.Answers.{writtenAnswer}
 use Rattle.frame.specs.Frame.{rawFrame}
-use Rattle.frame.specs.declared.writer.FrameWritten.the-variants.{Done}
-use Rattle.frame.proofs.Emitted.{length-frame, writing-empty, writing-long, writing-spacecraft, writing-channel, writing-room, writing-done}
-use Rattle.frame.proofs.writer.write.Statement.{statement}
-use Rattle.frame.proofs.writer.write.Tie as tie
+use Rattle.frame.specs.declared.FrameWritten.the-variants.{Done}
+use Rattle.frame.proofs.Lengths.{length-frame}
+use Rattle.frame_writer.proofs.Emitted.{writing-empty, writing-long, writing-spacecraft, writing-channel, writing-room, writing-done}
+use Rattle.frame_writer.proofs.write.Statement.{statement}
+use Rattle.frame_writer.proofs.write.Tie as tie
 
 returns : tie.Need-returns
 returns c =

@@ -1,7 +1,8 @@
-// A TC Transfer Frame written into lent output (clauses 6.4 and 6.5).
+// Clauses 6.4 and 6.5: the TC Transfer Frame, written into lent output.
 use base::LARGEST_CHANNEL;
 use base::LARGEST_SPACECRAFT;
 use base::LARGEST_UNIT;
+use frame::FrameWritten;
 ghost use mathlib.Core.Path.{_≡_};
 ghost use Prim.Native.Nat.{_+_, _*_, _/_, _%_, _≤_};
 ghost use mathlib.Core.List.{[], _++_};
@@ -9,18 +10,10 @@ ghost use lib.ListN.{length, drop};
 ghost use Rattle.base.specs.Limits.{largestUnit, largestSpacecraft, largestChannel, largestFrame};
 ghost use Rattle.base.specs.Outcome.{answer, after};
 ghost use Rattle.fecf.specs.Fecf.{fieldOctets};
 ghost use Rattle.frame.specs.declared.Kind.the-variants.{Ad, Bd, Unlock, SetVr};
-ghost use Rattle.frame.specs.Header.{headerOf};
+ghost use Rattle.frame_header.specs.Header.{headerOf};
 ghost use Rattle.frame.specs.Frame.{writing, rawFrame, rawWriting};
 ghost use Rattle.frame.specs.Answers.{writtenAnswer};
-
-// The count of octets written, or document 01's refusal 10, 12 or 11.
-pub enum FrameWritten {
-    Done(usize),
-    Length,
-    Setting,
-    Room,
-}
 
 // The five octets of the header of a frame of n octets.
 fn header(bypass: u8, control: u8, number: u8, spacecraft: u16, channel: u8, n: u16) -> [u8; 5]

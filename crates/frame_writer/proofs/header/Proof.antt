@@ -2,9 +2,9 @@
 use borrow.Author.Needs.{needs}
 use mathlib.Core.Path.{sym}
 use native.Mathlib.Omega.{arith}
-use Rattle.frame.proofs.Packed.{header-octets}
-use Rattle.frame.proofs.writer.header.Statement.{statement}
-use Rattle.frame.proofs.writer.header.Tie as tie
+use Rattle.frame_header.proofs.Packed.{header-octets}
+use Rattle.frame_writer.proofs.header.Statement.{statement}
+use Rattle.frame_writer.proofs.header.Tie as tie
 
 sub-last : tie.Need-sub-last
 sub-last c = search needs

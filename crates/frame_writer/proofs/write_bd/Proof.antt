@@ -1,7 +1,7 @@
 -- What is written is the frame of a BD unit: Bypass Flag 1, Control Command Flag 0, and zero for N(S).
 use borrow.Author.Needs.{needs}
-use Rattle.frame.proofs.writer.write_bd.Statement.{statement}
-use Rattle.frame.proofs.writer.write_bd.Tie as tie
+use Rattle.frame_writer.proofs.write_bd.Statement.{statement}
+use Rattle.frame_writer.proofs.write_bd.Tie as tie
 
 write-requires : tie.Need-write-requires
 write-requires c κs = search needs

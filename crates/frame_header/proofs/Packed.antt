@@ -1,13 +1,17 @@
--- The packed header by its octets, and its fields read back from them.
+-- The packed header by its octets.
 use mathlib.Core.Path.{_≡_, ap, _∙_}
 use mathlib.Core.List.{List, [], _∷_}
 use Prim.Native.Nat.{ℕ, _+_, _-_, _*_, _/_, _%_, _<_, _≤_}
 use native.Mathlib.Omega.{arith}
-use lib.ListN.{take, drop}
+use lib.ListN.{length, take, drop}
 use Rattle.base.specs.Fields.{digitsOf, valueOf, packed, octetsOf}
 use Rattle.base.specs.Limits.{largestSpacecraft, largestChannel}
-use Rattle.base.proofs.Fields.{value-digits, value-append}
-use Rattle.frame.specs.Header.{headerFields, headerOf}
+use Rattle.base.proofs.Fields.{value-digits, value-append, length-octets}
+use Rattle.frame_header.specs.Header.{headerLength, headerFields, headerOf}
+
+pub length-header : (bypass control spacecraft channel total number : ℕ) → length (headerOf bypass control spacecraft channel total number) ≡ headerLength
+unfolding headerOf
+length-header bypass control spacecraft channel total number = length-octets headerLength (packed (headerFields bypass control spacecraft channel total number))
 
 -- eight digits are the value modulo 256
 eight : (value : ℕ) → valueOf 0 (digitsOf 8 value) ≡ value % 256
