@@ -10,14 +10,14 @@ use borrow.Author.Tests.{eq-eqb, eqb-true}
 use lib.Dec.{eqb}
 use lib.ListN.{length, take, drop, getD, set, length-drop, length-set, List·getD-append}
 use lib.Seq.{take-add, getD-take, getD-drop, getD-set-other, length-take-le}
-use Rattle.base.specs.Choice.{pick, both}
+use Rattle.base.specs.Choice.{pick}
 use Rattle.base.specs.Fields.{fieldAt}
 use Rattle.base.specs.Octets.{Octets, same}
 use Rattle.base.specs.Limits.{largestFrame}
 use Rattle.base.proofs.Lists.{same-equal, take-next, octets-at}
 use Rattle.base.proofs.Tests.{apart}
 use Rattle.fecf.specs.Fecf.{fecfOf, syndromeOf, fieldOctets}
-use Rattle.frame_header.specs.Header.{headerLength, bypassFlag, controlCommandFlag, frameSequenceNumber, validCombination}
+use Rattle.frame_header.specs.Header.{bypassFlag, controlCommandFlag, frameSequenceNumber, validCombination}
 use Rattle.frame_header.proofs.Octets.{o, version-is, spare-is, bypass-is, control-is, spacecraft-is, channel-is, number-is}
 use Rattle.frame.specs.Frame.{bypassOf, controlOf, numberOf, unlockCommand, setVrCommand, dataOf, bodyOf, rawFrame, frameOf, totalOf, dataField, isCommand, commandHeld, refusalOf, kindOf}
 use Rattle.frame.specs.declared.Kind.{Kind}

@@ -1,22 +1,20 @@
 -- The frame's length, the checks of its header and its command, by the octets that hold them.
-use mathlib.Core.Path.{_≡_, refl, ap, ap₂, _∙_}
-use mathlib.Core.Bool.{Bool, true, false, not}
+use mathlib.Core.Path.{_≡_, refl, sym, ap, _∙_}
+use mathlib.Core.Bool.{Bool, true, false}
 use mathlib.Core.List.{List, _∷_}
 use Prim.Native.Nat.{ℕ, _+_, _-_, _*_, _/_, _%_, _<_, _≤_}
 use native.Mathlib.Omega.{arith}
 use borrow.Author.Tests.{eq-eqb}
-use lib.Dec.{eqb}
+use lib.Dec.{leb, eqb}
 use lib.ListN.{length, getD, length-take, length-drop}
 use Rattle.base.specs.Choice.{pick, must, both}
-use Rattle.base.specs.Fields.{fieldAt}
+use Rattle.base.specs.Limits.{smallestFrame, largestFrame}
 use Rattle.base.specs.Octets.{same}
-use Rattle.base.proofs.Computed.{agree}
-use Rattle.base.proofs.Fields.{field-in-octet, field-joined}
 use Rattle.base.proofs.Lists.{same-length-not, take-next}
 use Rattle.base.proofs.Tests.{both-false, both-true}
 use Rattle.frame_header.specs.Header.{validHeader}
 use Rattle.frame_header.proofs.Octets.{o, control-is, spacecraft-is, channel-is, length-is}
-use Rattle.frame.specs.Frame.{unlockCommand, setVrCommand, totalOf, dataField, isCommand, commandHeld, headerRefusal}
+use Rattle.frame.specs.Frame.{unlockCommand, setVrCommand, totalOf, dataField, isCommand, commandHeld, headerRefusal, contentRefusal, refusalOf}
 
 -- the checks of the header by octets, once its fixed fields are judged
 abbrev pub checks : List ℕ → ℕ → ℕ → ℕ → ℕ
@@ -36,6 +34,20 @@ module _ (s : List ℕ) (octets : (i : ℕ) → getD s i 0 < 256) (enough : 8 �
   unfolding headerRefusal commandHeld
   header-checks n spacecraft channel =
       rw (control-is s octets (omega arith), spacecraft-is s octets (omega arith), channel-is s octets (omega arith))
+
+-- the checks of lengths by the number n that the header says, and then those of the content
+abbrev pub lengthChecks : List ℕ → ℕ → ℕ → ℕ → ℕ
+lengthChecks s n spacecraft channel =
+    must (leb smallestFrame (length s)) 4
+    (must (leb smallestFrame n) 4
+    (must (leb n largestFrame) 10
+    (must (leb n (length s)) 4
+    (must (leb (length s) (n + 6)) 5
+    (contentRefusal s n spacecraft channel)))))
+
+pub length-checks : (s : List ℕ) (n spacecraft channel : ℕ) → n ≡ totalOf s → refusalOf s spacecraft channel ≡ lengthChecks s n spacecraft channel
+unfolding refusalOf
+length-checks s n spacecraft channel e = ap (λ (m : ℕ). lengthChecks s m spacecraft channel) (sym e)
 
 -- the data field of a frame of n octets
 pub length-data : (s : List ℕ) (n : ℕ) → 8 ≤ n → n ≤ length s → length (dataField s n) ≡ n - 7

@@ -19,14 +19,16 @@ shared-slice-read-result c = search needs
 
 returns : tie.Need-returns
 returns c =
-    let a = c .before .before .args in
+    let k : tie.Start = search needs in
+    let a = k .args in
     let s = now (a .octets) in
     let e : a .n ≡ 8 = search needs in
     sym (command-one s (omega arith)) ∙ ap (λ (n : ℕ). isCommand (dataField s n)) (sym e)
 
 returns-2 : tie.Need-returns-2
 returns-2 c =
-    let a = c .before .before .args in
+    let k : tie.Start = search needs in
+    let a = k .args in
     sym (command-other (now (a .octets)) (a .n) (search needs) (search needs) (search needs) (search needs))
 
 shared-slice-read-if3 : tie.Need-shared-slice-read-if3
@@ -34,7 +36,8 @@ shared-slice-read-if3 c = search needs
 
 returns-3 : tie.Need-returns-3
 returns-3 c =
-    let a = c .before .before .before .before .args in
+    let k : tie.Start = search needs in
+    let a = k .args in
     let s = now (a .octets) in
     let e : a .n ≡ 10 = search needs in
     sym (command-three s (omega arith) ∙ ap (λ (b : Bool). both b (eqb (o s 6) 0)) (ne-eqb (o s 5) 0x82 (search needs))) ∙ ap (λ (n : ℕ). isCommand (dataField s n)) (sym e)
@@ -44,7 +47,8 @@ shared-slice-read-result-2 c = search needs
 
 returns-4 : tie.Need-returns-4
 returns-4 c =
-    let a = c .before .before .before .before .before .args in
+    let k : tie.Start = search needs in
+    let a = k .args in
     let s = now (a .octets) in
     let e : a .n ≡ 10 = search needs in
     sym (command-three s (omega arith) ∙ ap (λ (b : Bool). both b (eqb (o s 6) 0)) (eq-eqb (o s 5) 0x82 (search needs))) ∙ ap (λ (n : ℕ). isCommand (dataField s n)) (sym e)

@@ -1,4 +1,4 @@
--- Header, data and FECF are put one behind the other.
+-- Header, data and FECF are put one behind the other. A fact of an earlier place is looked up by the place's type, the last place first.
 use borrow.Author.Needs.{needs}
 use native.Mathlib.Omega.{arith}
 use denote.Ref.{now}
@@ -51,8 +51,17 @@ same-length c = search needs
 
 returns : tie.Need-returns
 returns c =
-    let a = c .before .before .before .before .before .before .before .before .before .before .before .before .before .before .before .before .before .before .before .before .args in
-    emitted (a .bypass) (a .control) (a .number) (a .spacecraft) (a .channel) (now (a .field)) (now (a .out)) (c .before .before .before .before .before .before .before .before .before .before .before .before .before .before .before .before .before .header .result) (c .before .before .before .before .before .before .before .before .before .before .before .before .before .before .put .last .0) (c .before .before .before .before .before .before .before .before .before .before .put2 .last .0) (c .before .before .before .before .before .check-octets .result) (c .before .before .put3 .last .0) (c .before .before .before .before .before .before .fecf .result) (omega arith) (c .before .before .before .before .before .before .before .before .before .before .before .before .before .before .before .before .before .header .ensures) (c .before .before .before .before .before .before .before .before .before .before .before .before .before .before .put .ensures) (c .before .before .before .before .before .before .before .before .before .before .put2 .ensures) (c .before .before .before .before .before .before .fecf .ensures) (c .before .before .before .before .before .check-octets .ensures) (c .before .before .put3 .ensures)
+    let three : tie.After-put3 = search needs in
+    let o : tie.After-check-octets = search needs in
+    let f : tie.After-fecf = search needs in
+    let two : tie.After-put2 = search needs in
+    let one : tie.After-put = search needs in
+    let h : tie.After-header = search needs in
+    let k : tie.Start = search needs in
+    let a = k .args in
+    emitted (a .bypass) (a .control) (a .number) (a .spacecraft) (a .channel) (now (a .field)) (now (a .out)) (h .header .result) (one .put .last .0) (two .put2 .last .0)
+    (o .check-octets .result) (three .put3 .last .0) (f .fecf .result) (omega arith) (h .header .ensures) (one .put .ensures) (two .put2 .ensures) (f .fecf .ensures)
+    (o .check-octets .ensures) (three .put3 .ensures)
 
 pub put-spec : {M : Type 1} → statement M
 put-spec =

@@ -17,22 +17,26 @@ use Rattle.frame_writer.proofs.write.Tie as tie
 
 returns : tie.Need-returns
 returns c =
-    let a = c .before .before .before .args in
+    let k : tie.Start = search needs in
+    let a = k .args in
     told (writing-empty (a .bypass) (a .control) (a .number) (a .spacecraft) (a .channel) (now (a .field)) (length (now (a .out))) (omega arith)) (now (a .out))
 
 returns-2 : tie.Need-returns-2
 returns-2 c =
-    let a = c .before .before .before .before .args in
+    let k : tie.Start = search needs in
+    let a = k .args in
     told (writing-long (a .bypass) (a .control) (a .number) (a .spacecraft) (a .channel) (now (a .field)) (length (now (a .out))) (omega arith) (omega arith)) (now (a .out))
 
 returns-3 : tie.Need-returns-3
 returns-3 c =
-    let a = c .before .before .before .before .before .args in
+    let k : tie.Start = search needs in
+    let a = k .args in
     told (writing-spacecraft (a .bypass) (a .control) (a .number) (a .spacecraft) (a .channel) (now (a .field)) (length (now (a .out))) (omega arith) (omega arith) (omega arith)) (now (a .out))
 
 returns-4 : tie.Need-returns-4
 returns-4 c =
-    let a = c .before .before .before .before .before .before .args in
+    let k : tie.Start = search needs in
+    let a = k .args in
     told (writing-channel (a .bypass) (a .control) (a .number) (a .spacecraft) (a .channel) (now (a .field)) (length (now (a .out))) (omega arith) (omega arith) (omega arith) (omega arith)) (now (a .out))
 
 add-if5 : tie.Need-add-if5
@@ -40,7 +44,8 @@ add-if5 c = search needs
 
 returns-5 : tie.Need-returns-5
 returns-5 c =
-    let a = c .before .before .before .before .before .before .before .args in
+    let k : tie.Start = search needs in
+    let a = k .args in
     told (writing-room (a .bypass) (a .control) (a .number) (a .spacecraft) (a .channel) (now (a .field)) (length (now (a .out))) (omega arith) (omega arith) (omega arith) (omega arith) (omega arith)) (now (a .out))
 
 put-requires : tie.Need-put-requires
@@ -54,11 +59,13 @@ same-length c = search needs
 
 returns-6 : tie.Need-returns-6
 returns-6 c =
-    let a = c .before .before .before .before .before .before .before .before .before .before .before .args in
+    let k : tie.Start = search needs in
+    let a = k .args in
+    let p : tie.After-put = search needs in
     let f = rawFrame (a .bypass) (a .control) (a .number) (a .spacecraft) (a .channel) (now (a .field)) in
     let l : length f ≡ length (now (a .field)) + 7 = length-frame (a .bypass) (a .control) (a .number) (a .spacecraft) (a .channel) (now (a .field)) in
     let t = told (writing-done (a .bypass) (a .control) (a .number) (a .spacecraft) (a .channel) (now (a .field)) (length (now (a .out))) (omega arith) (omega arith) (omega arith) (omega arith) (omega arith)) (now (a .out)) in
-    (ap (λ (n : ℕ). writtenAnswer (Done n)) (sym l) ∙ t .0, c .before .before .put .ensures ∙ ap (λ (n : ℕ). f ++ drop n (now (a .out))) (sym l) ∙ t .1)
+    (ap (λ (n : ℕ). writtenAnswer (Done n)) (sym l) ∙ t .0, p .put .ensures ∙ ap (λ (n : ℕ). f ++ drop n (now (a .out))) (sym l) ∙ t .1)
 
 pub write-spec : {M : Type 1} → statement M
 write-spec =
