@@ -1,6 +1,4 @@
 // What a line does to the session.
-use crate::Line;
-use crate::Output;
 use crate::Session;
 use crate::Turn;
 use farm::Received;
@@ -8,6 +6,8 @@ use farm::Receiver;
 use farm::Released;
 use farm::Start;
 use frame::Kind;
+use program_lines::Line;
+use program_rows::Output;
 ghost use mathlib.Core.Path.{_≡_};
 ghost use Rattle.console.specs.Console.{refusedIn, rowTurn, firstOf, laterOf, turnOf};
 
