@@ -12,7 +12,7 @@ use Rattle.base.specs.Outcome.{Outcome.done, Outcome.refused}
 use Rattle.memory.specs.Placed.{placed}
 use Rattle.memory.proofs.Laws.{placed-fits}
 use Rattle.text.specs.Fields.{newline}
-use Rattle.console.specs.declared.Turn.{Turn}
+use Rattle.program_turns.specs.declared.Turn.{Turn}
 use Rattle.program_rows.specs.Rows.{textOf}
 use Rattle.program_rows.specs.Rows.{rowRoom}
 use Rattle.console.specs.Feed.{Progress, progress, keptWith, endOf, octetNext, octetText, chunkNext, chunkText, lastText, feeding, fedNext}

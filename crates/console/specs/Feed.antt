@@ -8,10 +8,10 @@ use Rattle.base.specs.Outcome.{Outcome, Outcome.done, Outcome.refused}
 use Rattle.text.specs.Fields.{newline}
 use Rattle.program_lines.specs.Line.{lineOf}
 use Rattle.program_rows.specs.Rows.{textOf, headerText, rowRoom}
-use Rattle.console.specs.Console.{turnOf}
-use Rattle.console.specs.declared.Session.{Session}
-use Rattle.console.specs.declared.Session.the-variants.{Fresh}
-use Rattle.console.specs.declared.Turn.{Turn}
+use Rattle.program_turns.specs.Turns.{turnOf}
+use Rattle.program_turns.specs.declared.Session.{Session}
+use Rattle.program_turns.specs.declared.Session.the-variants.{Fresh}
+use Rattle.program_turns.specs.declared.Turn.{Turn}
 use Rattle.console.specs.declared.Console.{Console}
 
 -- the session, and the octets of the line under way

@@ -1,10 +1,9 @@
 // Document 01, "The program": lines of events read out of octets, and a row of octets written for each.
-pub mod turns;
-
-use farm::Receiver;
 use program_lines::Line;
 use program_rows::Output;
 use program_rows::ROW_ROOM;
+use program_turns::Session;
+use program_turns::Turn;
 use text::NEWLINE;
 use text::NumberWritten;
 ghost use mathlib.Core.Path.{_≡_};
@@ -19,19 +18,6 @@ ghost use Rattle.console.specs.Steps.{Stepped, Ran};
 
 // Octets of a line that are kept: one more than a line may have, so that a longer one still shows.
 const MOST_KEPT: usize = 64;
-
-// Before the first line, behind a good SET, or behind another first line.
-pub enum Session {
-    Fresh,
-    Running(Receiver),
-    Refusing,
-}
-
-// The session behind a line, and what is written for it.
-pub struct Turn {
-    pub session: Session,
-    pub output: Output,
-}
 
 // The session, and the line under way, of which len octets are kept. No other crate can write one.
 pub struct Console {

@@ -11,11 +11,11 @@ use Rattle.farm.specs.declared.Released.{Released}
 use Rattle.farm.specs.declared.Released.the-variants.{Done, NoneTaken}
 use Rattle.program_lines.specs.declared.Line.{Line}
 use Rattle.program_lines.specs.declared.Line.the-variants.{Set, Free}
-use Rattle.console.specs.declared.Session.{Session}
-use Rattle.console.specs.declared.Session.the-variants.{Running, Refusing}
+use Rattle.program_turns.specs.declared.Session.{Session}
+use Rattle.program_turns.specs.declared.Session.the-variants.{Running, Refusing}
 use Rattle.program_rows.specs.declared.Output.the-variants.{Nothing, Row}
-use Rattle.console.specs.declared.Turn.{Turn}
-use Rattle.console.specs.Console.{programSpacecraft, programChannel, refusedIn, rowTurn, opened, releasedTurn, firstOf, laterOf, turnOf}
+use Rattle.program_turns.specs.declared.Turn.{Turn}
+use Rattle.program_turns.specs.Turns.{programSpacecraft, programChannel, refusedIn, rowTurn, opened, releasedTurn, firstOf, laterOf, turnOf}
 
 pub row-of : (received : Received) (v : Variables) → v ≡ received .next .variables
     → record { session = Running (received .next); output = Row (received .event) v } ≡ rowTurn received

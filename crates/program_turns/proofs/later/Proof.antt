@@ -1,9 +1,9 @@
 -- Each arm is the definition's case.
 use borrow.Author.Needs.{needs}
-use Rattle.console.specs.Console.{laterOf}
-use Rattle.console.proofs.Told.{later-told, laters}
-use Rattle.console.proofs.turns.later.Statement.{statement}
-use Rattle.console.proofs.turns.later.Tie as tie
+use Rattle.program_turns.specs.Turns.{laterOf}
+use Rattle.program_turns.proofs.Told.{later-told, laters}
+use Rattle.program_turns.proofs.later.Statement.{statement}
+use Rattle.program_turns.proofs.later.Tie as tie
 
 pub later-spec : {M : Type 1} → statement M
 unfolding laterOf

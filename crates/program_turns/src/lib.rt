@@ -1,6 +1,4 @@
-// What a line does to the session.
-use crate::Session;
-use crate::Turn;
+// Document 01, "The program": what a line does to the session.
 use farm::Received;
 use farm::Receiver;
 use farm::Released;
@@ -9,12 +7,25 @@ use frame::Kind;
 use program_lines::Line;
 use program_rows::Output;
 ghost use mathlib.Core.Path.{_≡_};
-ghost use Rattle.console.specs.Console.{refusedIn, rowTurn, firstOf, laterOf, turnOf};
+ghost use Rattle.program_turns.specs.Turns.{refusedIn, rowTurn, firstOf, laterOf, turnOf};
 
 // Document 01: the program reads no octets of a frame, so its receiver's address shows nowhere.
 const SPACECRAFT: u16 = 0;
 
 const CHANNEL: u8 = 0;
+
+// Before the first line, behind a good SET, or behind another first line.
+pub enum Session {
+    Fresh,
+    Running(Receiver),
+    Refusing,
+}
+
+// The session behind a line, and what is written for it.
+pub struct Turn {
+    pub session: Session,
+    pub output: Output,
+}
 
 fn refused(session: Session) -> Turn
     ensures { λ r. ⌜ r ≡ refusedIn session ⌝ }

@@ -1,8 +1,8 @@
 -- The row shows the variables behind the event.
 use borrow.Author.Needs.{needs}
-use Rattle.console.proofs.Told.{row-of}
-use Rattle.console.proofs.turns.row.Statement.{statement}
-use Rattle.console.proofs.turns.row.Tie as tie
+use Rattle.program_turns.proofs.Told.{row-of}
+use Rattle.program_turns.proofs.row.Statement.{statement}
+use Rattle.program_turns.proofs.row.Tie as tie
 
 variables-requires : tie.Need-variables-requires
 variables-requires c κs = search needs

@@ -1,9 +1,9 @@
 -- A good SET opens the session; any other first line is refused, and all behind it.
 use borrow.Author.Needs.{needs}
-use Rattle.console.specs.Console.{firstOf}
-use Rattle.console.proofs.Told.{firsts}
-use Rattle.console.proofs.turns.first.Statement.{statement}
-use Rattle.console.proofs.turns.first.Tie as tie
+use Rattle.program_turns.specs.Turns.{firstOf}
+use Rattle.program_turns.proofs.Told.{firsts}
+use Rattle.program_turns.proofs.first.Statement.{statement}
+use Rattle.program_turns.proofs.first.Tie as tie
 
 pub first-spec : {M : Type 1} → statement M
 unfolding firstOf

@@ -1,9 +1,9 @@
 -- Each arm is the definition's case.
 use borrow.Author.Needs.{needs}
-use Rattle.console.specs.Console.{turnOf}
-use Rattle.console.proofs.Told.{turn-told}
-use Rattle.console.proofs.Session.turn.Statement.{statement}
-use Rattle.console.proofs.Session.turn.Tie as tie
+use Rattle.program_turns.specs.Turns.{turnOf}
+use Rattle.program_turns.proofs.Told.{turn-told}
+use Rattle.program_turns.proofs.Session.turn.Statement.{statement}
+use Rattle.program_turns.proofs.Session.turn.Tie as tie
 
 enum-told : tie.Need-enum-told
 enum-told c = search needs
