@@ -24,9 +24,9 @@ use Rattle.clcw.specs.Clcw.{virtualChannel, writing as wordWriting}
 use Rattle.clcw.specs.Answers.{readingOf as wordReading}
 use Rattle.clcw.specs.declared.WordReading.the-variants.{Length as NotFour}
 use Rattle.clcw.proofs.Word.{channel-is as word-channel-is}
-use Rattle.farm.specs.Receiver.{largestBuffers, startOf}
-use Rattle.farm.specs.declared.Start.{Start}
-use Rattle.farm.specs.declared.Start.the-variants.{Setting}
+use Rattle.receiver.specs.Receiver.{largestBuffers, startOf}
+use Rattle.receiver.specs.declared.Start.{Start}
+use Rattle.receiver.specs.declared.Start.the-variants.{Setting}
 use Rattle.fop.specs.Limits.{largestNumber, largestK, largestTimer, largestTransmissionLimit}
 use Rattle.sender.specs.Start.{refusedStart, startingOf}
 use Rattle.sender.specs.declared.Start.{Start as SenderStart}

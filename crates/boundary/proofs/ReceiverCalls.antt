@@ -17,16 +17,17 @@ use Rattle.frame.specs.Answers.{partOf}
 use Rattle.frame.specs.declared.FrameReading.{FrameReading}
 use Rattle.frame.proofs.Accepted.{accepted, reading-refused, part-frame}
 use Rattle.clcw.specs.Clcw.{writing}
-use Rattle.farm.specs.Kept.{octetsOf, receiverIn, isState, restoredOf}
-use Rattle.farm.specs.Receiver.{answered, byReading, receiveOf, partFor, unitPart, releaseOf, wordOf}
-use Rattle.farm.specs.declared.Receiver.{Receiver}
-use Rattle.farm.specs.declared.Received.{Received}
+use Rattle.receiver_octets.specs.Kept.{octetsOf, receiverIn, isState, restoredOf}
+use Rattle.receiver.specs.Channel as channel
+use Rattle.receiver.specs.Receiver.{answered, byReading, receiveOf, partFor, unitPart, releaseOf, wordOf}
+use Rattle.receiver.specs.declared.Receiver.{Receiver}
+use Rattle.receiver.specs.declared.Received.{Received}
 use Rattle.farm.specs.declared.AcceptedUnit.{AcceptedUnit}
 use Rattle.farm.specs.declared.AcceptedUnit.the-variants.{None, AdUnit, BdUnit}
-use Rattle.farm.specs.declared.Start.{Start}
-use Rattle.farm.specs.declared.Start.the-variants.{Ready, Setting}
-use Rattle.farm.specs.declared.Released.{Released}
-use Rattle.farm.proofs.Restored.{state-only}
+use Rattle.receiver.specs.declared.Start.{Start}
+use Rattle.receiver.specs.declared.Start.the-variants.{Ready, Setting}
+use Rattle.receiver.specs.declared.Released.{Released}
+use Rattle.receiver_octets.proofs.Restored.{state-only}
 use Rattle.boundary.specs.Receivers.{starting, startGiven, newCall, received, frameCall, releasedBy, releaseCall, wordCall}
 
 -- the octets of a receiver at the front of a buffer that has room for them
@@ -42,11 +43,11 @@ part-of frame p h = h ∙ ap (λ (x : AcceptedUnit). length (partFor x (dataFiel
 -- a unit is accepted only of a frame that is not refused, and it is the frame's data field
 module _ (r : Receiver) (frame : List ℕ) where
   abbrev refusal : ℕ
-  refusal = refusalOf frame (r .spacecraft) (r .channel)
+  refusal = refusalOf frame (r .farm .spacecraft) (r .farm .channel .number)
 
   none-of-refused : (refusal ≡ 0 → ⊥) → receiveOf r frame .unit ≡ None
-  unfolding receiveOf byReading answered
-  none-of-refused d = ap (λ (x : FrameReading). byReading r x .unit) (reading-refused frame (r .spacecraft) (r .channel) d)
+  unfolding receiveOf byReading answered channel.answered
+  none-of-refused d = ap (λ (x : FrameReading). byReading r x .unit) (reading-refused frame (r .farm .spacecraft) (r .farm .channel .number) d)
 
   not-refused : (receiveOf r frame .unit ≡ None → ⊥) → refusal ≡ 0
   not-refused h = go (eqb refusal 0) refl
@@ -67,15 +68,15 @@ module _ (r : Receiver) (frame : List ℕ) where
   module _ {a : Received} (f : a ≡ receiveOf r frame) where
     pub frame-fits : (a .unit ≡ None → ⊥) → (8 ≤ totalOf frame) × (totalOf frame ≤ length frame)
     frame-fits h =
-        let y = accepted frame (r .spacecraft) (r .channel) (not-refused (λ e. h (ap (λ (x : Received). x .unit) f ∙ e))) in
+        let y = accepted frame (r .farm .spacecraft) (r .farm .channel .number) (not-refused (λ e. h (ap (λ (x : Received). x .unit) f ∙ e))) in
         (y .low, y .whole)
 
     pub unit-length : {n : ℕ} → n ≡ length (partFor (a .unit) (dataField frame (totalOf frame))) → n ≡ length (unitPart r frame)
     unfolding unitPart
     unit-length p =
         p ∙ ap (λ (x : Received). length (partFor (x .unit) (dataField frame (totalOf frame)))) f
-        ∙ by-unit (receiveOf r frame .unit) (dataField frame (totalOf frame)) (partOf frame (r .spacecraft) (r .channel))
-        (λ h. sym (part-frame frame (r .spacecraft) (r .channel) (not-refused h)))
+        ∙ by-unit (receiveOf r frame .unit) (dataField frame (totalOf frame)) (partOf frame (r .farm .spacecraft) (r .farm .channel .number))
+        (λ h. sym (part-frame frame (r .farm .spacecraft) (r .farm .channel .number) (not-refused h)))
 
 module _ (o : List ℕ) {start : Start} (e : start ≡ restoredOf o) where
   no-state : start ≡ Setting → isState o ≡ false

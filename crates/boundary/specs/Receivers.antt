@@ -1,4 +1,4 @@
--- The receiver across the boundary: its state as octets in a lent buffer (crate farm, specs/Kept), its answers as numbers.
+-- The receiver across the boundary: its state as octets in a lent buffer (crate receiver_octets, specs/Kept), its answers as numbers.
 use Prim.Native.Nat.{ℕ}
 use mathlib.Core.List.{List, _++_}
 use lib.Dec.{leb}
@@ -8,15 +8,15 @@ use Rattle.base.specs.Outcome as outcome
 use Rattle.clcw.specs.Clcw.{writing}
 use Rattle.fop.specs.Limits.{largestNumber}
 use Rattle.farm.specs.Table.{eventNumber}
-use Rattle.farm.specs.Kept.{stateOctets, octetsOf, receiverIn, isState}
-use Rattle.farm.specs.Receiver.{startOf, startNumber, receiveOf, unitPart, releaseOf, releasedNumber, wordOf}
-use Rattle.farm.specs.declared.Received.{Received}
+use Rattle.receiver_octets.specs.Kept.{stateOctets, octetsOf, receiverIn, isState}
+use Rattle.receiver.specs.Receiver.{startOf, startNumber, receiveOf, unitPart, releaseOf, releasedNumber, wordOf}
+use Rattle.receiver.specs.declared.Received.{Received}
 use Rattle.farm.specs.declared.AcceptedUnit.{AcceptedUnit}
 use Rattle.farm.specs.declared.AcceptedUnit.the-variants as unit
-use Rattle.farm.specs.declared.Start.{Start}
-use Rattle.farm.specs.declared.Start.the-variants as start
-use Rattle.farm.specs.declared.Released.{Released}
-use Rattle.farm.specs.declared.Released.the-variants as released
+use Rattle.receiver.specs.declared.Start.{Start}
+use Rattle.receiver.specs.declared.Start.the-variants as start
+use Rattle.receiver.specs.declared.Released.{Released}
+use Rattle.receiver.specs.declared.Released.the-variants as released
 
 -- the unit accepted: 0 none, 1 AD, 2 BD
 abbrev pub unitNumber : AcceptedUnit → ℕ

@@ -1,4 +1,4 @@
-// FARM-1, the receiver (clause 7). Its state lies in a lent buffer of 12 octets (crate farm, specs/Kept), which a caller may keep over a
+// FARM-1, the receiver (clause 7). Its state lies in a lent buffer of 12 octets (crate receiver_octets, specs/Kept), which a caller may keep over a
 // reset. Octets that are no state are refused by 12 and stay as they are.
 use crate::numbers::BEYOND;
 use crate::numbers::LARGEST_NUMBER;
@@ -8,19 +8,21 @@ use crate::numbers::narrow_u8;
 use crate::numbers::narrow_u16;
 use crate::words::told;
 use farm::AcceptedUnit;
-use farm::Receiver;
-use farm::Released;
-use farm::Start;
 use farm::event_number;
-use farm::octets::STATE_OCTETS;
+use receiver::Receiver;
+use receiver::Released;
+use receiver::Start;
+use receiver_octets::STATE_OCTETS;
+use receiver_octets::octets_of;
+use receiver_octets::receiver_in;
 ghost use mathlib.Core.Path.{_≡_};
 ghost use Prim.Native.Nat.{_≤_};
 ghost use lib.ListN.{length};
 ghost use Rattle.base.specs.Outcome.{answer, after, numberOf, countOf};
 ghost use Rattle.memory.specs.Placed.{placed};
 ghost use Rattle.frame.specs.Frame.{totalOf, dataField};
-ghost use Rattle.farm.specs.Kept.{octetsOf};
-ghost use Rattle.farm.specs.Receiver.{partFor};
+ghost use Rattle.receiver_octets.specs.Kept.{octetsOf};
+ghost use Rattle.receiver.specs.Receiver.{partFor};
 ghost use Rattle.farm.specs.declared.AcceptedUnit.the-variants.{None};
 ghost use Rattle.boundary.specs.Receivers.{unitNumber, unitPlace, startGiven, newCall, frameCall, releaseCall, wordCall};
 
@@ -71,7 +73,7 @@ fn unit_count(unit: AcceptedUnit, frame: &[u8]) -> u64
 fn keep(receiver: Receiver, state: &mut [u8])
     ensures { λ _. ⌜ now (state .exit) ≡ placed (now (state .entry)) 0 (octetsOf receiver) ⌝ }
 {
-    let octets = receiver.octets();
+    let octets = octets_of(receiver);
     memory::put(state, 0, &octets);
 }
 
@@ -139,7 +141,7 @@ pub extern "C" fn pondreszi_receiver_frame(
     *unit = 0;
     *first = 0;
     *count = 0;
-    let start = Receiver::restore(state);
+    let start = receiver_in(state);
     let Start::Ready(receiver) = start else {
         return 12;
     };
@@ -162,7 +164,7 @@ pub extern "C" fn pondreszi_receiver_release(state: &mut [u8], event: &mut u8) -
     ensures states { λ r. ⌜ now (state .exit) ≡ releaseCall (now (state .entry)) .state ⌝ }
 {
     *event = 0;
-    let start = Receiver::restore(state);
+    let start = receiver_in(state);
     let Start::Ready(receiver) = start else {
         return 12;
     };
@@ -184,7 +186,7 @@ pub extern "C" fn pondreszi_receiver_word(state: &[u8], output: &mut [u8], count
     ensures counted { λ r. ⌜ now (count .exit) ≡ countOf (answer (wordCall (now (state .entry)) (length (now (output .entry))))) ⌝ }
 {
     *count = 0;
-    let start = Receiver::restore(state);
+    let start = receiver_in(state);
     let Start::Ready(receiver) = start else {
         return 12;
     };

@@ -16,11 +16,11 @@ use Rattle.fop.specs.Events.{directive}
 use Rattle.fop_actions.specs.declared.SenderState.{SenderState}
 use Rattle.fop_actions.specs.Start.{startOf}
 use Rattle.fop_view.specs.State.{Good}
-use Rattle.farm.specs.Kept as farm
-use Rattle.farm.specs.Receiver as farmStart
-use Rattle.farm.specs.declared.Start.{Start as FarmStart}
-use Rattle.farm.specs.declared.Start.the-variants.{Setting as FarmSetting}
-use Rattle.farm.proofs.Restored.{receiver-back}
+use Rattle.receiver_octets.specs.Kept as farm
+use Rattle.receiver.specs.Receiver as farmStart
+use Rattle.receiver.specs.declared.Start.{Start as FarmStart}
+use Rattle.receiver.specs.declared.Start.the-variants.{Setting as FarmSetting}
+use Rattle.receiver_octets.proofs.Restored.{receiver-back}
 use Rattle.session.specs.Ends.{Settings, Within, Tied, startReceiver, tables}
 use Rattle.session.specs.Session.{Event, begins, run}
 use Rattle.session.specs.Claims.{Claims}

@@ -4,7 +4,7 @@ use mathlib.Core.Path.{_≡_}
 use mathlib.Core.List.{List}
 use lib.ListN.{length}
 use Rattle.fop.specs.Events.{directive}
-use Rattle.farm.specs.Kept as farm
+use Rattle.receiver_octets.specs.Kept as farm
 use Rattle.session.specs.Ends.{Settings, Within, startReceiver}
 use Rattle.sender.specs.Limits.{smallestStore}
 use Rattle.sender_octets.specs.Kept.{stateOctets}

@@ -9,17 +9,17 @@ use Rattle.text.specs.Decimal.{decimal, digitsBelow}
 use Rattle.text.specs.Fields.{tab, newline}
 use Rattle.farm.specs.declared.State.{State}
 use Rattle.farm.specs.declared.State.the-variants.{Open, Wait, Lockout}
-use Rattle.farm.specs.Receiver.{startOf, releaseOf}
+use Rattle.receiver.specs.Receiver.{startOf, releaseOf}
 use Rattle.farm.specs.Table.{eventNumber}
 use Rattle.farm.specs.declared.Event.{Event}
 use Rattle.farm.specs.declared.Event.the-variants.{E1, E2, E3, E4, E5, E6, E7, E8, E9, E10, E11}
 use Rattle.farm.specs.declared.Variables.{Variables}
-use Rattle.farm.specs.declared.Receiver.{Receiver}
-use Rattle.farm.specs.declared.Received.{Received}
-use Rattle.farm.specs.declared.Start.{Start}
-use Rattle.farm.specs.declared.Start.the-variants.{Ready, Setting}
-use Rattle.farm.specs.declared.Released.{Released}
-use Rattle.farm.specs.declared.Released.the-variants.{Done, NoneTaken}
+use Rattle.receiver.specs.declared.Receiver.{Receiver}
+use Rattle.receiver.specs.declared.Received.{Received}
+use Rattle.receiver.specs.declared.Start.{Start}
+use Rattle.receiver.specs.declared.Start.the-variants.{Ready, Setting}
+use Rattle.receiver.specs.declared.Released.{Released}
+use Rattle.receiver.specs.declared.Released.the-variants.{Done, NoneTaken}
 use Rattle.console.specs.declared.Line.{Line}
 use Rattle.console.specs.declared.Line.the-variants.{Set, Free}
 use Rattle.console.specs.declared.Session.{Session}
@@ -29,7 +29,7 @@ use Rattle.console.specs.declared.Output.the-variants.{Nothing, Row}
 use Rattle.console.specs.declared.Turn.{Turn}
 use Rattle.console.specs.Console.{programSpacecraft, programChannel, refusedIn, rowTurn, opened, releasedTurn, firstOf, laterOf, turnOf, eventText, stateText, flagText, flagsText, textOf}
 
-pub row-of : (received : Received) (v : Variables) → v ≡ received .next .variables
+pub row-of : (received : Received) (v : Variables) → v ≡ received .next .farm .channel .variables
     → record { session = Running (received .next); output = Row (received .event) v } ≡ rowTurn received
 row-of received v e = ap (λ (w : Variables). record { session = Running (received .next); output = Row (received .event) w }) e
 

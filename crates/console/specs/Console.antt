@@ -5,18 +5,18 @@ use mathlib.Core.List.{List, [], _∷_, _++_}
 use Rattle.text.specs.Decimal.{decimal}
 use Rattle.text.specs.Fields.{tab, newline, linesOf}
 use Rattle.frame.specs.declared.Kind.the-variants.{Ad as AdFrame, Bd as BdFrame, Unlock as UnlockFrame, SetVr as SetVrFrame}
-use Rattle.farm.specs.Receiver.{startOf, answered, arrived, releaseOf}
+use Rattle.receiver.specs.Receiver.{startOf, answered, arrived, releaseOf}
 use Rattle.farm.specs.declared.State.{State}
 use Rattle.farm.specs.declared.State.the-variants.{Open, Wait, Lockout}
 use Rattle.farm.specs.declared.Event.{Event}
 use Rattle.farm.specs.declared.Event.the-variants.{E1, E2, E3, E4, E5, E6, E7, E8, E9, E10, E11}
 use Rattle.farm.specs.declared.Variables.{Variables}
-use Rattle.farm.specs.declared.Receiver.{Receiver}
-use Rattle.farm.specs.declared.Received.{Received}
-use Rattle.farm.specs.declared.Start.{Start}
-use Rattle.farm.specs.declared.Start.the-variants.{Ready, Setting}
-use Rattle.farm.specs.declared.Released.{Released}
-use Rattle.farm.specs.declared.Released.the-variants.{Done, NoneTaken}
+use Rattle.receiver.specs.declared.Receiver.{Receiver}
+use Rattle.receiver.specs.declared.Received.{Received}
+use Rattle.receiver.specs.declared.Start.{Start}
+use Rattle.receiver.specs.declared.Start.the-variants.{Ready, Setting}
+use Rattle.receiver.specs.declared.Released.{Released}
+use Rattle.receiver.specs.declared.Released.the-variants.{Done, NoneTaken}
 use Rattle.console.specs.Line.{lineOf}
 use Rattle.console.specs.declared.Line.{Line}
 use Rattle.console.specs.declared.Line.the-variants.{Set, Ad, Bd, Unlock, SetVr, Bad, Free, Malformed}
@@ -40,7 +40,7 @@ refusedIn session = record { session = session; output = Refused }
 
 -- an event's row
 abbrev pub rowTurn : Received → Turn
-rowTurn received = record { session = Running (received .next); output = Row (received .event) (received .next .variables) }
+rowTurn received = record { session = Running (received .next); output = Row (received .event) (received .next .farm .channel .variables) }
 
 -- "Where the first line isn't a good SET, every line is refused"; "a good SET writes no line of its own"
 abbrev pub opened : Start → Turn

@@ -4,8 +4,8 @@ pub mod rows;
 pub mod turns;
 
 use farm::Event;
-use farm::Receiver;
 use farm::Variables;
+use receiver::Receiver;
 use text::NEWLINE;
 use text::NumberWritten;
 ghost use mathlib.Core.Path.{_≡_};

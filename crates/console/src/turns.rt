@@ -3,11 +3,11 @@ use crate::Line;
 use crate::Output;
 use crate::Session;
 use crate::Turn;
-use farm::Received;
-use farm::Receiver;
-use farm::Released;
-use farm::Start;
 use frame::Kind;
+use receiver::Received;
+use receiver::Receiver;
+use receiver::Released;
+use receiver::Start;
 ghost use mathlib.Core.Path.{_≡_};
 ghost use Rattle.console.specs.Console.{refusedIn, rowTurn, firstOf, laterOf, turnOf};
 

@@ -11,8 +11,8 @@ use lib.Dec.{leb→le}
 use lib.ListN.{length, replicate}
 use Rattle.fop.specs.Units.{Fdu, SetVR, written}
 use Rattle.fop.specs.Events.{SenderEvent, requestAd, tick, lower, directive, wordArrives, adAccept, bcAccept}
-use Rattle.farm.specs.Receiver.{atStart}
-use Rattle.farm.specs.declared.Receiver.{Receiver}
+use Rattle.receiver.specs.Receiver.{atStart}
+use Rattle.receiver.specs.declared.Receiver.{Receiver}
 use Rattle.session.specs.Receiver.{frameArrives, wordLength, receiverNext, receiverWord}
 use Rattle.session.specs.Ends.{Settings, Within, startSender, startReceiver}
 use Rattle.session.specs.Session.{Event, adRequest, ticks, lowerSays, wordMade, wordIn, frameIn, frameLost}

@@ -23,8 +23,8 @@ use Rattle.fop_actions.specs.declared.SenderState.{SenderState}
 use Rattle.fop_actions.specs.Start.{startOf, begun}
 use Rattle.fop_actions.specs.View.{fopOf}
 use Rattle.fop_view.specs.State.{Good}
-use Rattle.farm.specs.Receiver as farm
-use Rattle.farm.specs.declared.Start.the-variants.{Ready}
+use Rattle.receiver.specs.Receiver as farm
+use Rattle.receiver.specs.declared.Start.the-variants.{Ready}
 use Rattle.session.specs.Ends.{Settings, Within, Tied, startSender, startReceiver, tables}
 use Rattle.session.specs.Session.{Event, begins, run}
 use Rattle.session.specs.Claims.{Claims}

@@ -1,5 +1,5 @@
 -- Our own two ends in document 01's session: the sender by the definitions that its public functions equal (crate sender), the receiver by
--- crate farm's.
+-- crate receiver's.
 use Prim.Native.Nat.{ℕ}
 use mathlib.Core.Path.{_≡_}
 use mathlib.Core.List.{List, [], _∷_}
@@ -19,7 +19,7 @@ use Rattle.fop_rows.specs.Rows.{eventOf}
 use Rattle.fop_events.specs.declared.Lower.{Lower}
 use Rattle.fop_events.specs.declared.Lower.the-variants as answer
 use Rattle.fop_view.specs.State.{Good}
-use Rattle.farm.specs.declared.Receiver.{Receiver}
+use Rattle.receiver.specs.declared.Receiver.{Receiver}
 use Rattle.session.specs.Ends.{Settings, Ends, startSender, startReceiver}
 use Rattle.session.specs.Receiver.{receiverNext, receiverAnswer, receiverWord}
 use Rattle.sender.specs.declared.Sender.{Sender}

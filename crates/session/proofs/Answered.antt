@@ -34,11 +34,12 @@ use Rattle.session.proofs.Received.{receiverOf, received-is, released-i
 use Rattle.session.proofs.Refusals.{refusal-is, Mild, mild}
 use Rattle.base.specs.Choice.{must}
 use Rattle.fop.specs.Answers as ans
-use Rattle.farm.specs.Receiver as farm
+use Rattle.receiver.specs.Channel as channel
+use Rattle.receiver.specs.Receiver as farm
 use Rattle.farm.specs.declared.Event.the-variants.{E10}
-use Rattle.farm.specs.declared.Receiver.{Receiver}
-use Rattle.farm.specs.declared.Received.{Received}
-use Rattle.farm.specs.declared.Released.the-variants.{Done, NoneTaken}
+use Rattle.receiver.specs.declared.Receiver.{Receiver}
+use Rattle.receiver.specs.declared.Received.{Received}
+use Rattle.receiver.specs.declared.Released.the-variants.{Done, NoneTaken}
 use Rattle.session.specs.Receiver.{frameArrives, releaseBuffer, ReceiverAnswer, releaseAnswer, receiverAnswer}
 
 own-known : (l : ℕ) (r : Option Reason) → Allowed ownAlert r → KnownAlert l r
@@ -127,7 +128,7 @@ module _ (set : Settings) (vw : Within set) (m : Ends) (t : Tied set m) (σ : Li
 
   oldest : (l : List Frame) (s : List ℕ) (fs : List (List ℕ)) → Reads l → s ∷ fs ≡ map (written (set .own)) l
       → (receiverAnswer (frameArrives s) (receiverOf set (used κ) (κ .farm))) .refusal ≡ 0
-  unfolding receiverAnswer farm.answered
+  unfolding receiverAnswer farm.answered channel.answered
   oldest [] s fs h e = let z : _≡_ {A = ℕ} 0 1 = cc in absurd (omega arith)
   oldest (x ∷ xs) s fs h e =
       let a : s ≡ written (set .own) x = cc in
@@ -144,7 +145,7 @@ module _ (set : Settings) (vw : Within set) (m : Ends) (t : Tied set m) (σ : Li
   Released-or-not a = ((a .refusal ≡ 0) × (κ .released < length (κ .accepted))) ⊎ ((a .refusal ≡ 13) × (κ .released ≡ length (κ .accepted)))
 
   pub release-refusal : Released-or-not (m .answerReceiver releaseBuffer (σ .receiver))
-  unfolding receiverAnswer farm.answered
+  unfolding receiverAnswer farm.answered channel.answered
   release-refusal =
       subst Released-or-not
       (sym (t .answerReceiver releaseBuffer (σ .receiver) (R .goodReceiver) ∙ ap (λ (f : Receiver). receiverAnswer releaseBuffer f) (R .farm)

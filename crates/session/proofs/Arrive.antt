@@ -27,9 +27,8 @@ use Rattle.session.proofs.Receiver.{ad-cases}
 use Rattle.session.proofs.Next.{historyOf, sender-is}
 use Rattle.base.specs.Choice.{both}
 use Rattle.base.proofs.Tests.{both-left, both-true}
-use Rattle.farm.specs.Table.{table, accepts as acceptsCell}
+use Rattle.farm.specs.Table.{table, accepts as acceptsCell, unitOf}
 use Rattle.farm.specs.Window.{notWait}
-use Rattle.farm.specs.Receiver.{unitOf}
 use Rattle.farm.proofs.Units.{no-unit}
 use Rattle.farm.specs.declared.State.{State as FarmState}
 use Rattle.farm.specs.declared.State.the-variants.{Open, Wait, Lockout}

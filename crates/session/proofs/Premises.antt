@@ -48,7 +48,7 @@ accepts-list = adRequest (17 ∷ []) 256 ∷ []
 abbrev Accepts : Type 0
 Accepts =
     (s : List ℕ) × (fs : List (List ℕ)) × ((after set accepts-list) .frames ≡ s ∷ fs) × (frames.read (set .own) s ≡ AD one)
-    × ((after set accepts-list) .receiver .variables .state ≡ Open) × (one .ns ≡ expected set ((after set accepts-list) .history))
+    × ((after set accepts-list) .receiver .farm .channel .variables .state ≡ Open) × (one .ns ≡ expected set ((after set accepts-list) .history))
     × BufferFree set ((after set accepts-list) .history)
 
 -- "An active sender with a ready lower layer ..": at the start

@@ -13,9 +13,8 @@ use Rattle.base.specs.Choice.{pick, both}
 use Rattle.base.specs.Modulo.{advanced, offset}
 use Rattle.base.proofs.Modulo.{offset-advanced, offset-back}
 use Rattle.fop.specs.Units.{Fdu, Frame, AD, BD, Unlock, SetVR, Refused, Word}
-use Rattle.farm.specs.Table.{table, perform, performAll, stepOf, accepts}
+use Rattle.farm.specs.Table.{table, perform, performAll, stepOf, accepts, unitOf}
 use Rattle.farm.specs.Window.{notWait, adEvent}
-use Rattle.farm.specs.Receiver.{unitOf}
 use Rattle.farm.specs.declared.State.{State as FarmState}
 use Rattle.farm.specs.declared.State.the-variants.{Open, Wait, Lockout}
 use Rattle.farm.specs.declared.Event.{Event as FarmEvent}
@@ -272,7 +271,7 @@ step-keeps set vw e σ I = stepWith-keeps set vw (free set σ) (isHeld σ) e σ 
 abbrev pub begun : Settings → Session
 begun set = record {
   fop = startSender set;
-  farm = (startReceiver set) .variables;
+  farm = (startReceiver set) .farm .channel .variables;
   frames = [];
   words = [];
   sent = [];

@@ -49,7 +49,7 @@ use Rattle.session.proofs.Serving.{NoAd, Serving, ad-serving, bd-servin
 use Rattle.session.proofs.Exact.{exact}
 use Rattle.session.proofs.Clear.{length-places}
 use Rattle.session.proofs.Core as core
-use Rattle.farm.specs.declared.Receiver.{Receiver}
+use Rattle.receiver.specs.declared.Receiver.{Receiver}
 use Rattle.session.specs.Receiver.{releaseBuffer}
 use Rattle.fop.specs.Units.{readWord, valid}
 use lib.ListN.{length-append}
@@ -231,7 +231,7 @@ module _ (set : Settings) (vw : Within set) (m : Ends) (t : Tied set m) (σ : Li
         once = λ l e lent h o u d q. by (λ y. u .ns ≡ nextNumber set y) (once l e lent h o u d q);
         servingOnly = serving-only;
         exact = exactly;
-        opens = λ b. ap (λ (f : Receiver). f .variables .state) (G .farm)
+        opens = λ b. ap (λ (f : Receiver). f .farm .channel .variables .state) (G .farm)
             ∙ opens set κ I (κ .farm .state) (I .receiver .unlocked) (R .stock .full) (rw (R .history) at b);
         inOrderBd = by (λ h. Sub (h .acceptedBd) (h .sentBd)) (bd-part (κ .acceptedBd) (κ .sentBd) (κ .frames) (I .bd));
         expedited = λ o lent g r b.

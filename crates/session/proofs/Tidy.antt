@@ -36,8 +36,7 @@ use Rattle.session.proofs.Keys.{bit, bit-le, rank, rank-le, floor, wait
 use Rattle.session.proofs.Every.{implies, implied, everySeen, seen-at}
 use Rattle.fop.specs.Table.{ifNotSuspended}
 use Rattle.farm.specs.Table as t79
-use Rattle.farm.specs.Table.{stepOf}
-use Rattle.farm.specs.Receiver.{unitOf}
+use Rattle.farm.specs.Table.{stepOf, unitOf}
 use Rattle.farm.specs.declared.State.{State as FarmState}
 use Rattle.farm.specs.declared.State.the-variants.{Open, Wait, Lockout}
 use Rattle.farm.specs.declared.Event.{Event as FarmEvent}

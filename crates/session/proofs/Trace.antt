@@ -14,9 +14,10 @@ use Rattle.clcw.specs.Clcw as clcw
 use Rattle.clcw.specs.Answers as clcwAnswers
 use Rattle.farm.specs.Table as t79
 use Rattle.farm.specs.Window as window
-use Rattle.farm.specs.Receiver as receiver
+use Rattle.receiver.specs.Channel as channel
+use Rattle.receiver.specs.Receiver as receiver
 use Rattle.farm.specs.declared.Event.{Event as FarmEvent}
-use Rattle.farm.specs.declared.Receiver.{Receiver}
+use Rattle.receiver.specs.declared.Receiver.{Receiver}
 use Rattle.fop.specs.Units as units
 use Rattle.fop.specs.Table as table
 use Rattle.fop.specs.Table.{State, Reason, FopEvent}
@@ -43,7 +44,7 @@ unfolding outstanding ses.run ses.begins ses.step ses.toSender ses.wordCome ses.
     machine.transmitBc machine.denyBc machine.rejectWaiting machine.purge machine.removeAcknowledged machine.perform machine.performAll machine.performCell
     machine.fopDo events.wordEvent events.fopWord events.fopAd events.fopBd events.fopExpiry events.fopTick events.fopLower
     events.directiveEvent events.fopDirective events.fopReceived events.work answers.needed answers.judged answers.senderRefusal
-    answers.senderAnswer answers.senderNext t79.table t79.perform t79.performAll t79.stepOf t79.accepts window.adEvent receiver.eventOf
+    answers.senderAnswer answers.senderNext t79.table t79.perform t79.performAll t79.stepOf t79.accepts window.adEvent channel.eventOf channel.answered channel.arrived
     receiver.answered receiver.arrived receiver.byReading receiver.receiveOf receiver.unitPart receiver.releaseOf receiver.wordOf frame.bodyOf
     frame.rawFrame frame.totalOf frame.dataField frame.isCommand frame.commandHeld frame.headerRefusal frame.contentRefusal frame.refusalOf frame.kindOf
     frameAnswers.fieldsOf frameAnswers.readingOf frameAnswers.partOf header.headerFields header.headerOf clcw.wordFields clcw.clcwOf clcw.writing

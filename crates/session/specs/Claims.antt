@@ -126,13 +126,13 @@ pub record Claims (set : Settings) (m : Ends) (σ : Linked m) (γ : Linked (tabl
   -- "and confirmed units of those accepted;"
   pub truly : Prefix (unitsAt (σ .history .sent) (σ .history .confirmed)) (map some (σ .history .accepted))
   -- "the receiver has never locked out."
-  pub never : (σ .history .lockedOut ≡ false) × (γ .history .lockedOut ≡ false) × (γ .receiver .variables .lockout ≡ false)
-      × (γ .receiver .variables .state ≢ Lockout)
+  pub never : (σ .history .lockedOut ≡ false) × (γ .history .lockedOut ≡ false) × (γ .receiver .farm .channel .variables .lockout ≡ false)
+      × (γ .receiver .farm .channel .variables .state ≢ Lockout)
   -- "And at whatever event comes next, each of these holds. The receiver accepts an AD frame exactly when the receiver is Open, the frame
   -- expected and a buffer free."
   pub accepts : (s : List ℕ) (fs : List (List ℕ)) (u : Fdu) → σ .frames ≡ s ∷ fs → read (set .own) s ≡ AD u
       → ((step set m frameIn σ) .history .accepted ≡ σ .history .accepted ++ (u ∷ []))
-      ↔ ((γ .receiver .variables .state ≡ Open) × (u .ns ≡ expected set (σ .history)) × BufferFree set (σ .history))
+      ↔ ((γ .receiver .farm .channel .variables .state ≡ Open) × (u .ns ≡ expected set (σ .history)) × BufferFree set (σ .history))
   -- "An active sender with a ready lower layer, an empty wait queue, nothing marked and fewer than K outstanding sends at once a legal unit
   -- offered to it."
   pub offered : (o : List ℕ) (lent : ℕ) → legal o ≡ true → Lent set (requestAd o) lent (γ .sender)
@@ -164,4 +164,4 @@ pub record Claims (set : Settings) (m : Ends) (σ : Linked m) (γ : Linked (tabl
   -- "the receiver's control word, with V(R), flags and counter as table 7-9 gives them, enters its channel", where its room is lent
   pub words : (lent : ℕ) → wordLength ≤ lent
       → (s : List ℕ) × ((step set m (wordMade lent) σ) .words ≡ σ .words ++ (s ∷ []))
-      × (readWord (set .own) s ≡ valid (reported set (γ .receiver .variables) (σ .history)))
+      × (readWord (set .own) s ≡ valid (reported set (γ .receiver .farm .channel .variables) (σ .history)))

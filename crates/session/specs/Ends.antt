@@ -9,9 +9,9 @@ use Rattle.fop.specs.Table.{S1}
 use Rattle.fop.specs.Variables.{Fop, atStart, setState, setClock}
 use Rattle.fop.specs.Events.{SenderEvent}
 use Rattle.fop.specs.Answers.{Answer, senderNext, senderAnswer}
-use Rattle.farm.specs.Receiver.{largestBuffers}
+use Rattle.receiver.specs.Receiver.{largestBuffers}
 use Rattle.farm.specs.declared.State.the-variants.{Open}
-use Rattle.farm.specs.declared.Receiver.{Receiver}
+use Rattle.receiver.specs.declared.Receiver.{Receiver}
 use Rattle.session.specs.Receiver.{ReceiverEvent, ReceiverAnswer, WordAnswer, receiverNext, receiverAnswer, receiverWord}
 
 -- "the FARM-B counter modulo 4"
@@ -63,12 +63,16 @@ startSender s =
 -- Unlock or Set V(R) has counted it.
 unfoldable pub startReceiver : Settings → Receiver
 startReceiver s = record {
-  spacecraft = s .own .spacecraft;
-  channel = s .own .channel;
-  window = s .w;
-  buffers = s .buffers;
-  taken = 0;
-  variables = record { state = Open; vr = s .n; lockout = false; wait = false; retransmit = false; counter = s .counter };
+  farm = record {
+    spacecraft = s .own .spacecraft;
+    buffers = s .buffers;
+    channel = record {
+      number = s .own .channel;
+      window = s .w;
+      held = 0;
+      variables = record { state = Open; vr = s .n; lockout = false; wait = false; retransmit = false; counter = s .counter };
+    };
+  };
 }
 
 -- A sender and a receiver, whatever they are: how they stand at the start, and the next state, answer and control word that they give. A
@@ -84,7 +88,7 @@ pub record Ends : Type 1 where
   pub answerReceiver : ReceiverEvent → Receiver → ReceiverAnswer
   pub word : ℕ → Receiver → WordAnswer
 
--- the ends that the tables themselves are: table 7-8 by crate fop, table 7-9 by crate farm
+-- the ends that the tables themselves are: table 7-8 by crate fop, table 7-9 by crate receiver
 abbrev pub tables : Settings → Ends
 tables s = record {
   Sender = Fop;

@@ -15,7 +15,7 @@ use Rattle.fop.specs.Events.{SenderEvent, requestAd, requestBd, lower, directiv
 use Rattle.fop.specs.Events as fop
 use Rattle.fop.specs.Answers.{senderNext, senderAnswer}
 use Rattle.farm.specs.declared.State.the-variants.{Open}
-use Rattle.farm.specs.declared.Receiver.{Receiver}
+use Rattle.receiver.specs.declared.Receiver.{Receiver}
 use Rattle.session.specs.Frames.{read}
 use Rattle.session.specs.Receiver.{ReceiverEvent, frameArrives, releaseBuffer, wordLength, receiverNext, receiverAnswer}
 use Rattle.session.specs.Ends.{Settings, Ends, tables}
@@ -116,7 +116,7 @@ pub record Stronger (set : Settings) (m : Ends) (σ : Linked m) (γ : Linked (ta
       → Lent set (wordArrives s) lent (γ .sender) → inService (γ .sender .state) ≡ true
       → w .nr ≡ advanced (set .n) (length ((step set m (wordIn lent) σ) .history .confirmed))
   -- a receiver with a free buffer is Open
-  pub opens : BufferFree set (σ .history) → γ .receiver .variables .state ≡ Open
+  pub opens : BufferFree set (σ .history) → γ .receiver .farm .channel .variables .state ≡ Open
   -- BD units accepted are those handed down, in order, but for those lost
   pub inOrderBd : Sub (σ .history .acceptedBd) (σ .history .sentBd)
   -- with BD_Out ready, a legal BD unit offered is handed down at once, in every state; a BD unit that arrives is accepted

@@ -6,8 +6,8 @@ use Rattle.memory.specs.Placed.{placed}
 use Rattle.boundary.proofs.receivers.keep.Statement.{statement}
 use Rattle.boundary.proofs.receivers.keep.Tie as tie
 
-octets-requires : tie.Need-octets-requires
-octets-requires c κs = search needs
+octets-of-requires : tie.Need-octets-of-requires
+octets-of-requires c κs = search needs
 
 slice-aggregate-put : tie.Need-slice-aggregate-put
 slice-aggregate-put c = search needs
@@ -21,8 +21,8 @@ same-length c = search needs
 returns : tie.Need-returns
 returns c =
     let o = c .before .before .before .before .before in
-    c .before .before .put .ensures ∙ ap (placed (now (o .before .before .args .state)) 0) (o .octets .ensures)
+    c .before .before .put .ensures ∙ ap (placed (now (o .before .before .args .state)) 0) (o .octets-of .ensures)
 
 pub keep-spec : {M : Type 1} → statement M
 keep-spec =
-    tie.close (tie.spec octets-requires slice-aggregate-put put-requires same-length returns)
+    tie.close (tie.spec octets-of-requires slice-aggregate-put put-requires same-length returns)

@@ -6,8 +6,8 @@ use Rattle.boundary.proofs.ReceiverCalls.{frame-refused, frame-met, fra
 use Rattle.boundary.proofs.receivers.pondreszi_receiver_frame.Statement.{statement}
 use Rattle.boundary.proofs.receivers.pondreszi_receiver_frame.Tie as tie
 
-restore-requires : tie.Need-restore-requires
-restore-requires c κs = search needs
+receiver-in-requires : tie.Need-receiver-in-requires
+receiver-in-requires c κs = search needs
 
 enum-known-start : tie.Need-enum-known-start
 enum-known-start c = search needs
@@ -22,7 +22,7 @@ returns : tie.Need-returns
 returns c =
     let r = c .before .before in
     let a = r .before .before .before .before .args in
-    rw (frame-refused (now (a .state)) (r .restore .ensures .0) (c .enum-told .given .1) (now (a .frame)))
+    rw (frame-refused (now (a .state)) (r .receiver-in .ensures .0) (c .enum-told .given .1) (now (a .frame)))
     (refl, (refl, (refl, (refl, (refl, refl)))))
 
 receive-requires : tie.Need-receive-requires
@@ -58,15 +58,15 @@ returns-2 c =
     let s = m .before .before in
     let r = s .before .before in
     let a = r .before .before .before .before .args in
-    let z = k .keep .ensures ∙ kept-whole (now (a .state)) (r .restore .ensures .0) (s .start .given .1) (m .receive .result .next) in
-    rw (frame-met (now (a .state)) (r .restore .ensures .0) (s .start .given .1) (now (a .frame)) (m .receive .ensures))
+    let z = k .keep .ensures ∙ kept-whole (now (a .state)) (r .receiver-in .ensures .0) (s .start .given .1) (m .receive .result .next) in
+    rw (frame-met (now (a .state)) (r .receiver-in .ensures .0) (s .start .given .1) (now (a .frame)) (m .receive .ensures))
     (refl, (q .before .event-number .ensures, (q .unit-number .ensures, (p .unit-place .ensures, (unit-length _ _ (m .receive .ensures) (n .unit-count .ensures), z)))))
 
 pub pondreszi-receiver-frame-spec : {M : Type 1} → statement M
 pondreszi-receiver-frame-spec =
     tie.close
     (tie.spec
-    restore-requires
+    receiver-in-requires
     enum-known-start
     enum-told
     same-length

@@ -2,14 +2,14 @@
 use borrow.Author.Needs.{needs}
 use mathlib.Core.Path.{refl, ap, _∙_}
 use denote.Ref.{now}
-use Rattle.farm.specs.declared.Released.{Released}
+use Rattle.receiver.specs.declared.Released.{Released}
 use Rattle.boundary.specs.Receivers.{releasedBy}
 use Rattle.boundary.proofs.ReceiverCalls.{release-refused, release-met, kept-whole}
 use Rattle.boundary.proofs.receivers.pondreszi_receiver_release.Statement.{statement}
 use Rattle.boundary.proofs.receivers.pondreszi_receiver_release.Tie as tie
 
-restore-requires : tie.Need-restore-requires
-restore-requires c κs = search needs
+receiver-in-requires : tie.Need-receiver-in-requires
+receiver-in-requires c κs = search needs
 
 enum-known-start : tie.Need-enum-known-start
 enum-known-start c = search needs
@@ -24,7 +24,7 @@ returns : tie.Need-returns
 returns c =
     let r = c .before .before in
     let a = r .before .before .before .args in
-    rw (release-refused (now (a .state)) (r .restore .ensures .0) (c .enum-told .given .1)) (refl, (refl, refl))
+    rw (release-refused (now (a .state)) (r .receiver-in .ensures .0) (c .enum-told .given .1)) (refl, (refl, refl))
 
 release-requires : tie.Need-release-requires
 release-requires c κs = search needs
@@ -44,7 +44,7 @@ returns-2 c =
     let s = l .before .before in
     let r = s .before .before in
     let a = r .before .before .before .args in
-    let e = release-met (now (a .state)) (r .restore .ensures .0) (s .start .given .1) (l .release .result) (l .release .ensures .0) in
+    let e = release-met (now (a .state)) (r .receiver-in .ensures .0) (s .start .given .1) (l .release .result) (l .release .ensures .0) in
     rw (e ∙ ap (λ (x : Released). releasedBy x (now (a .state))) (c .enum-told2 .given .1)) (refl, (refl, refl))
 
 event-number-requires : tie.Need-event-number-requires
@@ -64,15 +64,15 @@ returns-3 c =
     let s = l .before .before in
     let r = s .before .before in
     let a = r .before .before .before .args in
-    let e = release-met (now (a .state)) (r .restore .ensures .0) (s .start .given .1) (l .release .result) (l .release .ensures .0) in
+    let e = release-met (now (a .state)) (r .receiver-in .ensures .0) (s .start .given .1) (l .release .result) (l .release .ensures .0) in
     rw (e ∙ ap (λ (x : Released). releasedBy x (now (a .state))) (d .released .given .1))
-    (refl, (k .before .before .event-number .ensures, k .keep .ensures ∙ kept-whole (now (a .state)) (r .restore .ensures .0) (s .start .given .1) _))
+    (refl, (k .before .before .event-number .ensures, k .keep .ensures ∙ kept-whole (now (a .state)) (r .receiver-in .ensures .0) (s .start .given .1) _))
 
 pub pondreszi-receiver-release-spec : {M : Type 1} → statement M
 pondreszi-receiver-release-spec =
     tie.close
     (tie.spec
-    restore-requires
+    receiver-in-requires
     enum-known-start
     enum-told
     same-length

@@ -8,8 +8,8 @@ use Rattle.boundary.proofs.ReceiverCalls.{word-refused, word-met}
 use Rattle.boundary.proofs.receivers.pondreszi_receiver_word.Statement.{statement}
 use Rattle.boundary.proofs.receivers.pondreszi_receiver_word.Tie as tie
 
-restore-requires : tie.Need-restore-requires
-restore-requires c κs = search needs
+receiver-in-requires : tie.Need-receiver-in-requires
+receiver-in-requires c κs = search needs
 
 enum-known-start : tie.Need-enum-known-start
 enum-known-start c = search needs
@@ -21,7 +21,7 @@ returns : tie.Need-returns
 returns c =
     let r = c .before .before in
     let a = r .before .before .before .args in
-    rw (word-refused (now (a .state)) (r .restore .ensures .0) (c .enum-told .given .1) (length (now (a .output)))) (refl, (refl, refl))
+    rw (word-refused (now (a .state)) (r .receiver-in .ensures .0) (c .enum-told .given .1) (length (now (a .output)))) (refl, (refl, refl))
 
 word-requires : tie.Need-word-requires
 word-requires c κs = search needs
@@ -38,13 +38,13 @@ returns-2 c =
     let s = w .before .before .before in
     let r = s .before .before in
     let a = r .before .before .before .args in
-    rw (word-met (now (a .state)) (r .restore .ensures .0) (s .start .given .1) (length (now (a .output)))) (told-by (w .word .ensures) (c .told .ensures))
+    rw (word-met (now (a .state)) (r .receiver-in .ensures .0) (s .start .given .1) (length (now (a .output)))) (told-by (w .word .ensures) (c .told .ensures))
 
 pub pondreszi-receiver-word-spec : {M : Type 1} → statement M
 pondreszi-receiver-word-spec =
     tie.close
     (tie.spec
-    restore-requires
+    receiver-in-requires
     enum-known-start
     enum-told
     returns
