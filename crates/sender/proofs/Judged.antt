@@ -27,9 +27,10 @@ use Rattle.fop_rows.specs.Rows.{rowNumbered, inMain}
 use Rattle.fop_events.specs.declared.Lower.{Lower}
 use Rattle.fop_events.specs.Events.{wordNumber, directiveNumber, lowerNumber, adNumber, bdNumber}
 use Rattle.sender.specs.declared.Answer.{Answer}
+use Rattle.sender.specs.declared.Event.{Event}
 use Rattle.sender.specs.Limits.{smallestStore}
 use Rattle.sender.specs.Answers.{Step, refusing, refusedStep, concluded}
-use Rattle.sender.specs.Events.{placeHanded, unitBefore, servedBy, served, mustBeUnit, added, unitOffered, offeredBy, bypassedBy, directiveOf, ticked, tickNumber, tickOf, lowerLayerOf, wordBy, controlWordOf}
+use Rattle.sender.specs.Events.{placeHanded, unitBefore, servedBy, served, mustBeUnit, added, unitOffered, offeredBy, bypassedBy, directiveOf, ticked, tickNumber, tickOf, lowerLayerOf, wordBy, controlWordOf, eventOf}
 use Rattle.sender.proofs.Steps.{Told, check, no-check, Meets, Writes, handing, holds, fails, same-step, refuses, stored-same, step-done, step-refused}
 
 -- an event that offers no unit: the frame of the unit that stood behind the units confirmed
@@ -178,3 +179,8 @@ module _ (event : ℕ) (s : SenderState) (w : Work) (o store output : List ℕ) 
   pub offered-refused : (a .refusal ≡ 0 → ⊥) → Meets a store out (offeredBy event s w o store output)
   unfolding offeredBy
   offered-refused = step-refused event s w x a (unitOffered s w o store) (unitOffered s w o store) out changed store output refl written told
+
+-- the event told picks the step
+pub event-told : (x : Event) (octets : List ℕ) (s : SenderState) (store output : List ℕ) {y : Event} {a : Answer} {new out : List ℕ} → x ≡ y
+    → Meets a new out (eventOf y octets s store output) → Meets a new out (eventOf x octets s store output)
+event-told x octets s store output p m = same-step (ap (λ (z : Event). eventOf z octets s store output) p) m

@@ -25,6 +25,8 @@ use Rattle.fop_actions.specs.View.{unitAt, without}
 use Rattle.fop_rows.specs.Rows.{rowNumbered, inMain}
 use Rattle.fop_events.specs.declared.Lower.{Lower}
 use Rattle.fop_events.specs.Events.{wordNumber, directiveNumber, expiryNumber, adNumber, bdNumber, lowerNumber}
+use Rattle.sender.specs.declared.Event.{Event}
+use Rattle.sender.specs.declared.Event.the-variants as event
 use Rattle.sender.specs.Limits.{smallestStore}
 use Rattle.sender.specs.Answers.{Step, refusedStep, stepBy}
 
@@ -133,3 +135,12 @@ wordBy reading.Length s store output = refusedStep 10 s store output
 -- a control word, any octets
 unfoldable pub controlWordOf : List ℕ → SenderState → List ℕ → List ℕ → Step
 controlWordOf octets s store output = wordBy (readingOf octets (s .settings .channel)) s store output
+
+-- any event, with the octets lent beside it: the unit of a request, or the control word; the others bring none
+unfoldable pub eventOf : Event → List ℕ → SenderState → List ℕ → List ℕ → Step
+eventOf event.RequestAd octets s store output = requestAdOf s octets store output
+eventOf event.RequestBd octets s store output = requestBdOf s octets store output
+eventOf event.Tick octets s store output = tickOf s store output
+eventOf (event.LowerLayer l) octets s store output = lowerLayerOf l s store output
+eventOf (event.Directive d v) octets s store output = directiveOf d v s store output
+eventOf event.ControlWord octets s store output = controlWordOf octets s store output

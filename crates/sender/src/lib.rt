@@ -50,7 +50,7 @@ ghost use Rattle.sender.specs.Answers.{concluded};
 ghost use Rattle.sender.specs.Limits.{smallestStore};
 ghost use Rattle.sender.specs.Start.{refusedStart, startingOf};
 ghost use Rattle.sender.specs.State.{restoredOf};
-ghost use Rattle.sender.specs.Events.{handedWriting, unitOffered, servedBy, served, mustBeUnit, offeredBy, added, ticked, tickNumber, requestAdOf, requestBdOf, directiveOf, tickOf, lowerLayerOf, controlWordOf};
+ghost use Rattle.sender.specs.Events.{handedWriting, unitOffered, servedBy, served, mustBeUnit, offeredBy, added, ticked, tickNumber, requestAdOf, requestBdOf, directiveOf, tickOf, lowerLayerOf, controlWordOf, eventOf};
 
 // Document 01: a place for each sent unit of the largest K, and one for the unit waiting.
 pub const SMALLEST_STORE: usize = LARGEST_UNIT * PLACES;
@@ -74,6 +74,16 @@ pub enum FrameKind {
     Bd,
     Unlock,
     SetVr,
+}
+
+// An event of the sender (crate fop, specs/Events, `SenderEvent`). The unit of a request and a control word are octets, lent beside it.
+pub enum Event {
+    RequestAd,
+    RequestBd,
+    Tick,
+    LowerLayer(Lower),
+    Directive { number: u8, value: u16 },
+    ControlWord,
 }
 
 // The answer to an event: document 01's refusal (0 for done); the event's number in table 7-8 (0 where it is none); the next state; the count
@@ -421,6 +431,22 @@ impl Sender {
             WordReading::Invalid => serve(sender, sender, 15, 0, store, output),
             WordReading::Address => refused(sender, 7),
             WordReading::Length => refused(sender, 10),
+        }
+    }
+
+    // Any event; `octets` is the unit or the control word that it brings.
+    pub fn event(self, event: Event, octets: &[u8], store: &mut [u8], output: &mut [u8]) -> Answer
+        ensures answer { λ r. ⌜ r ≡ eventOf event (now (octets .entry)) (self .fop) (now (store .entry)) (now (output .entry)) .answer ⌝ }
+        ensures store { λ r. ⌜ now (store .exit) ≡ eventOf event (now (octets .entry)) (self .fop) (now (store .entry)) (now (output .entry)) .store ⌝ }
+        ensures output { λ r. ⌜ now (output .exit) ≡ eventOf event (now (octets .entry)) (self .fop) (now (store .entry)) (now (output .entry)) .output ⌝ }
+    {
+        match event {
+            Event::RequestAd => self.request_ad(octets, store, output),
+            Event::RequestBd => self.request_bd(octets, store, output),
+            Event::Tick => self.tick(store, output),
+            Event::LowerLayer(answer) => self.lower_layer(answer, store, output),
+            Event::Directive { number, value } => self.directive(number, value, store, output),
+            Event::ControlWord => self.control_word(octets, store, output),
         }
     }
 }
