@@ -1,4 +1,4 @@
--- A directive's number and value narrowed on the way to the sender (crate boundary, specs/Senders): the sender's step is the same. A directive that
+-- A directive's number and value narrowed on the way to the sender (crate boundary_sender): the sender's step is the same. A directive that
 -- is invalid stays invalid; and the rows of a directive that has no use for its value never look at it.
 use Prim.Native.Nat.{ℕ, _<_}
 use mathlib.Core.Path.{_≡_, refl, sym, ap, _∙_}
@@ -26,8 +26,8 @@ use Rattle.sender.specs.Limits.{smallestStore}
 use Rattle.sender.specs.Events.{servedBy, served, directiveOf}
 use Rattle.ends.proofs.Numbers.{row-event}
 use Rattle.ends.proofs.Meets.{invalid-is-40}
-use Rattle.boundary.specs.Numbers.{largestOctet, largestPair, narrow}
-use Rattle.boundary.specs.Senders.{usesValue, narrowNumber, narrowValue}
+use Rattle.boundary_numbers.specs.Numbers.{largestOctet, largestPair, narrow}
+use Rattle.boundary_sender.specs.Senders.{usesValue, narrowNumber, narrowValue}
 
 -- a test that fails makes both fail
 and-false : (a b : Bool) → b ≡ false → (a && b) ≡ false

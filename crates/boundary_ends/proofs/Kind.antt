@@ -37,7 +37,7 @@ use Rattle.sender.specs.Answers.{kindHanded, answered, refusing, Step, stepBy, 
 use Rattle.sender.specs.Events.{handedWriting}
 use Rattle.sender_octets.specs.Kept.{stateIn}
 use Rattle.sender_octets.specs.Answer.{kindNumber, Told}
-use Rattle.boundary.specs.Senders.{Called}
+use Rattle.boundary_sender.specs.Senders.{Called}
 use Rattle.ends.specs.Ours.{stepOf, handedDown}
 use Rattle.boundary_ends.specs.Called.{callOf, answerCalled, heldIn}
 use Rattle.boundary_ends.specs.Kind.{frameNumber, kindCalled, KindTold}

@@ -47,7 +47,7 @@ use Rattle.farm.proofs.Kept.{WellFormed, receive-well, release-well, word-writt
 use Rattle.farm.proofs.Restored.{receiver-back, octets-back, restored-well}
 use Rattle.session.specs.Receiver.{ReceiverEvent, frameArrives, releaseBuffer, ReceiverAnswer, receiverNext, afterRelease, handedOut, releaseAnswer, receiverAnswer, wordLength, wordTold, receiverWord}
 use Rattle.session.specs.Ends.{Settings, Within, startReceiver}
-use Rattle.boundary.specs.Receivers.{unitNumber, unitPlace, Frame, received, frameCall, Release, releasedBy, releaseCall, wordCall}
+use Rattle.boundary_receiver.specs.Receivers.{unitNumber, unitPlace, Frame, received, frameCall, Release, releasedBy, releaseCall, wordCall}
 use Rattle.boundary_ends.specs.Called.{eventNumbered, unitCalled, receiverCalled, receiverAfter, wordWritten}
 
 -- V(R) set aside

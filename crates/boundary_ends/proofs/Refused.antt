@@ -35,9 +35,9 @@ use Rattle.sender.specs.Events.{lowerLayerOf}
 use Rattle.sender_octets.specs.Kept.{stateOctets, octetsOf, stateIn, isState, senderIn}
 use Rattle.sender_octets.specs.Answer.{answerOctets}
 use Rattle.sender_octets.proofs.Back.{state-only, refused-no-state}
-use Rattle.boundary.specs.Receivers as receiver
-use Rattle.boundary.specs.Senders as sender
-use Rattle.boundary.specs.Senders.{Called, refusedCall, doneCall, calledBy, lowerNumbered, narrowNumber, narrowValue, startedCall, startGiven}
+use Rattle.boundary_receiver.specs.Receivers as receiver
+use Rattle.boundary_sender.specs.Senders as sender
+use Rattle.boundary_sender.specs.Senders.{Called, refusedCall, doneCall, calledBy, lowerNumbered, narrowNumber, narrowValue, startedCall, startGiven}
 use Rattle.boundary_ends.specs.Refused.{Unchanged, RefusedKeeps}
 use Rattle.boundary_ends.proofs.Ways.{Way, refused-same, asks-ad, asks-bd, directs, ticks, lowers, words}
 use Rattle.boundary_ends.proofs.Sender.{placed-whole, reached}

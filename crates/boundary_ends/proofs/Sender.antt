@@ -35,7 +35,7 @@ use Rattle.sender_octets.specs.Answer.{answerOctets, octetsOfAnswer, Told, told
 use Rattle.sender_octets.proofs.Judged.{length-octets}
 use Rattle.sender_octets.proofs.Back.{Sized, read-back, octets-back, state-only}
 use Rattle.sender_octets.proofs.Answered.{Fits, answer-back}
-use Rattle.boundary.specs.Senders.{Called, refusedCall, doneCall, calledBy, requestAdCall, requestBdCall, tickCall, wordCall, lowerCall, directiveCall, narrowNumber, narrowValue}
+use Rattle.boundary_sender.specs.Senders.{Called, refusedCall, doneCall, calledBy, requestAdCall, requestBdCall, tickCall, wordCall, lowerCall, directiveCall, narrowNumber, narrowValue}
 use Rattle.ends.specs.Ours.{Held, stepOf, lowerAnswer, heldAfter, handedDown, answerBy, lentOutput, reads}
 use Rattle.ends.specs.Does.{Does}
 use Rattle.ends.proofs.Events.{does}

@@ -31,8 +31,8 @@ use Rattle.sender.specs.Limits.{smallestStore}
 use Rattle.sender.specs.Start.{startingOf}
 use Rattle.sender_octets.specs.Kept.{stateOctets, octetsOf, isState}
 use Rattle.sender_octets.proofs.Judged.{length-octets}
-use Rattle.boundary.specs.Senders as sender
-use Rattle.boundary.specs.Receivers as receiver
+use Rattle.boundary_sender.specs.Senders as sender
+use Rattle.boundary_receiver.specs.Receivers as receiver
 use Rattle.ends.specs.Ours.{Held, stepOf, heldAfter, lentOutput, senderSettings, freshHeld, startHeld, reads, Begins}
 use Rattle.ends.proofs.Theorem.{fresh-good, fresh-begins, receiver-starts}
 use Rattle.boundary_ends.specs.Called.{Kept, heldIn, BeginsKept, called}

@@ -1,5 +1,5 @@
 -- Our two ends as callers in C and Rust have them: states as octets that the caller keeps, answers as octets and numbers. Each event of the
--- session is one call, by the definition that the exported function equals (crate boundary, specs/Senders and Receivers).
+-- session is one call, by the definition that the exported function equals (crates boundary_sender and boundary_receiver).
 use Prim.Native.Nat.{ℕ}
 use mathlib.Core.Path.{_≡_}
 use mathlib.Core.Bool.{true}
@@ -23,8 +23,8 @@ use Rattle.session.specs.Ends.{Settings, Ends, startReceiver}
 use Rattle.sender.specs.Answers.{refusedStep}
 use Rattle.sender_octets.specs.Kept.{isState, stateIn}
 use Rattle.sender_octets.specs.Answer.{answerOctets, answerIn}
-use Rattle.boundary.specs.Senders.{Called, calledBy, requestAdCall, requestBdCall, tickCall, wordCall, lowerCall, directiveCall}
-use Rattle.boundary.specs.Receivers as receiver
+use Rattle.boundary_sender.specs.Senders.{Called, calledBy, requestAdCall, requestBdCall, tickCall, wordCall, lowerCall, directiveCall}
+use Rattle.boundary_receiver.specs.Receivers as receiver
 use Rattle.ends.specs.Ours.{Held, Begins, handedDown, lentOutput}
 
 -- what a caller keeps of a sender: the octets of its state, and its store

@@ -8,8 +8,8 @@ use Rattle.farm.specs.Kept as farm
 use Rattle.session.specs.Ends.{Settings, Within, startReceiver}
 use Rattle.sender.specs.Limits.{smallestStore}
 use Rattle.sender_octets.specs.Kept.{stateOctets}
-use Rattle.boundary.specs.Senders as sender
-use Rattle.boundary.specs.Receivers as receiver
+use Rattle.boundary_sender.specs.Senders as sender
+use Rattle.boundary_receiver.specs.Receivers as receiver
 use Rattle.ends.specs.Ours.{lentOutput}
 use Rattle.boundary_ends.specs.Called.{Kept, callOf, keptAfter, BeginsKept}
 
