@@ -22,7 +22,7 @@ use Rattle.fop_rows.specs.Rows.{done, doneAll, doneCell, rowOf}
 use Rattle.fop_events.specs.Events.{eventNumber, directiveNumber}
 use Rattle.session.proofs.Choices.{by-pick, upto, _also_}
 use Rattle.sender.specs.Answers.{Step, refusedStep}
-use Rattle.sender.specs.Limits.{smallestStore}
+use Rattle.sender_frames.specs.Limits.{smallestStore}
 use Rattle.sender.specs.Events.{servedBy, served, directiveOf}
 use Rattle.ends.proofs.Numbers.{row-event}
 use Rattle.ends.proofs.Meets.{invalid-is-40}

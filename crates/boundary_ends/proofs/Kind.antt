@@ -34,7 +34,7 @@ use Rattle.fop_actions.specs.declared.Work.{Work}
 use Rattle.session.specs.Frames.{carried, byReading, read}
 use Rattle.session.proofs.Choices.{none-some}
 use Rattle.sender.specs.Answers.{kindHanded, answered, refusing, Step, stepBy, refusedStep}
-use Rattle.sender.specs.Events.{handedWriting}
+use Rattle.sender_frames.specs.Frames.{handedWriting}
 use Rattle.sender_octets.specs.Kept.{stateIn}
 use Rattle.sender_octets.specs.Answer.{kindNumber, Told}
 use Rattle.boundary_sender.specs.Senders.{Called}

@@ -27,7 +27,8 @@ use Rattle.fop_events.specs.declared.Lower.{Lower}
 use Rattle.fop_view.specs.State.{Good}
 use Rattle.sender.specs.declared.Answer.{Answer as SenderAnswer}
 use Rattle.sender.specs.declared.Start.{Start}
-use Rattle.sender.specs.State.{wellFormed, restoredOf}
+use Rattle.sender_state.specs.State.{wellFormed}
+use Rattle.sender.specs.Start.{restoredOf}
 use Rattle.sender.specs.Answers.{Step, refusedStep}
 use Rattle.sender.specs.Events.{requestAdOf, requestBdOf, directiveOf, tickOf, lowerLayerOf, controlWordOf}
 use Rattle.sender_octets.specs.Kept.{stateOctets, octetsOf, stateIn, isState, senderIn}

@@ -27,7 +27,7 @@ use Rattle.session.specs.Claims.{Claims}
 use Rattle.session.proofs.Theorem.{demand3}
 use Rattle.session.proofs.Strong.{stronger-claims}
 use Rattle.sender.specs.declared.Start.{Start}
-use Rattle.sender.specs.Limits.{smallestStore}
+use Rattle.sender_frames.specs.Limits.{smallestStore}
 use Rattle.sender.specs.Start.{startingOf}
 use Rattle.sender_octets.specs.Kept.{stateOctets, octetsOf, isState}
 use Rattle.sender_octets.proofs.Judged.{length-octets}

@@ -28,8 +28,9 @@ use Rattle.fop_events.specs.declared.Lower.{Lower}
 use Rattle.fop_events.specs.Events.{wordNumber, directiveNumber, adNumber, bdNumber, lowerNumber}
 use Rattle.sender.specs.declared.Answer.{Answer}
 use Rattle.sender.specs.Answers.{noResponses, answered, refusing, concluded, Step, stepBy, refusedStep}
-use Rattle.sender.specs.Limits.{smallestStore}
-use Rattle.sender.specs.Events.{handedWriting, unitBefore, unitOffered, added, servedBy, served, offeredBy, bypassedBy, mustBeUnit, requestAdOf, requestBdOf, directiveOf, ticked, tickNumber, tickOf, lowerLayerOf, wordBy, controlWordOf}
+use Rattle.sender_frames.specs.Limits.{smallestStore}
+use Rattle.sender_frames.specs.Frames.{handedWriting, unitBefore, unitOffered, mustBeUnit}
+use Rattle.sender.specs.Events.{added, servedBy, served, offeredBy, bypassedBy, requestAdOf, requestBdOf, directiveOf, ticked, tickNumber, tickOf, lowerLayerOf, wordBy, controlWordOf}
 use Rattle.sender_octets.proofs.Answered.{Fits, down-fits}
 use Rattle.boundary_ends.proofs.Responses.{Four, with-four, four}
 

@@ -6,7 +6,7 @@ use lib.ListN.{length}
 use Rattle.fop.specs.Events.{directive}
 use Rattle.farm.specs.Kept as farm
 use Rattle.session.specs.Ends.{Settings, Within, startReceiver}
-use Rattle.sender.specs.Limits.{smallestStore}
+use Rattle.sender_frames.specs.Limits.{smallestStore}
 use Rattle.sender_octets.specs.Kept.{stateOctets}
 use Rattle.boundary_sender.specs.Senders as sender
 use Rattle.boundary_receiver.specs.Receivers as receiver

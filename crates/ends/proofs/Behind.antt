@@ -14,7 +14,7 @@ use Rattle.fop.specs.Events.{SenderEvent}
 use Rattle.fop_actions.specs.Start.{begun}
 use Rattle.fop_view.specs.State.{Good}
 use Rattle.sender.specs.Answers.{stored}
-use Rattle.sender.specs.Limits.{smallestStore}
+use Rattle.sender_frames.specs.Limits.{smallestStore}
 use Rattle.ends.specs.Ours.{Held, stepOf}
 use Rattle.ends.proofs.Steps.{Left, same, fewer, more, concluded}
 

@@ -42,8 +42,9 @@ use Rattle.fop_view.specs.Rows.{brings, Meets, isOffering}
 use Rattle.session.proofs.Test.{first-all}
 use Rattle.session.proofs.Octets.{octets-are}
 use Rattle.sender.specs.Answers.{Step, stepBy, refusedStep}
-use Rattle.sender.specs.Limits.{smallestStore}
-use Rattle.sender.specs.Events.{handedWriting, servedBy, served, offeredBy, bypassedBy, requestAdOf, requestBdOf, directiveOf, ticked, tickOf, lowerLayerOf, wordBy, controlWordOf}
+use Rattle.sender_frames.specs.Limits.{smallestStore}
+use Rattle.sender_frames.specs.Frames.{handedWriting}
+use Rattle.sender.specs.Events.{servedBy, served, offeredBy, bypassedBy, requestAdOf, requestBdOf, directiveOf, ticked, tickOf, lowerLayerOf, wordBy, controlWordOf}
 use Rattle.ends.specs.Ours.{Held, stepOf, lowerAnswer, answerBy, lentOutput, reads}
 use Rattle.ends.specs.Does.{Does}
 use Rattle.ends.proofs.Numbers.{row-event}

@@ -25,9 +25,10 @@ use Rattle.fop_actions.specs.Parts as parts
 use Rattle.fop_actions.specs.Start as start
 use Rattle.fop_rows.specs.Rows as rows
 use Rattle.fop_events.specs.Events as number
-use Rattle.sender.specs.Limits.{smallestStore}
+use Rattle.sender_frames.specs.Limits.{smallestStore}
 use Rattle.sender.specs.Answers as answers
 use Rattle.sender.specs.Start as starting
+use Rattle.sender_frames.specs.Frames as frames
 use Rattle.sender.specs.Events as sender
 use Rattle.ends.specs.Ours.{Held, senderSettings, lentOutput, stepOf, heldAfter, freshHeld, heldAfterAll, startHeld, reads, Begins, ours}
 use Rattle.ends.proofs.Theorem.{nextAll, begins-after, fresh-good, fresh-reads}
@@ -48,7 +49,7 @@ units = record { ns = 254; octets = 17 ∷ [] } ∷ record { ns = 255; octets = 
 
 -- to unfold this is to unfold every definition that our two ends compute with
 unfoldable pub computingOurs : Unit {0}
-unfolding computing rawWriting freshHeld stepOf starting.startingOf start.startOf start.noneTold start.begun start.senderOf sender.handedWriting sender.servedBy
+unfolding computing rawWriting freshHeld stepOf starting.startingOf start.startOf start.noneTold start.begun start.senderOf frames.handedWriting sender.servedBy
     sender.served sender.offeredBy sender.requestAdOf sender.directiveOf sender.tickOf sender.lowerLayerOf sender.controlWordOf answers.answered
     answers.refusing number.wordNumber number.directiveNumber number.expiryNumber number.adNumber number.lowerNumber rows.done rows.doneAll rows.doneCell
     rows.rowOf rows.eventOf rows.rowIf rows.rowNumbered parts.withSettings parts.withVariables parts.withQueues parts.withTold act.toState act.startTimer

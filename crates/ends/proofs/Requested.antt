@@ -36,7 +36,8 @@ use Rattle.fop_view.proofs.Allowed.{in-states}
 use Rattle.session.proofs.Choices.{never}
 use Rattle.fop_view.proofs.Theorem.{row-view, row-lengths, row-few}
 use Rattle.sender.specs.Answers.{stepBy}
-use Rattle.sender.specs.Events.{handedWriting, placeHanded, unitOffered, offeredBy, bypassedBy}
+use Rattle.sender_frames.specs.Frames.{handedWriting, placeHanded, unitOffered}
+use Rattle.sender.specs.Events.{offeredBy, bypassedBy}
 use Rattle.ends.specs.Ours.{lentOutput}
 use Rattle.ends.proofs.Writing.{Fits, Carries}
 use Rattle.ends.proofs.Concluding.{Agrees}

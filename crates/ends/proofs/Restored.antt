@@ -1,4 +1,4 @@
--- The test by which a kept state is restored (crate sender, specs/State) holds of every state that a sender can reach, and a state of which it
+-- The test by which a kept state is restored (crate sender_state) holds of every state that a sender can reach, and a state of which it
 -- holds is well-formed: the test is the conjunction of what every event keeps. A start with any two numbers is well-formed.
 use Prim.Native.Nat.{ℕ, zero, suc, _≤_, _<_}
 use mathlib.Core.Path.{_≡_, refl, sym, ap, subst}
@@ -24,9 +24,8 @@ use Rattle.fop_actions.specs.Limits.{places}
 use Rattle.fop_actions.specs.Start.{startOf, begun}
 use Rattle.fop_rows.specs.Rows.{inMain, isFrame}
 use Rattle.fop_view.specs.State.{Good, held, withFrame}
-use Rattle.sender.specs.Limits.{smallestStore}
-use Rattle.sender.specs.Start.{settingsHold}
-use Rattle.sender.specs.State.{unitsHeld, numbersHold, isEmpty, stateHolds, lengthsHold, wellFormed}
+use Rattle.sender_frames.specs.Limits.{smallestStore}
+use Rattle.sender_state.specs.State.{settingsHold, unitsHeld, numbersHold, isEmpty, stateHolds, lengthsHold, wellFormed}
 
 -- two tests that hold
 joined : (a b : Bool) → a ≡ true → b ≡ true → both a b ≡ true

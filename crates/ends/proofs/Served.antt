@@ -26,7 +26,8 @@ use Rattle.fop_events.specs.Events.{eventNumber}
 use Rattle.fop_view.specs.State.{Good, held}
 use Rattle.fop_view.specs.Rows.{Brings, brings, Meets, Shows, storeBy, lengthsBy, isOffering}
 use Rattle.fop_view.proofs.Theorem.{row-view, row-lengths, row-few}
-use Rattle.sender.specs.Events.{placeHanded, unitBefore, servedBy}
+use Rattle.sender_frames.specs.Frames.{placeHanded, unitBefore}
+use Rattle.sender.specs.Events.{servedBy}
 use Rattle.ends.specs.Ours.{lentOutput}
 use Rattle.ends.proofs.Writing.{Fits, Carries}
 use Rattle.ends.proofs.Concluding.{Agrees}

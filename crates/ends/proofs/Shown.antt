@@ -26,7 +26,7 @@ use Rattle.fop_events.specs.Events.{eventNumber}
 use Rattle.fop_view.specs.State.{Good, held}
 use Rattle.fop_view.specs.Rows.{Shows}
 use Rattle.sender.specs.Answers.{stepBy}
-use Rattle.sender.specs.Events.{handedWriting}
+use Rattle.sender_frames.specs.Frames.{handedWriting}
 use Rattle.ends.specs.Ours.{lentOutput}
 use Rattle.ends.proofs.Numbers.{number-event}
 use Rattle.ends.proofs.Writing.{Fits, fitting, unit-fits, Carries, handed-fits}

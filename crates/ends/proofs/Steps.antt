@@ -23,8 +23,9 @@ use Rattle.fop_actions.specs.View.{without}
 use Rattle.fop_rows.specs.Rows.{rowNumbered}
 use Rattle.fop_events.specs.Events.{wordNumber, directiveNumber, adNumber, bdNumber, lowerNumber}
 use Rattle.sender.specs.Answers.{Step, stepBy, refusedStep}
-use Rattle.sender.specs.Limits.{smallestStore}
-use Rattle.sender.specs.Events.{handedWriting, unitBefore, unitOffered, added, servedBy, served, offeredBy, bypassedBy, mustBeUnit, requestAdOf, requestBdOf, directiveOf, ticked, tickNumber, tickOf, lowerLayerOf, wordBy, controlWordOf}
+use Rattle.sender_frames.specs.Limits.{smallestStore}
+use Rattle.sender_frames.specs.Frames.{handedWriting, unitBefore, unitOffered, mustBeUnit}
+use Rattle.sender.specs.Events.{added, servedBy, served, offeredBy, bypassedBy, requestAdOf, requestBdOf, directiveOf, ticked, tickNumber, tickOf, lowerLayerOf, wordBy, controlWordOf}
 use Rattle.ends.specs.Ours.{Held, stepOf, lowerAnswer}
 
 -- the store that is left where the step is done: as it was, without its oldest units, or with the unit offered

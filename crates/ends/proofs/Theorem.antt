@@ -30,8 +30,9 @@ use Rattle.session.specs.Session.{Event, begins, run}
 use Rattle.session.specs.Claims.{Claims}
 use Rattle.session.proofs.Theorem.{demand3}
 use Rattle.session.proofs.Strong.{stronger-claims}
-use Rattle.sender.specs.Limits.{smallestStore}
-use Rattle.sender.specs.Start.{startingOf, settingsHold}
+use Rattle.sender_frames.specs.Limits.{smallestStore}
+use Rattle.sender_state.specs.State.{settingsHold}
+use Rattle.sender.specs.Start.{startingOf}
 use Rattle.ends.specs.Ours.{Held, lentOutput, senderSettings, freshHeld, heldAfterAll, startHeld, reads, Begins, ours}
 use Rattle.ends.specs.Demand.{Demand3, StrongerOurs}
 use Rattle.ends.specs.Does.{Demand2}

@@ -23,8 +23,8 @@ use Rattle.fop_actions.specs.declared.Settings.{Settings}
 use Rattle.fop_actions.specs.declared.Handed.{Handed}
 use Rattle.fop_actions.specs.declared.Handed.the-variants as handed
 use Rattle.fop_actions.specs.View.{unitAt, framesOf}
-use Rattle.sender.specs.Events.{handedWriting}
-use Rattle.sender.specs.Limits.{smallestStore}
+use Rattle.sender_frames.specs.Frames.{handedWriting}
+use Rattle.sender_frames.specs.Limits.{smallestStore}
 
 -- the octets of a frame, none where there is none
 abbrev pub octetsIn : Option (List ℕ) → List ℕ

@@ -1,5 +1,5 @@
 -- Each way through an event of the sender, in the form in which a `return` asks it.
-use mathlib.Core.Path.{_≡_, refl, sym, ap, ap₂, _∙_}
+use mathlib.Core.Path.{_≡_, sym, ap, ap₂, _∙_}
 use mathlib.Core.Bool.{Bool, true, false}
 use mathlib.Core.List.{List}
 use Prim.Native.Nat.{ℕ, _+_, _*_, _<_, _≤_}
@@ -22,31 +22,29 @@ use Rattle.fop_actions.specs.declared.State.{State}
 use Rattle.fop_actions.specs.declared.SenderState.{SenderState}
 use Rattle.fop_actions.specs.declared.Work.{Work}
 use Rattle.fop_actions.specs.Start.{begun}
-use Rattle.fop_actions.specs.View.{unitAt, without}
+use Rattle.fop_actions.specs.View.{without}
 use Rattle.fop_rows.specs.Rows.{rowNumbered, inMain}
 use Rattle.fop_events.specs.declared.Lower.{Lower}
 use Rattle.fop_events.specs.Events.{wordNumber, directiveNumber, lowerNumber, adNumber, bdNumber}
+use Rattle.sender_frames.specs.Limits.{smallestStore}
+use Rattle.sender_frames.specs.Frames.{unitBefore, mustBeUnit, unitOffered}
+use Rattle.sender_frames.proofs.Written.{Writes}
 use Rattle.sender.specs.declared.Answer.{Answer}
 use Rattle.sender.specs.declared.Event.{Event}
-use Rattle.sender.specs.Limits.{smallestStore}
 use Rattle.sender.specs.Answers.{Step, refusing, refusedStep, concluded}
-use Rattle.sender.specs.Events.{placeHanded, unitBefore, servedBy, served, mustBeUnit, added, unitOffered, offeredBy, bypassedBy, directiveOf, ticked, tickNumber, tickOf, lowerLayerOf, wordBy, controlWordOf, eventOf}
-use Rattle.sender.proofs.Steps.{Told, check, no-check, Meets, Writes, handing, holds, fails, same-step, refuses, stored-same, step-done, step-refused}
+use Rattle.sender.specs.Events.{servedBy, served, added, offeredBy, bypassedBy, directiveOf, ticked, tickNumber, tickOf, lowerLayerOf, wordBy, controlWordOf, eventOf}
+use Rattle.sender.proofs.Steps.{Told, check, no-check, Meets, handing, holds, fails, same-step, refuses, stored-same, step-done, step-refused}
 
 -- an event that offers no unit: the frame of the unit that stood behind the units confirmed
-module _ (event : ℕ) (s : SenderState) (w : Work) (store output : List ℕ) (x : FrameWritten) {place : ℕ} {unit out : List ℕ} {a : Answer}
-    (at-place : place ≡ placeHanded (w .told .handed) + w .told .confirmed .count) (of-unit : unit ≡ unitAt (s .queues .lengths) place store)
-    (written : Writes x out (handing s w unit output) output) (told : a ≡ concluded event s w (writtenAnswer x)) where
-  behind : unit ≡ unitBefore s w store
-  behind = of-unit ∙ ap (λ (p : ℕ). unitAt (s .queues .lengths) p store) at-place
-
+module _ (event : ℕ) (s : SenderState) (w : Work) (store output : List ℕ) (x : FrameWritten) {out : List ℕ} {a : Answer}
+    (written : Writes x out (handing s w (unitBefore s w store) output) output) (told : a ≡ concluded event s w (writtenAnswer x)) where
   pub served-done : {new : List ℕ} → a .refusal ≡ 0 → new ≡ without (w .told .confirmed .count) store → Meets a new out (servedBy event s w store output)
   unfolding servedBy
-  served-done {new} = step-done event s w x a (unitBefore s w store) unit out (without (w .told .confirmed .count) store) store output behind written told new
+  served-done {new} = step-done event s w x a (unitBefore s w store) out (without (w .told .confirmed .count) store) store output written told new
 
   pub served-refused : (a .refusal ≡ 0 → ⊥) → Meets a store out (servedBy event s w store output)
   unfolding servedBy
-  served-refused = step-refused event s w x a (unitBefore s w store) unit out (without (w .told .confirmed .count) store) store output behind written told
+  served-refused = step-refused event s w x a (unitBefore s w store) out (without (w .told .confirmed .count) store) store output written told
 
 -- by the event's row
 module _ (event n : ℕ) (s g : SenderState) (store output : List ℕ) {a : Answer} where
@@ -145,15 +143,6 @@ bd-row s o store output {w = w} p q r m =
     same-step (sym (ap₂ (λ (k : ℕ) (v : Work). bypassedBy k s v o store output) p (r ∙ ap₂ (λ (k : ℕ) (v : Work). rowNumbered k 0 0 v) p q)))
     (m .0, (stored-same (answer (handing s w o output)) store, m .1))
 
--- the unit that an AD request hands down
-module _ (s : SenderState) (w : Work) (o store : List ℕ) {place : ℕ} (at-place : place ≡ placeHanded (w .told .handed)) where
-  pub offered-newest : place ≡ s .queues .sent → o ≡ unitOffered s w o store
-  offered-newest h = sym (yes _ _ _ (eq-eqb _ _ (sym at-place ∙ h)))
-
-  pub offered-older : {unit : List ℕ} → (place ≡ s .queues .sent → ⊥) → unit ≡ unitAt (s .queues .lengths) place store → unit ≡ unitOffered s w o store
-  offered-older h e =
-      e ∙ ap (λ (p : ℕ). unitAt (s .queues .lengths) p store) at-place ∙ sym (no _ _ _ (ne-eqb _ _ (λ p. h (at-place ∙ p))))
-
 -- the event and the state pick whether the unit is added
 pub adds-told : (event : ℕ) (s : SenderState) {k : State} → event ≡ 19 → s .state ≡ k → inMain k ≡ added event s
 adds-told event s p q = sym (ap (λ (b : Bool). both b (inMain (s .state))) (eq-eqb event 19 p) ∙ ap inMain q)
@@ -168,17 +157,17 @@ module _ (event : ℕ) (s : SenderState) (w : Work) (o store output : List ℕ) 
       → new ≡ placed store (largestUnit * b .queues .sent) o → Meets a new out (offeredBy event s w o store output)
   unfolding offeredBy begun
   offered-added {new} z p q e f =
-      step-done event s w x a (unitOffered s w o store) (unitOffered s w o store) out changed store output refl written told new z
+      step-done event s w x a (unitOffered s w o store) out changed store output written told new z
       (f ∙ ap (λ (v : Work). placed store (largestUnit * v .queues .sent) o) e ∙ sym (yes _ _ _ (sym p ∙ q)))
 
   pub offered-not-added : {t : Bool} → a .refusal ≡ 0 → t ≡ added event s → t ≡ false → Meets a store out (offeredBy event s w o store output)
   unfolding offeredBy
   offered-not-added z p q =
-      step-done event s w x a (unitOffered s w o store) (unitOffered s w o store) out changed store output refl written told store z (sym (no _ _ _ (sym p ∙ q)))
+      step-done event s w x a (unitOffered s w o store) out changed store output written told store z (sym (no _ _ _ (sym p ∙ q)))
 
   pub offered-refused : (a .refusal ≡ 0 → ⊥) → Meets a store out (offeredBy event s w o store output)
   unfolding offeredBy
-  offered-refused = step-refused event s w x a (unitOffered s w o store) (unitOffered s w o store) out changed store output refl written told
+  offered-refused = step-refused event s w x a (unitOffered s w o store) out changed store output written told
 
 -- the event told picks the step
 pub event-told : (x : Event) (octets : List ℕ) (s : SenderState) (store output : List ℕ) {y : Event} {a : Answer} {new out : List ℕ} → x ≡ y

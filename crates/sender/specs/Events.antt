@@ -1,54 +1,29 @@
 -- The events of the sender: "Sender events are judged 10, 12, 7, 11, then by the table." The rows are crate fop_rows' (table 7-8), which row
--- it is crate fop_events', and the frame handed down is written by crate frame.
-use Prim.Native.Nat.{ℕ, _+_, _-_, _*_}
+-- it is crate fop_events', and the frame handed down crate sender_frames'.
+use Prim.Native.Nat.{ℕ, _-_, _*_}
 use mathlib.Core.Bool.{Bool}
-use mathlib.Core.List.{List, []}
+use mathlib.Core.List.{List}
 use lib.Dec.{leb, eqb}
 use lib.ListN.{length}
 use Rattle.base.specs.Choice.{pick, must, both}
 use Rattle.base.specs.Limits.{largestUnit}
-use Rattle.base.specs.Outcome.{Outcome, Outcome.done}
 use Rattle.memory.specs.Placed.{placed}
-use Rattle.frame.specs.Frame.{writing}
-use Rattle.frame.specs.declared.Kind.the-variants as kind
 use Rattle.clcw.specs.Answers.{readingOf}
 use Rattle.clcw.specs.declared.WordReading.{WordReading}
 use Rattle.clcw.specs.declared.WordReading.the-variants as reading
-use Rattle.fop_actions.specs.declared.Settings.{Settings}
-use Rattle.fop_actions.specs.declared.Handed.{Handed}
-use Rattle.fop_actions.specs.declared.Handed.the-variants as handed
 use Rattle.fop_actions.specs.declared.SenderState.{SenderState}
 use Rattle.fop_actions.specs.declared.Work.{Work}
 use Rattle.fop_actions.specs.Parts.{clocked}
 use Rattle.fop_actions.specs.Start.{begun}
-use Rattle.fop_actions.specs.View.{unitAt, without}
+use Rattle.fop_actions.specs.View.{without}
 use Rattle.fop_rows.specs.Rows.{rowNumbered, inMain}
 use Rattle.fop_events.specs.declared.Lower.{Lower}
 use Rattle.fop_events.specs.Events.{wordNumber, directiveNumber, expiryNumber, adNumber, bdNumber, lowerNumber}
+use Rattle.sender_frames.specs.Limits.{smallestStore}
+use Rattle.sender_frames.specs.Frames.{handedWriting, unitBefore, unitOffered, mustBeUnit}
 use Rattle.sender.specs.declared.Event.{Event}
 use Rattle.sender.specs.declared.Event.the-variants as event
-use Rattle.sender.specs.Limits.{smallestStore}
 use Rattle.sender.specs.Answers.{Step, refusedStep, stepBy}
-
--- the frame handed down, with the unit u of an AD or BD frame, into output of the length lent
-unfoldable pub handedWriting : Settings → Handed → List ℕ → ℕ → Outcome (Unit {0})
-handedWriting g handed.None u lent = done [] tt
-handedWriting g (handed.Ad n i) u lent = writing (g .spacecraft) (g .channel) (kind.Ad n) u lent
-handedWriting g handed.Bd u lent = writing (g .spacecraft) (g .channel) kind.Bd u lent
-handedWriting g handed.Unlock u lent = writing (g .spacecraft) (g .channel) kind.Unlock [] lent
-handedWriting g (handed.SetVr n) u lent = writing (g .spacecraft) (g .channel) (kind.SetVr n) [] lent
-
--- the place of the unit that is handed down, after the event
-abbrev pub placeHanded : Handed → ℕ
-placeHanded handed.None = 0
-placeHanded (handed.Ad n i) = i
-placeHanded handed.Bd = 0
-placeHanded handed.Unlock = 0
-placeHanded (handed.SetVr n) = 0
-
--- the unit that is handed down stood, before the event, behind the units that the event confirms
-abbrev pub unitBefore : SenderState → Work → List ℕ → List ℕ
-unitBefore s w store = unitAt (s .queues .lengths) (placeHanded (w .told .handed) + w .told .confirmed .count) store
 
 -- an event that offers no unit, by its number and the work on it: the units confirmed leave the store's front
 unfoldable pub servedBy : ℕ → SenderState → Work → List ℕ → List ℕ → Step
@@ -61,18 +36,9 @@ unfoldable pub served : ℕ → ℕ → SenderState → SenderState → List ℕ
 served event n s g store output =
     must (leb smallestStore (length store)) (refusedStep 11 s store output) (servedBy event s (rowNumbered event n 0 (begun g)) store output)
 
--- "Legal: within the limits": the length of a unit
-abbrev pub mustBeUnit : {A : Type 0} → List ℕ → A → A → A
-mustBeUnit o refusal on = must (leb 1 (length o)) refusal (must (leb (length o) largestUnit) refusal on)
-
 -- the unit offered is added to the Wait_Queue: E19 in S1 to S3
 abbrev pub added : ℕ → SenderState → Bool
 added event s = both (eqb event 19) (inMain (s .state))
-
--- the unit that an AD request hands down: the one offered, which would be the last of the sent ones, or an older one that is marked
-abbrev pub unitOffered : SenderState → Work → List ℕ → List ℕ → List ℕ
-unitOffered s w o store =
-    pick (eqb (placeHanded (w .told .handed)) (s .queues .sent)) o (unitAt (s .queues .lengths) (placeHanded (w .told .handed)) store)
 
 -- an AD request by its number and the work on it: the unit offered goes into the store behind the sent ones
 unfoldable pub offeredBy : ℕ → SenderState → Work → List ℕ → List ℕ → List ℕ → Step

@@ -4,23 +4,12 @@
 // same one each time and written by nobody else: one in each place of LARGEST_UNIT octets from offset 0 on, the oldest first, the unit
 // waiting behind the sent ones. The frame handed down to the lower layer is written at the front of the lent output. A refusal changes nothing.
 mod answers;
-mod frames;
-mod state;
 
 use crate::answers::conclude;
 use crate::answers::refused;
-use crate::frames::place_before;
-use crate::frames::place_handed;
-use crate::frames::remove;
-use crate::frames::unit_at;
-use crate::frames::write_handed;
-use crate::state::settings_hold;
-use crate::state::well_formed;
-use base::LARGEST_UNIT;
 use clcw::Clcw;
 use clcw::WordReading;
 use fop_actions::Alert;
-use fop_actions::PLACES;
 use fop_actions::Responses;
 use fop_actions::Run;
 use fop_actions::Settings;
@@ -37,23 +26,21 @@ use fop_events::expiry_event;
 use fop_events::lower_event;
 use fop_events::words::word_event;
 use fop_rows::row;
-use frame::writer::FrameWritten;
+use sender_frames::SMALLEST_STORE;
+use sender_frames::remove;
+use sender_frames::request_refusal;
+use sender_frames::write_handed;
+use sender_frames::write_offered;
+use sender_frames::write_stored;
+use sender_state::settings_hold;
+use sender_state::well_formed;
 ghost use mathlib.Core.Path.{_≡_};
-ghost use Prim.Native.Nat.{_≤_};
-ghost use lib.Dec.{leb};
 ghost use lib.ListN.{length};
-ghost use Rattle.base.specs.Choice.{must};
-ghost use Rattle.base.specs.Limits.{largestUnit};
 ghost use Rattle.base.specs.Outcome.{answer, after};
-ghost use Rattle.frame.specs.Answers.{writtenAnswer};
+ghost use Rattle.sender_frames.specs.Frames.{handedWriting};
 ghost use Rattle.sender.specs.Answers.{concluded};
-ghost use Rattle.sender.specs.Limits.{smallestStore};
-ghost use Rattle.sender.specs.Start.{refusedStart, startingOf};
-ghost use Rattle.sender.specs.State.{restoredOf};
-ghost use Rattle.sender.specs.Events.{handedWriting, unitOffered, servedBy, served, mustBeUnit, offeredBy, added, ticked, tickNumber, requestAdOf, requestBdOf, directiveOf, tickOf, lowerLayerOf, controlWordOf, eventOf};
-
-// Document 01: a place for each sent unit of the largest K, and one for the unit waiting.
-pub const SMALLEST_STORE: usize = LARGEST_UNIT * PLACES;
+ghost use Rattle.sender.specs.Start.{refusedStart, startingOf, restoredOf};
+ghost use Rattle.sender.specs.Events.{servedBy, served, offeredBy, added, ticked, tickNumber, requestAdOf, requestBdOf, directiveOf, tickOf, lowerLayerOf, controlWordOf, eventOf};
 
 // The sender's state. No other crate can write one: a start gives one, and each answer the next.
 pub struct Sender {
@@ -118,13 +105,8 @@ fn serve_work(
     ensures output { λ r. ⌜ now (output .exit) ≡ servedBy event sender work (now (store .entry)) (now (output .entry)) .output ⌝ }
 {
     let told = work.told;
-    let handed = told.handed;
     let count = told.confirmed.count;
-    let place = place_before(handed, count);
-    let lengths = sender.queues.lengths;
-    let settings = sender.settings;
-    let unit = unit_at(store, lengths, place);
-    let written = write_handed(settings, handed, unit, output);
+    let written = write_stored(sender, work, store, output);
     let answer = conclude(sender, event, work, written);
     if answer.refusal == 0 {
         remove(store, count);
@@ -193,29 +175,6 @@ fn offer_work(
     answer
 }
 
-// Writes the frame that an AD request hands down: of the unit offered, or of an older unit that is marked.
-fn write_offered(
-    sender: fop_actions::SenderState,
-    work: Work,
-    unit: &[u8],
-    store: &[u8],
-    output: &mut [u8],
-) -> FrameWritten
-    ensures answer { λ r. ⌜ writtenAnswer r ≡ answer (handedWriting (sender .settings) (work .told .handed) (unitOffered sender work (now (unit .entry)) (now (store .entry))) (length (now (output .entry)))) ⌝ }
-    ensures memory { λ r. ⌜ now (output .exit) ≡ after (handedWriting (sender .settings) (work .told .handed) (unitOffered sender work (now (unit .entry)) (now (store .entry))) (length (now (output .entry)))) (now (output .entry)) ⌝ }
-{
-    let told = work.told;
-    let handed = told.handed;
-    let settings = sender.settings;
-    let place = place_handed(handed);
-    if place == sender.queues.sent {
-        return write_handed(settings, handed, unit, output);
-    }
-    let lengths = sender.queues.lengths;
-    let older = unit_at(store, lengths, place as usize);
-    write_handed(settings, handed, older, output)
-}
-
 // A BD request, judged: the frame is written.
 fn bypass_work(
     sender: fop_actions::SenderState,
@@ -232,24 +191,6 @@ fn bypass_work(
     let settings = sender.settings;
     let written = write_handed(settings, handed, unit, output);
     conclude(sender, event, work, written)
-}
-
-// The refusal of a request, 0 where there is none: 10 for the length of its unit, then 11 for the lent store.
-fn request_refusal(unit: &[u8], store: &[u8]) -> u8
-    ensures number { λ r. ⌜ r ≡ mustBeUnit (now (unit .entry)) 10 (must (leb smallestStore (length (now (store .entry)))) 11 0) ⌝ }
-    ensures fits { λ r. ⌜ (r ≡ 0 → length (now (unit .entry)) ≤ largestUnit) ⌝ }
-{
-    let n = unit.len();
-    if n < 1 {
-        return 10;
-    }
-    if LARGEST_UNIT < n {
-        return 10;
-    }
-    if store.len() < SMALLEST_STORE {
-        return 11;
-    }
-    0
 }
 
 // The state after a tick lowered a running timer by one.

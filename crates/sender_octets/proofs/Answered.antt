@@ -24,7 +24,7 @@ use Rattle.fop_actions.specs.declared.SenderState.{SenderState}
 use Rattle.fop_actions.specs.declared.Settings.{Settings}
 use Rattle.fop_actions.specs.declared.Work.{Work}
 use Rattle.sender.specs.Answers.{answered, refusing, concluded}
-use Rattle.sender.specs.Events.{handedWriting}
+use Rattle.sender_frames.specs.Frames.{handedWriting}
 use Rattle.sender.specs.declared.Answer.{Answer}
 use Rattle.sender.specs.declared.FrameKind.{FrameKind}
 use Rattle.sender.specs.declared.FrameKind.the-variants as kind

@@ -17,7 +17,7 @@ use Rattle.fop_actions.specs.declared.State.the-variants as state
 use Rattle.fop_actions.specs.declared.Control.{Control}
 use Rattle.fop_actions.specs.declared.Control.the-variants as control
 use Rattle.fop_actions.specs.declared.SenderState.{SenderState}
-use Rattle.sender.specs.State.{wellFormed}
+use Rattle.sender_state.specs.State.{wellFormed}
 use Rattle.sender.specs.Start.{refusedStart}
 use Rattle.sender_octets.specs.Kept.{numberOctets, octetsOf, stateIn, isState, senderIn, stateNumber, stateNumbered, controlNumber, controlValue, controlNumbered, pairsFrom}
 use Rattle.sender_octets.proofs.Pairs.{pair-back, pairs-back}

@@ -11,8 +11,8 @@ use Rattle.base.proofs.Lists.{same-length-not}
 use Rattle.base.proofs.Tests.{no}
 use Rattle.fop_actions.specs.Limits.{places}
 use Rattle.fop_actions.specs.declared.SenderState.{SenderState}
-use Rattle.sender.specs.State.{wellFormed, restoredOf}
-use Rattle.sender.specs.Start.{refusedStart}
+use Rattle.sender_state.specs.State.{wellFormed}
+use Rattle.sender.specs.Start.{restoredOf, refusedStart}
 use Rattle.sender.specs.declared.Start.{Start}
 use Rattle.sender_octets.specs.Kept.{numberOctets, stateOctets, octetsOf, stateIn, isState, senderIn}
 use Rattle.sender_octets.proofs.Pairs.{length-pairs, length-from}

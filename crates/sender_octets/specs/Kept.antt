@@ -20,8 +20,8 @@ use Rattle.fop_actions.specs.declared.State.the-variants as state
 use Rattle.fop_actions.specs.declared.Control.{Control}
 use Rattle.fop_actions.specs.declared.Control.the-variants as control
 use Rattle.fop_actions.specs.declared.SenderState.{SenderState}
-use Rattle.sender.specs.State.{wellFormed, restoredOf}
-use Rattle.sender.specs.Start.{refusedStart}
+use Rattle.sender_state.specs.State.{wellFormed}
+use Rattle.sender.specs.Start.{restoredOf, refusedStart}
 use Rattle.sender.specs.declared.Start.{Start}
 
 -- the octets of a state before its lengths

@@ -4,14 +4,8 @@ use Rattle.sender.proofs.Judged.{served-done, served-refused}
 use Rattle.sender.proofs.serve_work.Statement.{statement}
 use Rattle.sender.proofs.serve_work.Tie as tie
 
-place-before-requires : tie.Need-place-before-requires
-place-before-requires c κs = search needs
-
-unit-at-requires : tie.Need-unit-at-requires
-unit-at-requires c κs = search needs
-
-write-handed-requires : tie.Need-write-handed-requires
-write-handed-requires c κs = search needs
+write-stored-requires : tie.Need-write-stored-requires
+write-stored-requires c κs = search needs
 
 conclude-requires : tie.Need-conclude-requires
 conclude-requires c κs = search needs
@@ -31,11 +25,9 @@ returns c =
     let t = r .before .before in
     let d = t .before .before in
     let w = d .before .before .before in
-    let u = w .before .before in
-    let p = u .before .before .before .before in
-    let a = p .before .before .before .before .args in
-    served-done (a .event) (a .sender) (a .work) (a .store .now) (a .output .now) (w .write-handed .result)
-    (p .place-before .ensures) (u .unit-at .ensures) (w .write-handed .ensures) (d .conclude .ensures) (t .if1 .taken) (r .remove .ensures)
+    let a = w .before .before .before .before .before .before .args in
+    served-done (a .event) (a .sender) (a .work) (a .store .now) (a .output .now) (w .write-stored .result)
+    (w .write-stored .ensures) (d .conclude .ensures) (t .if1 .taken) (r .remove .ensures)
 
 same-length-3 : tie.Need-same-length-3
 same-length-3 c = search needs
@@ -47,19 +39,15 @@ returns-2 : tie.Need-returns-2
 returns-2 c =
     let d = c .before .before in
     let w = d .before .before .before in
-    let u = w .before .before in
-    let p = u .before .before .before .before in
-    let a = p .before .before .before .before .args in
-    served-refused (a .event) (a .sender) (a .work) (a .store .now) (a .output .now) (w .write-handed .result)
-    (p .place-before .ensures) (u .unit-at .ensures) (w .write-handed .ensures) (d .conclude .ensures) (c .if1 .left)
+    let a = w .before .before .before .before .before .before .args in
+    served-refused (a .event) (a .sender) (a .work) (a .store .now) (a .output .now) (w .write-stored .result)
+    (w .write-stored .ensures) (d .conclude .ensures) (c .if1 .left)
 
 pub serve-work-spec : {M : Type 1} → statement M
 serve-work-spec =
     tie.close
     (tie.spec
-    place-before-requires
-    unit-at-requires
-    write-handed-requires
+    write-stored-requires
     conclude-requires
     remove-requires
     same-length
