@@ -1,5 +1,6 @@
-// What C and Rust call: numbers, and octets as a pointer and a length. Each function passes its arguments on and puts the
-// answer into numbers. This file: channel coding (clause 8); the modules: frames and control words (clause 6), receiver and sender (clause 7).
+// What C and Rust call: numbers, and octets as a pointer and a length. Each function passes its arguments on and puts the answer into numbers
+// (crates boundary_numbers, boundary_receiver and boundary_sender). Only this crate's functions are exported. This file: channel coding (clause
+// 8); the modules: frames and control words (clause 6), receiver and sender (clause 7).
 pub mod frames;
 pub mod receivers;
 pub mod senders;
