@@ -27,7 +27,7 @@ use Rattle.fop_rows.specs.Rows.{rowNumbered, inMain}
 use Rattle.fop_events.specs.declared.Lower.{Lower}
 use Rattle.fop_events.specs.Events.{wordNumber, directiveNumber, lowerNumber, adNumber, bdNumber}
 use Rattle.sender_frames.specs.Limits.{smallestStore}
-use Rattle.sender_frames.specs.Frames.{unitBefore, mustBeUnit, unitOffered}
+use Rattle.sender_frames.specs.Frames.{requestRefusal, unitBefore, mustBeUnit, unitOffered}
 use Rattle.sender_frames.proofs.Written.{Writes}
 use Rattle.sender.specs.declared.Answer.{Answer}
 use Rattle.sender.specs.declared.Event.{Event}
@@ -101,10 +101,6 @@ Request = SenderState → List ℕ → List ℕ → List ℕ → Step
 abbrev requestOf : Request → Request
 requestOf t s o store output =
     mustBeUnit o (refusedStep 10 s store output) (must (leb smallestStore (length store)) (refusedStep 11 s store output) (t s o store output))
-
--- the number of its refusal, 0 where there is none
-abbrev requestRefusal : List ℕ → List ℕ → ℕ
-requestRefusal o store = mustBeUnit o 10 (must (leb smallestStore (length store)) 11 0)
 
 module _ (t : Request) (s : SenderState) (o store output : List ℕ) {n : ℕ} (judged : n ≡ requestRefusal o store) where
   abbrev refusal : ℕ → Step

@@ -1,4 +1,4 @@
--- The frame that an event hands down to the lower layer, written by crate frame; its unit, and the length that a unit has.
+-- The frame that an event hands down to the lower layer, written by crate frame; its unit, and what a unit offered is judged by.
 use Prim.Native.Nat.{ℕ, _+_}
 use mathlib.Core.List.{List, []}
 use lib.Dec.{leb, eqb}
@@ -14,10 +14,15 @@ use Rattle.fop_actions.specs.declared.Handed.the-variants as handed
 use Rattle.fop_actions.specs.declared.SenderState.{SenderState}
 use Rattle.fop_actions.specs.declared.Work.{Work}
 use Rattle.fop_actions.specs.View.{unitAt}
+use Rattle.sender_frames.specs.Limits.{smallestStore}
 
 -- "Legal: within the limits": the length of a unit
 abbrev pub mustBeUnit : {A : Type 0} → List ℕ → A → A → A
 mustBeUnit o refusal on = must (leb 1 (length o)) refusal (must (leb (length o) largestUnit) refusal on)
+
+-- "Sender events are judged 10, 12, 7, 11": the refusal of a request by the length of its unit, then by the lent store; 0 where there is none
+abbrev pub requestRefusal : List ℕ → List ℕ → ℕ
+requestRefusal o store = mustBeUnit o 10 (must (leb smallestStore (length store)) 11 0)
 
 -- the frame handed down, with the unit u of an AD or BD frame, into output of the length lent
 unfoldable pub handedWriting : Settings → Handed → List ℕ → ℕ → Outcome (Unit {0})

@@ -14,22 +14,19 @@ use frame::writer::write_set_vr;
 use frame::writer::write_unlock;
 ghost use mathlib.Core.Path.{_≡_};
 ghost use Prim.Native.Nat.{_+_, _*_, _≤_};
-ghost use lib.Dec.{leb};
 ghost use lib.ListN.{length, take, drop, getD};
-ghost use Rattle.base.specs.Choice.{must};
 ghost use Rattle.base.specs.Limits.{largestUnit};
 ghost use Rattle.base.specs.Outcome.{answer, after};
 ghost use Rattle.frame.specs.Answers.{writtenAnswer};
 ghost use Rattle.fop_actions.specs.View.{unitAt, without};
-ghost use Rattle.sender_frames.specs.Limits.{smallestStore};
-ghost use Rattle.sender_frames.specs.Frames.{handedWriting, placeHanded, unitBefore, unitOffered, mustBeUnit};
+ghost use Rattle.sender_frames.specs.Frames.{requestRefusal, handedWriting, placeHanded, unitBefore, unitOffered};
 
 // Document 01: a place for each sent unit of the largest K, and one for the unit waiting.
 pub const SMALLEST_STORE: usize = LARGEST_UNIT * PLACES;
 
 // The refusal of a request, 0 where there is none: 10 for the length of its unit, then 11 for the lent store.
 pub fn request_refusal(unit: &[u8], store: &[u8]) -> u8
-    ensures number { λ r. ⌜ r ≡ mustBeUnit (now (unit .entry)) 10 (must (leb smallestStore (length (now (store .entry)))) 11 0) ⌝ }
+    ensures number { λ r. ⌜ r ≡ requestRefusal (now (unit .entry)) (now (store .entry)) ⌝ }
     ensures fits { λ r. ⌜ (r ≡ 0 → length (now (unit .entry)) ≤ largestUnit) ⌝ }
 {
     let n = unit.len();
