@@ -1,9 +1,6 @@
 -- Document 01, "Limits", for FOP-1, by name.
 use Prim.Native.Nat.{ℕ}
-
--- "Sender window K 1 to 32" (FOP_Sliding_Window_Width)
-abbrev pub largestK : ℕ
-largestK = 32
+pub use Rattle.base.specs.Limits.{largestK}
 
 -- "Transmission limit 1 to 255" (Transmission_Limit)
 abbrev pub largestTransmissionLimit : ℕ

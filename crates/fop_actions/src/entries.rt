@@ -28,7 +28,7 @@ pub fn slide_lengths(lengths: [u16; PLACES], count: u8) -> [u16; PLACES]
     ensures { λ r. ⌜ r ≡ slid count lengths ⌝ }
 {
     let mut next = lengths;
-    store::slide_lengths(&mut next, count as usize);
+    store::lengths::slide_lengths(&mut next, count as usize);
     next
 }
 

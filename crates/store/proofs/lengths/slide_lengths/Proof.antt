@@ -4,8 +4,8 @@ use Prim.Native.Nat.{_-_}
 use native.Mathlib.Omega.{arith}
 use borrow.Author.Needs.{needs}
 use Rattle.store.proofs.Steps.{Moved, step, end, short}
-use Rattle.store.proofs.slide_lengths.Statement.{statement}
-use Rattle.store.proofs.slide_lengths.Tie as tie
+use Rattle.store.proofs.lengths.slide_lengths.Statement.{statement}
+use Rattle.store.proofs.lengths.slide_lengths.Tie as tie
 
 abbrev Inv-loop : tie.InvT-loop
 Inv-loop s₀ count rest i₀ s i = Moved s₀ count rest s i
