@@ -56,7 +56,7 @@ by-state P a b c d e f table.S6 = f
 -- rows that look at no value
 module _ (v : ℕ) (w : Work) where
   abbrev Alike : FopEvent → table.State → Type 0
-  Alike e s = doneCell (cell78 (table78 e) s) 0 0 w ≡ doneCell (cell78 (table78 e) s) v 0 w
+  Alike e s = doneCell (cell78 (table78 e) s) 0 w ≡ doneCell (cell78 (table78 e) s) v w
 
   cells : (s : table.State)
       → Alike E23 s × Alike E24 s × Alike E25 s × Alike E26 s × Alike E29 s × Alike E30 s × Alike E31 s × Alike E32 s × Alike E33 s × Alike E34 s
@@ -99,7 +99,7 @@ module _ (s : SenderState) (store output : List ℕ) where
     unread e h =
         ap (λ (w : Work). pick (eqb (eventNumber e) 40) (refusedStep 12 s store output)
         (must (leb smallestStore (length store)) (refusedStep 11 s store output) (servedBy (eventNumber e) s w store output)))
-        (row-event e 0 0 (begun s) ∙ h ∙ sym (row-event e v 0 (begun s)))
+        (row-event e 0 (begun s) ∙ h ∙ sym (row-event e v (begun s)))
 
     module _ (large : largestPair < v) where
       abbrev Narrowed : ℕ → Type 0

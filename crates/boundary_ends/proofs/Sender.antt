@@ -19,7 +19,7 @@ use Rattle.fop.specs.Events.{SenderEvent, requestAd, requestBd, tick, lower, di
 use Rattle.fop.specs.Events as fop
 use Rattle.fop.specs.Answers.{senderAnswer, senderNext}
 use Rattle.fop_actions.specs.declared.SenderState.{SenderState}
-use Rattle.fop_actions.specs.Limits.{places}
+use Rattle.store.specs.Places.{places}
 use Rattle.fop_actions.specs.Start.{begun}
 use Rattle.fop_actions.specs.View.{stateOf, reasonOf, responsesOf, runTold}
 use Rattle.fop_rows.specs.Rows.{eventOf}
@@ -174,7 +174,7 @@ pub record GoodKept (own : Own) (x : Kept) : Type 0 where
   pub good : Good own (stateIn (x .state)) (x .store)
 
 -- every place has a length
-places-all : (own : Own) (s : SenderState) (store : List ℕ) → Good own s store → length (s .queues .lengths) ≡ places
+places-all : (own : Own) (s : SenderState) (store : List ℕ) → Good own s store → length (s .lengths) ≡ places
 unfolding begun
 places-all own s store g = g .formed .all-places
 

@@ -18,6 +18,7 @@ use Rattle.session.specs.Ends.{Settings, Within, startSender, startReceiver}
 use Rattle.session.specs.Session.{Event, adRequest, ticks, lowerSays, wordMade, wordIn, frameIn, frameLost}
 use Rattle.session.proofs.Trace.{computing, settings, after}
 use Rattle.frame.specs.Frame.{rawWriting}
+use Rattle.store.specs.Places as stored
 use Rattle.store.specs.Slid as slide
 use Rattle.memory.specs.Placed as place
 use Rattle.fop_actions.specs.Actions as act
@@ -55,7 +56,7 @@ unfolding computing rawWriting freshHeld stepOf starting.startingOf start.startO
     act.cancelTimer act.countOne act.adOutReady act.setSuspendState act.responsesWith act.respond act.handDown act.abort act.addToWaitQueue
     act.holdControl act.releaseBcFrame act.transmitAdFrame act.sendMarked act.inWindow act.lookForFdu act.again act.initiateAdRetransmission
     act.setVs act.setNnr act.notify act.alert act.removeAcknowledgedFrames act.emptied act.denyControl act.purgeSentQueue act.notWaiting
-    act.purgeWaitQueue act.initialise slide.slid slide.slidWithin place.placed
+    act.purgeWaitQueue act.initialise slide.slid stored.without place.placed
 computingOurs = tt
 
 pub our-session : (after set (ours set (startHeld set store)) events) .history

@@ -58,7 +58,7 @@ module _ (own : Own) (lent : ℕ) (e : SenderEvent) (f : Fop) where
       }
 
   -- refused by one of them
-  pub refuses : (x : Step) (j : ℕ) → judged own e ≡ j → eqb j 0 ≡ false → answerBy x ≡ refused j f → fopOf (begun (x .answer .next .fop)) (x .store) ≡ f
+  pub refuses : (x : Step) (j : ℕ) → judged own e ≡ j → eqb j 0 ≡ false → answerBy x ≡ refused j f → fopOf (begun (x .answer .next .fop)) (x .answer .next .fop .lengths) (x .store) ≡ f
       → Good own (x .answer .next .fop) (x .store) → Does own lent e f x
   unfolding senderAnswer senderNext senderRefusal needed
   refuses x j q h a n g =
@@ -71,7 +71,7 @@ module _ (own : Own) (lent : ℕ) (e : SenderEvent) (f : Fop) where
 
 -- a refused step keeps sender and store
 module _ (own : Own) (s : SenderState) (store output : List ℕ) (number : ℕ) where
-  pub refused-keeps : fopOf (begun (refusedStep number s store output .answer .next .fop)) (refusedStep number s store output .store) ≡ fopOf (begun s) store
+  pub refused-keeps : fopOf (begun (refusedStep number s store output .answer .next .fop)) (refusedStep number s store output .answer .next .fop .lengths) (refusedStep number s store output .store) ≡ fopOf (begun s) (s .lengths) store
   unfolding sender.refusing
   refused-keeps = refl
 

@@ -61,6 +61,6 @@ number-event E102 = refl
 number-event E103 = refl
 number-event E104 = refl
 
-pub row-event : (e : FopEvent) (n l : ℕ) (w : Work) → rowNumbered (eventNumber e) n l w ≡ rowOf e n l w
+pub row-event : (e : FopEvent) (n : ℕ) (w : Work) → rowNumbered (eventNumber e) n w ≡ rowOf e n w
 unfolding rowNumbered rowIf
-row-event e n l w = ap (λ (x : Option FopEvent). rowIf x n l w) (number-event e)
+row-event e n w = ap (λ (x : Option FopEvent). rowIf x n w) (number-event e)

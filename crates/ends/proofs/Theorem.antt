@@ -101,13 +101,13 @@ module _ (set : Settings) (within : Within set) (v : ℕ) (octet : v ≤ largest
   unfolding freshHeld
   fresh-good = subst (λ (s : SenderState). Good (set .own) s store) (sym starts) first-good
 
-  pub fresh-reads : reads (freshHeld set v store) ≡ fopOf (begun first) store
+  pub fresh-reads : reads (freshHeld set v store) ≡ fopOf (begun first) (first .lengths) store
   unfolding freshHeld
-  fresh-reads = ap (λ (s : SenderState). fopOf (begun s) store) starts
+  fresh-reads = ap (λ (s : SenderState). fopOf (begun s) (s .lengths) store) starts
 
 -- told to initiate without check, with V(S) = NN(R) = V(R), a fresh sender begins a session at Transmission_Count 1
 module _ (set : Settings) (within : Within set) (one : set .count ≡ 1) (store : List ℕ) (long : smallestStore ≤ length store) where
-  active : senderNext (set .own) (directive 1 0) 0 (fopOf (begun (first set within (set .n) (within .number) store long)) store) ≡ setClock 0 1 (startSender set)
+  active : senderNext (set .own) (directive 1 0) 0 (fopOf (begun (first set within (set .n) (within .number) store long)) (first set within (set .n) (within .number) store long .lengths) store) ≡ setClock 0 1 (startSender set)
   unfolding startSender answers.senderNext answers.senderRefusal answers.judged answers.needed events.work events.fopDirective events.directiveEvent
       table.table78 action.fopDo action.performCell action.performAll action.perform action.purge action.denyBc action.rejectWaiting startOf begun
   active = refl

@@ -22,7 +22,8 @@ use Rattle.fop.specs.Answers.{octetsDown, room}
 use Rattle.fop_actions.specs.declared.Settings.{Settings}
 use Rattle.fop_actions.specs.declared.Handed.{Handed}
 use Rattle.fop_actions.specs.declared.Handed.the-variants as handed
-use Rattle.fop_actions.specs.View.{unitAt, framesOf}
+use Rattle.fop_actions.specs.View.{framesOf}
+use Rattle.store.specs.Places.{unitAt}
 use Rattle.sender.specs.Events.{handedWriting}
 use Rattle.sender.specs.Limits.{smallestStore}
 

@@ -113,7 +113,7 @@ startHeld set store = heldAfterAll ((directive 1 0, 0) ∷ []) (freshHeld set (s
 
 -- what the sender with its store reads as: the variables of table 7-8
 abbrev pub reads : Held → Fop
-reads x = fopOf (begun (x .sender .fop)) (x .store)
+reads x = fopOf (begun (x .sender .fop)) (x .sender .fop .lengths) (x .store)
 
 -- "It starts synchronised and active": a well-formed sender, however it came there, whose variables are those of the session's start
 pub record Begins (set : Settings) (x : Held) : Type 0 where

@@ -14,12 +14,12 @@ use Rattle.base.specs.Limits.{largestUnit}
 use Rattle.base.specs.Modulo.{advanced}
 use Rattle.base.proofs.Tests.{yes, no}
 use Rattle.store.specs.Slid.{slid}
-use Rattle.store.proofs.Parts.{slid-at}
-use Rattle.store.proofs.Within.{within-none, within-part}
+use Rattle.store.specs.Places.{placeOffset, unitAt, without}
+use Rattle.store.proofs.Laws.{without-unit}
 use Rattle.fop.specs.Variables.{Entry}
 use Rattle.fop.specs.Machine.{markAll, unmark, firstMarked}
-use Rattle.fop_actions.specs.Limits.{places}
-use Rattle.fop_actions.specs.View.{unitAt, entryAt, entriesFrom, without}
+use Rattle.fop_actions.specs.View.{entryAt, entriesFrom}
+use Rattle.fop_actions.specs.Actions.{unitsHeld}
 use Rattle.fop_actions.proofs.Offsets.{mod-add, leb-minus}
 
 -- n entries from place i, of which those before place p are unmarked
@@ -106,34 +106,29 @@ module _ (lengths store : List ℕ) (f : ℕ) where
       let b : suc i + g ≡ i + suc g = omega arith in
       ap (λ (k : ℕ). drop (suc g) (from p i k)) a ∙ dropped p g (suc i) n ∙ ap (λ (k : ℕ). from p k n) b
 
--- no unit removed leaves the store as it is
-pub without-none : (store : List ℕ) → without 0 store ≡ store
-without-none store = within-none (largestUnit * places) store
+-- the units sent are held, whether or not one waits, and one more at most
+pub held-least : (sent : ℕ) (b : Bool) → sent ≤ unitsHeld sent b
+held-least sent true = omega arith
+held-least sent false = omega arith
+
+pub held-most : (sent : ℕ) (b : Bool) → unitsHeld sent b ≤ suc sent
+held-most sent true = omega arith
+held-most sent false = omega arith
 
 -- The units past the first g, in the lengths and the store moved down, are those of the whole without its first g.
-module _ (lengths store : List ℕ) (f p g : ℕ) (units : (i : ℕ) → getD lengths i 0 ≤ largestUnit) (all-places : length lengths ≡ places)
-    (room : largestUnit * places ≤ length store) where
+module _ (lengths store : List ℕ) (f p g staying : ℕ) (units : (i : ℕ) → getD lengths i 0 ≤ largestUnit) (few : g + staying ≤ length lengths)
+    (room : placeOffset (g + staying) ≤ length store) where
   abbrev moved : List ℕ
-  moved = without g store
+  moved = without lengths g staying store
 
-  pub unit-slid : (i : ℕ) → g + i < places → unitAt (slid g lengths) i moved ≡ unitAt lengths (g + i) store
-  unit-slid i h =
-      let m = getD lengths (g + i) 0 in
-      let c : largestUnit * g + largestUnit * i + m ≤ largestUnit * places = omega (arith, units (g + i)) in
-      let a : g + i < length lengths = omega arith in
-      let u : largestUnit * g + largestUnit * i ≡ largestUnit * (g + i) = omega arith in
-      ap (λ (x : ℕ). take x (drop (largestUnit * i) moved)) (slid-at g i lengths a)
-      ∙ within-part (largestUnit * places) (largestUnit * g) (largestUnit * i) m store c room
-      ∙ ap (λ (x : ℕ). take m (drop x store)) u
-
-  entry-slid : (i : ℕ) → g + i < places → entryAt (slid g lengths) moved (advanced f g) (p - g) i ≡ entryAt lengths store f p (g + i)
+  entry-slid : (i : ℕ) → i < staying → entryAt (slid g lengths) moved (advanced f g) (p - g) i ≡ entryAt lengths store f p (g + i)
   entry-slid i h =
       let E : ℕ → List ℕ → Bool → Entry = λ n u b. record { fdu = record { ns = n; octets = u }; marked = b } in
       ap (λ (n : ℕ). E n (unitAt (slid g lengths) i moved) (leb (p - g) i)) (mod-add f g i)
-      ∙ ap (λ (u : List ℕ). E (advanced f (g + i)) u (leb (p - g) i)) (unit-slid i h)
+      ∙ ap (λ (u : List ℕ). E (advanced f (g + i)) u (leb (p - g) i)) (without-unit lengths g store units staying i h few room)
       ∙ ap (E (advanced f (g + i)) (unitAt lengths (g + i) store)) (leb-minus p g i)
 
-  pub entries-slid : (i n : ℕ) → g + i + n ≤ places → entriesFrom (slid g lengths) moved (advanced f g) (p - g) i n ≡ entriesFrom lengths store f p (g + i) n
+  pub entries-slid : (i n : ℕ) → i + n ≤ staying → entriesFrom (slid g lengths) moved (advanced f g) (p - g) i n ≡ entriesFrom lengths store f p (g + i) n
   entries-slid i zero a = refl
   entries-slid i (suc n) a =
       let q : g + suc i ≡ suc (g + i) = omega arith in

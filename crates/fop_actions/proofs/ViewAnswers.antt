@@ -72,32 +72,32 @@ room-more n x r m = move (more x r) (responsesWith x r)
 abbrev pub responseNamed : Response → machine.Response
 responseNamed r = responseOf (responseNumber r)
 
-module _ (e : Option FopEvent) (o : List ℕ) (n : ℕ) (c d : List Fdu) (w : Work) (store : List ℕ) (room : Room 1 (w .told .responses)) where
-  pub respond : (r : Response) → machine.respond (responseNamed r) (view e o n c d w store) ≡ view e o n c d (act.respond r w) store
+module _ (e : Option FopEvent) (o : List ℕ) (n : ℕ) (c d : List Fdu) (w : Work) (lengths store : List ℕ) (room : Room 1 (w .told .responses)) where
+  pub respond : (r : Response) → machine.respond (responseNamed r) (view e o n c d w lengths store) ≡ view e o n c d (act.respond r w) lengths store
   unfolding act.respond withTold
   respond r =
-      ap (seen e o n c d w (fopOf w store) (framesOf (w .told .handed) (w .queues .lengths) store o)) (sym (more-responses (responseNumber r) (w .told .responses) room))
+      ap (seen e o n c d w (fopOf w lengths store) (framesOf (w .told .handed) lengths store o)) (sym (more-responses (responseNumber r) (w .told .responses) room))
 
-  pub accept : perform table.Accept (view e o n c d w store) ≡ view e o n c d (act.respond AcceptDirective w) store
+  pub accept : perform table.Accept (view e o n c d w lengths store) ≡ view e o n c d (act.respond AcceptDirective w) lengths store
   unfolding perform
   accept = respond AcceptDirective
 
-  pub reject : perform table.Reject (view e o n c d w store) ≡ view e o n c d (act.respond RejectDirective w) store
+  pub reject : perform table.Reject (view e o n c d w lengths store) ≡ view e o n c d (act.respond RejectDirective w) lengths store
   unfolding perform
   reject = respond RejectDirective
 
-  pub confirm : perform table.Confirm (view e o n c d w store) ≡ view e o n c d (act.respond ConfirmDirective w) store
+  pub confirm : perform table.Confirm (view e o n c d w lengths store) ≡ view e o n c d (act.respond ConfirmDirective w) lengths store
   unfolding perform
   confirm = respond ConfirmDirective
 
-  pub reject-ad : perform table.RejectAd (view e o n c d w store) ≡ view e o n c d (act.respond RejectAdUnit w) store
+  pub reject-ad : perform table.RejectAd (view e o n c d w lengths store) ≡ view e o n c d (act.respond RejectAdUnit w) lengths store
   unfolding perform
   reject-ad = respond RejectAdUnit
 
-  pub accept-bd : perform table.AcceptBd (view e o n c d w store) ≡ view e o n c d (act.respond AcceptBdUnit w) store
+  pub accept-bd : perform table.AcceptBd (view e o n c d w lengths store) ≡ view e o n c d (act.respond AcceptBdUnit w) lengths store
   unfolding perform
   accept-bd = respond AcceptBdUnit
 
-  pub reject-bd : perform table.RejectBd (view e o n c d w store) ≡ view e o n c d (act.respond RejectBdUnit w) store
+  pub reject-bd : perform table.RejectBd (view e o n c d w lengths store) ≡ view e o n c d (act.respond RejectBdUnit w) lengths store
   unfolding perform
   reject-bd = respond RejectBdUnit

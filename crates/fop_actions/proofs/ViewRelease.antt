@@ -8,6 +8,7 @@ use Prim.Native.Nat.{ℕ}
 use native.Mathlib.Omega.{arith}
 use Rattle.base.specs.Choice.{pick}
 use Rattle.base.proofs.Tests.{yes, no}
+use Rattle.store.specs.Places.{unitAt}
 use Rattle.fop.specs.Units.{Fdu}
 use Rattle.fop.specs.Table as table
 use Rattle.fop.specs.Table.{FopEvent}
@@ -21,25 +22,25 @@ use Rattle.fop_actions.specs.declared.Response.the-variants.{RejectAdUni
 use Rattle.fop_actions.specs.declared.Work.{Work}
 use Rattle.fop_actions.specs.Parts.{withVariables, withQueues, withTold}
 use Rattle.fop_actions.specs.Actions as act
-use Rattle.fop_actions.specs.View.{unitAt, entriesOf, waitOf, bcOf, fopOf, reasonOf, view}
+use Rattle.fop_actions.specs.View.{entriesOf, waitOf, bcOf, fopOf, reasonOf, view}
 use Rattle.fop_actions.proofs.ViewAnswers.{Room, room-more, respond}
 
 -- Purging both queues, with room for two responses.
-module _ (e : Option FopEvent) (o : List ℕ) (n : ℕ) (c d : List Fdu) (w : Work) (store : List ℕ) (room : Room 2 (w .told .responses)) where
+module _ (e : Option FopEvent) (o : List ℕ) (n : ℕ) (c d : List Fdu) (w : Work) (lengths store : List ℕ) (room : Room 2 (w .told .responses)) where
   abbrev bare : Work
   bare = act.notWaiting (act.emptied w)
 
   abbrev Q : List Entry
-  Q = entriesOf (w .queues .lengths) store (w .variables .vs) (w .queues .sent) (w .queues .marked)
+  Q = entriesOf lengths store (w .variables .vs) (w .queues .sent) (w .queues .marked)
 
   abbrev Seen : Work → machine.Work
-  Seen v = view e o n c (d ++ fdus Q) v store
+  Seen v = view e o n c (d ++ fdus Q) v lengths store
 
   -- the machine's work with both queues empty, before the responses
   abbrev begun : machine.Work
   begun =
       machine.runs c (d ++ fdus Q)
-      (machine.onFop (machine.setWait none (machine.setBc none (machine.setSequence (w .variables .vs) (w .variables .nnr) [] (fopOf w store)))) (view e o n c d w store))
+      (machine.onFop (machine.setWait none (machine.setBc none (machine.setSequence (w .variables .vs) (w .variables .nnr) [] (fopOf w lengths store)))) (view e o n c d w lengths store))
 
   start : begun ≡ Seen bare
   unfolding act.notWaiting act.emptied act.releaseBcFrame act.holdControl withQueues withTold
@@ -57,13 +58,13 @@ module _ (e : Option FopEvent) (o : List ℕ) (n : ℕ) (c d : List Fdu) (w : Wo
   same-bare : w .queues .waiting ≡ false → Seen (act.emptied w) ≡ Seen bare
   unfolding act.notWaiting act.emptied act.releaseBcFrame act.holdControl withQueues withTold
   same-bare f =
-      ap (λ (b : Bool). Seen (withQueues (record { sent = 0; marked = 0; waiting = b; control = control.None; «control_marked» = false; lengths = w .queues .lengths }) (act.emptied w))) f
+      ap (λ (b : Bool). Seen (withQueues (record { sent = 0; marked = 0; waiting = b; control = control.None; «control_marked» = false }) (act.emptied w))) f
 
   same-denied : w .queues .waiting ≡ false → Seen (act.respond DenyDirective (act.emptied w)) ≡ Seen (act.respond DenyDirective bare)
   unfolding act.notWaiting act.emptied act.releaseBcFrame act.holdControl act.respond withQueues withTold
   same-denied f =
       ap (λ (b : Bool). Seen (act.respond DenyDirective
-      (withQueues (record { sent = 0; marked = 0; waiting = b; control = control.None; «control_marked» = false; lengths = w .queues .lengths }) (act.emptied w)))) f
+      (withQueues (record { sent = 0; marked = 0; waiting = b; control = control.None; «control_marked» = false }) (act.emptied w)))) f
 
   rejected : w .queues .waiting ≡ true → act.purgeWaitQueue (act.emptied w) ≡ act.respond RejectAdUnit bare
   unfolding act.purgeWaitQueue act.notWaiting act.emptied act.releaseBcFrame act.holdControl act.respond withQueues withTold
@@ -83,34 +84,34 @@ module _ (e : Option FopEvent) (o : List ℕ) (n : ℕ) (c d : List Fdu) (w : Wo
 
   -- with a type-BC frame, and without
   purged-control : (y : Bool) → w .queues .waiting ≡ y
-      → rejectWaiting (pick y (some (unitAt (w .queues .lengths) (w .queues .sent) store)) none) (machine.respond machine.denyDirective begun)
+      → rejectWaiting (pick y (some (unitAt lengths (w .queues .sent) store)) none) (machine.respond machine.denyDirective begun)
       ≡ Seen (act.purgeWaitQueue (act.respond DenyDirective (act.emptied w)))
   unfolding rejectWaiting
   purged-control true f =
       ap (machine.respond machine.rejectAdUnit)
-      (ap (machine.respond machine.denyDirective) start ∙ respond e o n c (d ++ fdus Q) bare store room-bare DenyDirective)
-      ∙ respond e o n c (d ++ fdus Q) (act.respond DenyDirective bare) store room-denied RejectAdUnit
+      (ap (machine.respond machine.denyDirective) start ∙ respond e o n c (d ++ fdus Q) bare lengths store room-bare DenyDirective)
+      ∙ respond e o n c (d ++ fdus Q) (act.respond DenyDirective bare) lengths store room-denied RejectAdUnit
       ∙ ap Seen (sym (denied-rejected f))
   purged-control false f =
-      ap (machine.respond machine.denyDirective) start ∙ respond e o n c (d ++ fdus Q) bare store room-bare DenyDirective
+      ap (machine.respond machine.denyDirective) start ∙ respond e o n c (d ++ fdus Q) bare lengths store room-bare DenyDirective
       ∙ sym (same-denied f) ∙ ap Seen (sym (denied-kept f))
 
   purged-none : (y : Bool) → w .queues .waiting ≡ y
-      → rejectWaiting (pick y (some (unitAt (w .queues .lengths) (w .queues .sent) store)) none) begun ≡ Seen (act.purgeWaitQueue (act.emptied w))
+      → rejectWaiting (pick y (some (unitAt lengths (w .queues .sent) store)) none) begun ≡ Seen (act.purgeWaitQueue (act.emptied w))
   unfolding rejectWaiting
-  purged-none true f = ap (machine.respond machine.rejectAdUnit) start ∙ respond e o n c (d ++ fdus Q) bare store room-bare RejectAdUnit ∙ ap Seen (sym (rejected f))
+  purged-none true f = ap (machine.respond machine.rejectAdUnit) start ∙ respond e o n c (d ++ fdus Q) bare lengths store room-bare RejectAdUnit ∙ ap Seen (sym (rejected f))
   purged-none false f = start ∙ sym (same-bare f) ∙ ap Seen (sym (kept f))
 
   purged : (k : Control)
-      → rejectWaiting (waitOf (w .queues .lengths) store (w .queues .sent) (w .queues .waiting)) (denyBc (bcOf k (w .queues .«control_marked»)) begun)
+      → rejectWaiting (waitOf lengths store (w .queues .sent) (w .queues .waiting)) (denyBc (bcOf k (w .queues .«control_marked»)) begun)
       ≡ Seen (act.purgeWaitQueue (act.denyControl k (act.emptied w)))
   unfolding denyBc act.denyControl
   purged control.None = purged-none (w .queues .waiting) refl
   purged control.Unlock = purged-control (w .queues .waiting) refl
   purged (control.SetVr x) = purged-control (w .queues .waiting) refl
 
-  pub purge-both : purge (view e o n c d w store)
-      ≡ view e o n c (d ++ fdus (entriesOf (w .queues .lengths) store (w .variables .vs) (w .queues .sent) (w .queues .marked))) (act.purgeWaitQueue (act.purgeSentQueue w)) store
+  pub purge-both : purge (view e o n c d w lengths store)
+      ≡ view e o n c (d ++ fdus (entriesOf lengths store (w .variables .vs) (w .queues .sent) (w .queues .marked))) (act.purgeWaitQueue (act.purgeSentQueue w)) lengths store
   unfolding purge act.purgeSentQueue
   purge-both = purged (w .queues .control)
 
@@ -127,24 +128,24 @@ cancelled-first a none (some b) = refl
 cancelled-first a (some u) none = refl
 cancelled-first a (some u) (some b) = refl
 
-module _ (e : Option FopEvent) (o : List ℕ) (n : ℕ) (c d : List Fdu) (w : Work) (store : List ℕ) (room : Room 2 (w .told .responses)) where
+module _ (e : Option FopEvent) (o : List ℕ) (n : ℕ) (c d : List Fdu) (w : Work) (lengths store : List ℕ) (room : Room 2 (w .told .responses)) where
   abbrev deniedUnits : List Fdu
-  deniedUnits = d ++ fdus (entriesOf (w .queues .lengths) store (w .variables .vs) (w .queues .sent) (w .queues .marked))
+  deniedUnits = d ++ fdus (entriesOf lengths store (w .variables .vs) (w .queues .sent) (w .queues .marked))
 
-  purge-cancelled : (let p : machine.Work = purge (view e o n c d w store) in machine.onFop (machine.setClock 0 (p .fop .clock .transmissionCount) (p .fop)) p)
-      ≡ view e o n c deniedUnits (act.purgeWaitQueue (act.purgeSentQueue (act.cancelTimer w))) store
+  purge-cancelled : (let p : machine.Work = purge (view e o n c d w lengths store) in machine.onFop (machine.setClock 0 (p .fop .clock .transmissionCount) (p .fop)) p)
+      ≡ view e o n c deniedUnits (act.purgeWaitQueue (act.purgeSentQueue (act.cancelTimer w))) lengths store
   unfolding purge act.cancelTimer withVariables
   purge-cancelled =
-      cancelled-first (view e o n c d w store) (fopOf w store .waitQueue) (fopOf w store .bcFrame) ∙ purge-both e o n c d (act.cancelTimer w) store room
+      cancelled-first (view e o n c d w lengths store) (fopOf w lengths store .waitQueue) (fopOf w lengths store .bcFrame) ∙ purge-both e o n c d (act.cancelTimer w) lengths store room
 
-  pub alert : (a : Alert) (r : table.Reason) → reasonOf a ≡ some r → perform (table.Alert r) (view e o n c d w store) ≡ view e o n c deniedUnits (act.alert a w) store
+  pub alert : (a : Alert) (r : table.Reason) → reasonOf a ≡ some r → perform (table.Alert r) (view e o n c d w lengths store) ≡ view e o n c deniedUnits (act.alert a w) lengths store
   unfolding perform act.alert act.notify withTold
   alert a r q =
       let v = act.purgeWaitQueue (act.purgeSentQueue (act.cancelTimer w)) in
       ap (λ (x : machine.Work). machine.tell (x .abort) (some r) (x .suspended) x) purge-cancelled
-      ∙ ap (λ (x : Option table.Reason). machine.tell (v .told .abort) x (v .told .suspended) (view e o n c deniedUnits v store)) (sym q)
+      ∙ ap (λ (x : Option table.Reason). machine.tell (v .told .abort) x (v .told .suspended) (view e o n c deniedUnits v lengths store)) (sym q)
 
-  pub initialise : perform table.Initialise (view e o n c d w store) ≡ view e o n c deniedUnits (act.initialise w) store
+  pub initialise : perform table.Initialise (view e o n c d w lengths store) ≡ view e o n c deniedUnits (act.initialise w) lengths store
   unfolding perform act.initialise act.countOne act.setSuspendState withVariables
   initialise =
-      ap (λ (a : machine.Work). machine.onFop (machine.setSuspend 0 (machine.setClock (a .fop .clock .timer) 1 (a .fop))) a) (purge-both e o n c d w store room)
+      ap (λ (a : machine.Work). machine.onFop (machine.setSuspend 0 (machine.setClock (a .fop .clock .timer) 1 (a .fop))) a) (purge-both e o n c d w lengths store room)

@@ -51,14 +51,14 @@ run-all lengths store vs sent marked =
     ap (λ (xs : List Entry). runOf (fdus xs)) (sym (all-taken lengths store (offset vs sent) (sent - marked) 0 sent)) ∙ run-taken lengths store vs sent marked sent (omega arith)
 
 -- the run confirmed by Remove acknowledged frames
-pub confirmed-run : (w : Work) (store : List ℕ) (n : ℕ) → WellFormed w store
-    → runOf (fdus (take (w .queues .sent - staying n w) (entriesOf (w .queues .lengths) store (w .variables .vs) (w .queues .sent) (w .queues .marked))))
+pub confirmed-run : (w : Work) (lengths store : List ℕ) (n : ℕ) → WellFormed w lengths store
+    → runOf (fdus (take (w .queues .sent - staying n w) (entriesOf lengths store (w .variables .vs) (w .queues .sent) (w .queues .marked))))
     ≡ runTold (act.removeAcknowledgedFrames n w .told .confirmed)
 unfolding act.removeAcknowledgedFrames withTold
-confirmed-run w store n well =
+confirmed-run w lengths store n well =
     let q = w .queues in
-    run-taken (q .lengths) store (w .variables .vs) (q .sent) (q .marked) (q .sent - staying n w) (omega arith)
-    ∙ ap (λ (g : ℕ). runTold (runFrom (offset (w .variables .vs) (q .sent)) g)) (sym (gone-is w store n well))
+    run-taken lengths store (w .variables .vs) (q .sent) (q .marked) (q .sent - staying n w) (omega arith)
+    ∙ ap (λ (g : ℕ). runTold (runFrom (offset (w .variables .vs) (q .sent)) g)) (sym (gone-is w lengths store n well))
 
 -- the runs after both queues are purged
 module _ (w : Work) where
@@ -85,8 +85,8 @@ module _ (w : Work) where
   both-purged = wait-purged (act.denyControl (w .queues .control) (act.emptied w)) (sent-purged (w .queues .control))
 
 -- the run denied by Alert, and the run confirmed, which Alert keeps
-pub denied-run : (w : Work) (store : List ℕ) (a : Alert)
-    → runOf (fdus (entriesOf (w .queues .lengths) store (w .variables .vs) (w .queues .sent) (w .queues .marked))) ≡ runTold (act.alert a w .told .denied)
+pub denied-run : (w : Work) (lengths store : List ℕ) (a : Alert)
+    → runOf (fdus (entriesOf lengths store (w .variables .vs) (w .queues .sent) (w .queues .marked))) ≡ runTold (act.alert a w .told .denied)
 unfolding act.alert act.notify act.cancelTimer withVariables withTold
-denied-run w store a =
-    run-all (w .queues .lengths) store (w .variables .vs) (w .queues .sent) (w .queues .marked) ∙ ap runTold (sym (both-purged (act.cancelTimer w) .denied))
+denied-run w lengths store a =
+    run-all lengths store (w .variables .vs) (w .queues .sent) (w .queues .marked) ∙ ap runTold (sym (both-purged (act.cancelTimer w) .denied))

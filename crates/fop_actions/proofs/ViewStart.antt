@@ -13,16 +13,16 @@ use Rattle.fop_actions.specs.Start.{startOf, noneTold, begun}
 use Rattle.fop_actions.specs.View.{fopOf, view}
 use Rattle.fop_actions.proofs.ViewAnswers.{Room}
 
-pub started : (s : Settings) (vs nnr : ℕ) (store : List ℕ)
-    → fopOf (begun (startOf s vs nnr)) store
+pub started : (s : Settings) (vs nnr : ℕ) (lengths store : List ℕ)
+    → fopOf (begun (startOf s vs nnr)) lengths store
     ≡ machine.atStart vs nnr (record { k = s .k; transmissionLimit = s .«transmission_limit»; t1Initial = s .«t1_initial»; timeoutType = s .«timeout_type» })
 unfolding startOf begun
-started s vs nnr store = refl
+started s vs nnr lengths store = refl
 
-pub begins : (e : Option FopEvent) (o : List ℕ) (n : ℕ) (s : SenderState) (store : List ℕ)
-    → view e o n [] [] (begun s) store ≡ machine.begin e o n (fopOf (begun s) store)
+pub begins : (e : Option FopEvent) (o : List ℕ) (n : ℕ) (s : SenderState) (lengths store : List ℕ)
+    → view e o n [] [] (begun s) lengths store ≡ machine.begin e o n (fopOf (begun s) lengths store)
 unfolding begun noneTold
-begins e o n s store = refl
+begins e o n s lengths store = refl
 
 pub room-begun : (s : SenderState) → Room largestResponses (begun s .told .responses)
 unfolding begun noneTold

@@ -12,6 +12,7 @@ use Rattle.base.specs.Choice.{pick}
 use Rattle.base.specs.Modulo.{advanced, offset}
 use Rattle.base.proofs.Tests.{yes, no}
 use Rattle.fop.specs.Limits.{largestK}
+use Rattle.store.specs.Places.{unitAt}
 use Rattle.fop.specs.Units.{Fdu, Frame, AD, BD, Unlock, SetVR}
 use Rattle.fop.specs.Table as table
 use Rattle.fop.specs.Table.{FopEvent}
@@ -26,28 +27,28 @@ use Rattle.fop_actions.specs.declared.Response.the-variants.{AcceptAdUni
 use Rattle.fop_actions.specs.declared.Work.{Work}
 use Rattle.fop_actions.specs.Parts.{withVariables, withQueues, withTold}
 use Rattle.fop_actions.specs.Actions as act
-use Rattle.fop_actions.specs.View.{unitAt, entryAt, entriesFrom, entriesOf, waitOf, bcOf, fopOf, framesOf, responsesOf, reasonOf, view, WellFormed}
+use Rattle.fop_actions.specs.View.{entryAt, entriesFrom, entriesOf, waitOf, bcOf, fopOf, framesOf, responsesOf, reasonOf, view, WellFormed}
 use Rattle.fop_actions.proofs.Offsets.{offset-ge, offset-add, offset-up, back-and-on}
 use Rattle.fop_actions.proofs.SentQueue.{mark-all, unmarked, unmark-first, first-marked, none-marked, one-more}
 use Rattle.fop_actions.proofs.ViewAnswers.{seen, Room, more-responses}
 
-module _ (e : Option FopEvent) (o : List ℕ) (n : ℕ) (c d : List Fdu) (w : Work) (store : List ℕ) where
+module _ (e : Option FopEvent) (o : List ℕ) (n : ℕ) (c d : List Fdu) (w : Work) (lengths store : List ℕ) where
   -- Initiate AD retransmission, Initiate BC retransmission
   pub initiate-ad-retransmission : w .variables .«transmission_count» < 255
-      → perform table.InitiateAdRetransmission (view e o n c d w store) ≡ view e o n c d (act.initiateAdRetransmission w) store
+      → perform table.InitiateAdRetransmission (view e o n c d w lengths store) ≡ view e o n c d (act.initiateAdRetransmission w) lengths store
   unfolding perform act.initiateAdRetransmission act.again act.abort act.startTimer withVariables withQueues withTold
   initiate-ad-retransmission h =
       let v = w .variables in
       let q = w .queues in
       let F : ℕ → List Entry → machine.Work = λ x xs.
       machine.tell true (reasonOf (w .told .alert)) (w .told .suspended)
-      (machine.onFop (machine.setClock (w .settings .«t1_initial») x (machine.setSequence (v .vs) (v .nnr) xs (fopOf w store))) (view e o n c d w store)) in
+      (machine.onFop (machine.setClock (w .settings .«t1_initial») x (machine.setSequence (v .vs) (v .nnr) xs (fopOf w lengths store))) (view e o n c d w lengths store)) in
       let a : advanced (v .«transmission_count») 1 ≡ v .«transmission_count» + 1 = omega arith in
       let z : q .sent - q .sent ≡ 0 = omega arith in
-      let b : entriesOf (q .lengths) store (v .vs) (q .sent) (q .sent) ≡ markAll (entriesOf (q .lengths) store (v .vs) (q .sent) (q .marked)) =
-      ap (λ (p : ℕ). entriesFrom (q .lengths) store (offset (v .vs) (q .sent)) p 0 (q .sent)) z
-      ∙ sym (mark-all (q .lengths) store (offset (v .vs) (q .sent)) (q .sent - q .marked) 0 (q .sent)) in
-      ap (λ (x : ℕ). F x (markAll (entriesOf (q .lengths) store (v .vs) (q .sent) (q .marked)))) (sym a) ∙ ap (F (advanced (v .«transmission_count») 1)) (sym b)
+      let b : entriesOf lengths store (v .vs) (q .sent) (q .sent) ≡ markAll (entriesOf lengths store (v .vs) (q .sent) (q .marked)) =
+      ap (λ (p : ℕ). entriesFrom lengths store (offset (v .vs) (q .sent)) p 0 (q .sent)) z
+      ∙ sym (mark-all lengths store (offset (v .vs) (q .sent)) (q .sent - q .marked) 0 (q .sent)) in
+      ap (λ (x : ℕ). F x (markAll (entriesOf lengths store (v .vs) (q .sent) (q .marked)))) (sym a) ∙ ap (F (advanced (v .«transmission_count») 1)) (sym b)
 
   marked-bc : (k : Control) (m : Bool) → markBc (bcOf k m) ≡ bcOf k true
   marked-bc control.None m = refl
@@ -55,14 +56,14 @@ module _ (e : Option FopEvent) (o : List ℕ) (n : ℕ) (c d : List Fdu) (w : Wo
   marked-bc (control.SetVr x) m = refl
 
   pub initiate-bc-retransmission : w .variables .«transmission_count» < 255
-      → perform table.InitiateBcRetransmission (view e o n c d w store) ≡ view e o n c d (act.initiateBcRetransmission w) store
+      → perform table.InitiateBcRetransmission (view e o n c d w lengths store) ≡ view e o n c d (act.initiateBcRetransmission w) lengths store
   unfolding perform act.initiateBcRetransmission act.holdControl act.again act.abort act.startTimer withVariables withQueues withTold
   initiate-bc-retransmission h =
       let v = w .variables in
       let q = w .queues in
       let F : ℕ → Option BcEntry → machine.Work = λ x b.
       machine.tell true (reasonOf (w .told .alert)) (w .told .suspended)
-      (machine.onFop (machine.setClock (w .settings .«t1_initial») x (machine.setBc b (fopOf w store))) (view e o n c d w store)) in
+      (machine.onFop (machine.setClock (w .settings .«t1_initial») x (machine.setBc b (fopOf w lengths store))) (view e o n c d w lengths store)) in
       let a : advanced (v .«transmission_count») 1 ≡ v .«transmission_count» + 1 = omega arith in
       ap (λ (x : ℕ). F x (markBc (bcOf (q .control) (q .«control_marked»)))) (sym a)
       ∙ ap (F (advanced (v .«transmission_count») 1)) (marked-bc (q .control) (q .«control_marked»))
@@ -100,42 +101,42 @@ none-of : (m : ℕ) → m ≤ 0 → m ≡ 0
 none-of m h = omega arith
 
 -- Frames handed down where none was.
-module _ (e : Option FopEvent) (o : List ℕ) (n : ℕ) (c d : List Fdu) (w : Work) (store : List ℕ) (first : w .told .handed ≡ handed.None) where
-  no-frames : framesOf (w .told .handed) (w .queues .lengths) store o ≡ []
-  no-frames = ap (λ (h : Handed). framesOf h (w .queues .lengths) store o) first
+module _ (e : Option FopEvent) (o : List ℕ) (n : ℕ) (c d : List Fdu) (w : Work) (lengths store : List ℕ) (first : w .told .handed ≡ handed.None) where
+  no-frames : framesOf (w .told .handed) lengths store o ≡ []
+  no-frames = ap (λ (h : Handed). framesOf h lengths store o) first
 
-  pub transmit-unlock : perform table.TransmitUnlock (view e o n c d w store) ≡ view e o n c d (act.transmitUnlock w) store
+  pub transmit-unlock : perform table.TransmitUnlock (view e o n c d w lengths store) ≡ view e o n c d (act.transmitUnlock w) lengths store
   unfolding perform transmitBc act.transmitUnlock act.transmitBcFrame act.holdControl act.handDown act.startTimer withVariables withQueues withTold
   transmit-unlock =
-      ap (λ (x : List Frame). seen e o n c d w (fopOf (act.transmitUnlock w) store) (x ++ (Unlock ∷ [])) (responsesOf (w .told .responses))) no-frames
+      ap (λ (x : List Frame). seen e o n c d w (fopOf (act.transmitUnlock w) lengths store) (x ++ (Unlock ∷ [])) (responsesOf (w .told .responses))) no-frames
 
-  pub transmit-set-vr : perform table.TransmitSetVr (view e o n c d w store) ≡ view e o n c d (act.transmitSetVr n w) store
+  pub transmit-set-vr : perform table.TransmitSetVr (view e o n c d w lengths store) ≡ view e o n c d (act.transmitSetVr n w) lengths store
   unfolding perform transmitBc act.transmitSetVr act.transmitBcFrame act.holdControl act.handDown act.startTimer withVariables withQueues withTold
   transmit-set-vr =
-      ap (λ (x : List Frame). seen e o n c d w (fopOf (act.transmitSetVr n w) store) (x ++ (SetVR n ∷ [])) (responsesOf (w .told .responses))) no-frames
+      ap (λ (x : List Frame). seen e o n c d w (fopOf (act.transmitSetVr n w) lengths store) (x ++ (SetVR n ∷ [])) (responsesOf (w .told .responses))) no-frames
 
-  pub transmit-bd : perform table.TransmitBd (view e o n c d w store) ≡ view e o n c d (act.transmitBdFrame w) store
+  pub transmit-bd : perform table.TransmitBd (view e o n c d w lengths store) ≡ view e o n c d (act.transmitBdFrame w) lengths store
   unfolding perform act.transmitBdFrame act.handDown withVariables withTold
-  transmit-bd = ap (λ (x : List Frame). seen e o n c d w (fopOf (act.transmitBdFrame w) store) (x ++ (BD o ∷ [])) (responsesOf (w .told .responses))) no-frames
+  transmit-bd = ap (λ (x : List Frame). seen e o n c d w (fopOf (act.transmitBdFrame w) lengths store) (x ++ (BD o ∷ [])) (responsesOf (w .told .responses))) no-frames
 
   -- Look for directive, with the frame x on the Sent_Queue
-  looked : (x : Frame) (h : Handed) → framesOf h (w .queues .lengths) store o ≡ x ∷ [] → bcOf (w .queues .control) false ≡ some (record { frame = x; marked = false })
+  looked : (x : Frame) (h : Handed) → framesOf h lengths store o ≡ x ∷ [] → bcOf (w .queues .control) false ≡ some (record { frame = x; marked = false })
       → (a m : Bool) → w .variables .«bc_out» ≡ a → w .queues .«control_marked» ≡ m
-      → lookForDirective (some (record { frame = x; marked = w .queues .«control_marked» })) (view e o n c d w store) ≡ view e o n c d (pick a (pick m (act.sendControl h w) w) w) store
+      → lookForDirective (some (record { frame = x; marked = w .queues .«control_marked» })) (view e o n c d w lengths store) ≡ view e o n c d (pick a (pick m (act.sendControl h w) w) w) lengths store
   unfolding lookForDirective act.sendControl act.holdControl act.handDown withVariables withQueues withTold
   looked x h f b true true p q =
       let F : Option BcEntry → List Frame → machine.Work = λ y fr.
-      seen e o n c d w (machine.setOut (w .variables .«ad_out») false (w .variables .«bd_out») (machine.setBc y (fopOf w store))) fr (responsesOf (w .told .responses)) in
+      seen e o n c d w (machine.setOut (w .variables .«ad_out») false (w .variables .«bd_out») (machine.setBc y (fopOf w lengths store))) fr (responsesOf (w .told .responses)) in
       yes (w .queues .«control_marked» && w .variables .«bc_out») _ _ (rw (q, p))
       ∙ ap (λ (fr : List Frame). F (some (record { frame = x; marked = false })) (fr ++ (x ∷ []))) no-frames
       ∙ ap (F (some (record { frame = x; marked = false }))) (sym f)
-      ∙ ap (λ (y : Option BcEntry). F y (framesOf h (w .queues .lengths) store o)) (sym b)
+      ∙ ap (λ (y : Option BcEntry). F y (framesOf h lengths store o)) (sym b)
   looked x h f b true false p q = no (w .queues .«control_marked» && w .variables .«bc_out») _ _ (rw q)
   looked x h f b false true p q = no (w .queues .«control_marked» && w .variables .«bc_out») _ _ (rw (q, p))
   looked x h f b false false p q = no (w .queues .«control_marked» && w .variables .«bc_out») _ _ (rw q)
 
   looked-of : (k : Control) → w .queues .control ≡ k
-      → lookForDirective (bcOf k (w .queues .«control_marked»)) (view e o n c d w store) ≡ view e o n c d (act.lookForDirectiveOf k w) store
+      → lookForDirective (bcOf k (w .queues .«control_marked»)) (view e o n c d w lengths store) ≡ view e o n c d (act.lookForDirectiveOf k w) lengths store
   unfolding act.lookForDirectiveOf act.sendMarkedControl lookForDirective
   looked-of control.None p = refl
   looked-of control.Unlock p =
@@ -143,86 +144,86 @@ module _ (e : Option FopEvent) (o : List ℕ) (n : ℕ) (c d : List Fdu) (w : Wo
   looked-of (control.SetVr x) p =
       looked (SetVR x) (handed.SetVr x) refl (ap (λ (k : Control). bcOf k false) p) (w .variables .«bc_out») (w .queues .«control_marked») refl refl
 
-  pub look-for-directive : perform table.LookForDirective (view e o n c d w store) ≡ view e o n c d (act.lookForDirective w) store
+  pub look-for-directive : perform table.LookForDirective (view e o n c d w lengths store) ≡ view e o n c d (act.lookForDirective w) lengths store
   unfolding perform
   look-for-directive = looked-of (w .queues .control) refl
 
   -- Look for FDU
-  module _ (well : WellFormed w store) (room : Room 1 (w .told .responses)) where
+  module _ (well : WellFormed w lengths store) (room : Room 1 (w .told .responses)) where
     marked-again : 0 < w .queues .marked
-        → sendNext (firstMarked (entriesOf (w .queues .lengths) store (w .variables .vs) (w .queues .sent) (w .queues .marked))) (view e o n c d w store)
-        ≡ view e o n c d (act.sendMarked w) store
+        → sendNext (firstMarked (entriesOf lengths store (w .variables .vs) (w .queues .sent) (w .queues .marked))) (view e o n c d w lengths store)
+        ≡ view e o n c d (act.sendMarked w) lengths store
     unfolding sendNext act.sendMarked act.handDown withVariables withQueues withTold
     marked-again h =
         let q = w .queues in
         let v = w .variables in
         let p = q .sent - q .marked in
         let f = offset (v .vs) (q .sent) in
-        let Q = entriesOf (q .lengths) store (v .vs) (q .sent) (q .marked) in
+        let Q = entriesOf lengths store (v .vs) (q .sent) (q .marked) in
         let x : advanced f p ≡ offset (v .vs) (q .marked) = offset-add (v .vs) (q .sent) (q .marked) (well .last) (omega (arith, well .sent-most)) (well .vs-octet) in
         let y : p ≡ offset (q .sent) (q .marked) = sym (offset-ge (q .sent) (q .marked) (well .last) (omega (arith, well .sent-most))) in
         let z : q .sent - offset (q .marked) 1 ≡ suc p = one-fewer (q .sent) (q .marked) h (well .last) (well .sent-most) in
         let F : List Frame → ℕ → ℕ → List Entry → machine.Work = λ fr i j xs.
-        seen e o n c d w (machine.setOut false (v .«bc_out») (v .«bd_out») (machine.setSequence (v .vs) (v .nnr) xs (fopOf w store)))
-        (fr ++ (AD (record { ns = i; octets = unitAt (q .lengths) j store }) ∷ [])) (responsesOf (w .told .responses)) in
-        ap (λ (u : Option Fdu). sendNext u (view e o n c d w store)) (first-marked (q .lengths) store f p 0 (q .sent) (omega arith) (omega (arith, well .last)))
+        seen e o n c d w (machine.setOut false (v .«bc_out») (v .«bd_out») (machine.setSequence (v .vs) (v .nnr) xs (fopOf w lengths store)))
+        (fr ++ (AD (record { ns = i; octets = unitAt lengths j store }) ∷ [])) (responsesOf (w .told .responses)) in
+        ap (λ (u : Option Fdu). sendNext u (view e o n c d w lengths store)) (first-marked lengths store f p 0 (q .sent) (omega arith) (omega (arith, well .last)))
         ∙ ap (λ (fr : List Frame). F fr (advanced f p) p (unmark Q)) no-frames
         ∙ ap (λ (i : ℕ). F [] i p (unmark Q)) x
         ∙ ap (λ (j : ℕ). F [] (offset (v .vs) (q .marked)) j (unmark Q)) y
         ∙ ap (F [] (offset (v .vs) (q .marked)) (offset (q .sent) (q .marked)))
-        (unmark-first (q .lengths) store f p 0 (q .sent) (omega arith) (omega (arith, well .last)) ∙ ap (λ (j : ℕ). entriesFrom (q .lengths) store f j 0 (q .sent)) (sym z))
+        (unmark-first lengths store f p 0 (q .sent) (omega arith) (omega (arith, well .last)) ∙ ap (λ (j : ℕ). entriesFrom lengths store f j 0 (q .sent)) (sym z))
 
     -- the unit waiting is accepted and sent
-    waiting-sent : w .queues .marked ≡ 0 → sendWaiting (some (unitAt (w .queues .lengths) (w .queues .sent) store)) (view e o n c d w store)
-        ≡ view e o n c d (act.transmitAdFrame (act.respond AcceptAdUnit w)) store
+    waiting-sent : w .queues .marked ≡ 0 → sendWaiting (some (unitAt lengths (w .queues .sent) store)) (view e o n c d w lengths store)
+        ≡ view e o n c d (act.transmitAdFrame (act.respond AcceptAdUnit w)) lengths store
     unfolding sendWaiting transmitAd act.transmitAdFrame act.respond act.handDown act.startTimer withVariables withQueues withTold
     waiting-sent z =
         let q = w .queues in
         let v = w .variables in
-        let u = unitAt (q .lengths) (q .sent) store in
-        let Q = entriesOf (q .lengths) store (v .vs) (q .sent) (q .marked) in
+        let u = unitAt lengths (q .sent) store in
+        let Q = entriesOf lengths store (v .vs) (q .sent) (q .marked) in
         let new : Entry = record { fdu = record { ns = v .vs; octets = u }; marked = false } in
         let F : List Frame → List machine.Response → ℕ → List Entry → machine.Work = λ fr rs x xs.
         seen e o n c d w (machine.setOut false (v .«bc_out») (v .«bd_out»)
-        (machine.setClock (w .settings .«t1_initial») x (machine.setSequence (advanced (v .vs) 1) (v .nnr) xs (machine.setWait none (fopOf w store)))))
+        (machine.setClock (w .settings .«t1_initial») x (machine.setSequence (advanced (v .vs) 1) (v .nnr) xs (machine.setWait none (fopOf w lengths store)))))
         (fr ++ (AD (record { ns = v .vs; octets = u }) ∷ [])) rs in
         let rs = responsesOf (w .told .responses) ++ (machine.acceptAdUnit ∷ []) in
         let k = act.countFor (q .sent) (v .«transmission_count») in
-        let more = entriesOf (q .lengths) store (advanced (v .vs) 1) (advanced (q .sent) 1) (q .marked) in
+        let more = entriesOf lengths store (advanced (v .vs) 1) (advanced (q .sent) 1) (q .marked) in
         ap (λ (fr : List Frame). F fr rs (countFor Q (v .«transmission_count»)) (Q ++ (new ∷ []))) no-frames
-        ∙ ap (λ (x : ℕ). F [] rs x (Q ++ (new ∷ []))) (count-same (q .lengths) store (offset (v .vs) (q .sent)) (q .sent - q .marked) (q .sent) (v .«transmission_count»))
-        ∙ ap (F [] rs k) (sym (sent-more (q .lengths) store (v .vs) (q .sent) (q .marked) z (well .sent-most) (well .vs-octet)))
+        ∙ ap (λ (x : ℕ). F [] rs x (Q ++ (new ∷ []))) (count-same lengths store (offset (v .vs) (q .sent)) (q .sent - q .marked) (q .sent) (v .«transmission_count»))
+        ∙ ap (F [] rs k) (sym (sent-more lengths store (v .vs) (q .sent) (q .marked) z (well .sent-most) (well .vs-octet)))
         ∙ ap (λ (r : List machine.Response). F [] r k more) (sym (more-responses 1 (w .told .responses) room))
 
     none-marked-next : w .queues .marked ≡ 0
-        → sendNext (firstMarked (entriesOf (w .queues .lengths) store (w .variables .vs) (w .queues .sent) (w .queues .marked))) (view e o n c d w store)
-        ≡ pick (act.inWindow w) (sendWaiting (waitOf (w .queues .lengths) store (w .queues .sent) (w .queues .waiting)) (view e o n c d w store)) (view e o n c d w store)
+        → sendNext (firstMarked (entriesOf lengths store (w .variables .vs) (w .queues .sent) (w .queues .marked))) (view e o n c d w lengths store)
+        ≡ pick (act.inWindow w) (sendWaiting (waitOf lengths store (w .queues .sent) (w .queues .waiting)) (view e o n c d w lengths store)) (view e o n c d w lengths store)
     unfolding sendNext act.inWindow
     none-marked-next z =
         let q = w .queues in
         let h : 0 + q .sent ≤ q .sent - q .marked = omega arith in
-        ap (λ (u : Option Fdu). sendNext u (view e o n c d w store)) (none-marked (q .lengths) store (offset (w .variables .vs) (q .sent)) (q .sent - q .marked) 0 (q .sent) h)
+        ap (λ (u : Option Fdu). sendNext u (view e o n c d w lengths store)) (none-marked lengths store (offset (w .variables .vs) (q .sent)) (q .sent - q .marked) 0 (q .sent) h)
 
-    send-none : sendWaiting none (view e o n c d w store) ≡ view e o n c d w store
+    send-none : sendWaiting none (view e o n c d w lengths store) ≡ view e o n c d w lengths store
     unfolding sendWaiting
     send-none = refl
 
-    pub look-for-fdu : perform table.LookForFdu (view e o n c d w store) ≡ view e o n c d (act.lookForFdu w) store
+    pub look-for-fdu : perform table.LookForFdu (view e o n c d w lengths store) ≡ view e o n c d (act.lookForFdu w) lengths store
     unfolding perform lookForFdu act.lookForFdu
     look-for-fdu = by (w .variables .«ad_out») (ltb 0 (w .queues .marked)) refl (w .queues .waiting) refl (act.inWindow w) refl where
       zero-marked : ltb 0 (w .queues .marked) ≡ false → w .queues .marked ≡ 0
       zero-marked x = none-of (w .queues .marked) (ltb-false 0 (w .queues .marked) x)
 
       by : (a m : Bool) → ltb 0 (w .queues .marked) ≡ m → (i : Bool) → w .queues .waiting ≡ i → (r : Bool) → act.inWindow w ≡ r
-          → pick a (sendNext (firstMarked (entriesOf (w .queues .lengths) store (w .variables .vs) (w .queues .sent) (w .queues .marked))) (view e o n c d w store)) (view e o n c d w store)
-          ≡ view e o n c d (pick a (pick m (act.sendMarked w) (pick i (pick r (act.transmitAdFrame (act.respond AcceptAdUnit w)) w) w)) w) store
+          → pick a (sendNext (firstMarked (entriesOf lengths store (w .variables .vs) (w .queues .sent) (w .queues .marked))) (view e o n c d w lengths store)) (view e o n c d w lengths store)
+          ≡ view e o n c d (pick a (pick m (act.sendMarked w) (pick i (pick r (act.transmitAdFrame (act.respond AcceptAdUnit w)) w) w)) w) lengths store
       by false m x i f r g = refl
       by true true x i f r g = marked-again (ltb-true 0 (w .queues .marked) x)
       by true false x true f true g =
           none-marked-next (zero-marked x) ∙ yes _ _ _ g
-          ∙ ap (λ (b : Bool). sendWaiting (waitOf (w .queues .lengths) store (w .queues .sent) b) (view e o n c d w store)) f ∙ waiting-sent (zero-marked x)
+          ∙ ap (λ (b : Bool). sendWaiting (waitOf lengths store (w .queues .sent) b) (view e o n c d w lengths store)) f ∙ waiting-sent (zero-marked x)
       by true false x true f false g = none-marked-next (zero-marked x) ∙ no _ _ _ g
       by true false x false f true g =
           none-marked-next (zero-marked x) ∙ yes _ _ _ g
-          ∙ ap (λ (b : Bool). sendWaiting (waitOf (w .queues .lengths) store (w .queues .sent) b) (view e o n c d w store)) f ∙ send-none
+          ∙ ap (λ (b : Bool). sendWaiting (waitOf lengths store (w .queues .sent) b) (view e o n c d w lengths store)) f ∙ send-none
       by true false x false f false g = none-marked-next (zero-marked x) ∙ no _ _ _ g

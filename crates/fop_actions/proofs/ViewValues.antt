@@ -16,77 +16,77 @@ use Rattle.fop_actions.specs.Parts.{withSettings, withVariables, withTol
 use Rattle.fop_actions.specs.Actions as act
 use Rattle.fop_actions.specs.View.{stateOf, entriesFrom, entriesOf, fopOf, view}
 
-module _ (e : Option FopEvent) (o : List ℕ) (n : ℕ) (c d : List Fdu) (w : Work) (store : List ℕ) where
-  pub ignore : perform table.Ignore (view e o n c d w store) ≡ view e o n c d w store
+module _ (e : Option FopEvent) (o : List ℕ) (n : ℕ) (c d : List Fdu) (w : Work) (lengths store : List ℕ) where
+  pub ignore : perform table.Ignore (view e o n c d w lengths store) ≡ view e o n c d w lengths store
   unfolding perform
   ignore = refl
 
-  pub cancel-timer : perform table.CancelTimer (view e o n c d w store) ≡ view e o n c d (act.cancelTimer w) store
+  pub cancel-timer : perform table.CancelTimer (view e o n c d w lengths store) ≡ view e o n c d (act.cancelTimer w) lengths store
   unfolding perform act.cancelTimer withVariables
   cancel-timer = refl
 
-  pub start-timer : perform table.StartTimer (view e o n c d w store) ≡ view e o n c d (act.startTimer w) store
+  pub start-timer : perform table.StartTimer (view e o n c d w lengths store) ≡ view e o n c d (act.startTimer w) lengths store
   unfolding perform act.startTimer withVariables
   start-timer = refl
 
-  pub ad-out-ready : perform table.AdOutReady (view e o n c d w store) ≡ view e o n c d (act.adOutReady w) store
+  pub ad-out-ready : perform table.AdOutReady (view e o n c d w lengths store) ≡ view e o n c d (act.adOutReady w) lengths store
   unfolding perform act.adOutReady withVariables
   ad-out-ready = refl
 
-  pub bc-out-ready : perform table.BcOutReady (view e o n c d w store) ≡ view e o n c d (act.bcOutReady w) store
+  pub bc-out-ready : perform table.BcOutReady (view e o n c d w lengths store) ≡ view e o n c d (act.bcOutReady w) lengths store
   unfolding perform act.bcOutReady withVariables
   bc-out-ready = refl
 
-  pub bd-out-ready : perform table.BdOutReady (view e o n c d w store) ≡ view e o n c d (act.bdOutReady w) store
+  pub bd-out-ready : perform table.BdOutReady (view e o n c d w lengths store) ≡ view e o n c d (act.bdOutReady w) lengths store
   unfolding perform act.bdOutReady withVariables
   bd-out-ready = refl
 
-  pub set-k : perform table.SetK (view e o n c d w store) ≡ view e o n c d (act.setK n w) store
+  pub set-k : perform table.SetK (view e o n c d w lengths store) ≡ view e o n c d (act.setK n w) lengths store
   unfolding perform act.setK withSettings
   set-k = refl
 
-  pub set-t1-initial : perform table.SetT1Initial (view e o n c d w store) ≡ view e o n c d (act.setT1Initial n w) store
+  pub set-t1-initial : perform table.SetT1Initial (view e o n c d w lengths store) ≡ view e o n c d (act.setT1Initial n w) lengths store
   unfolding perform act.setT1Initial withSettings
   set-t1-initial = refl
 
-  pub set-transmission-limit : perform table.SetTransmissionLimit (view e o n c d w store) ≡ view e o n c d (act.setTransmissionLimit n w) store
+  pub set-transmission-limit : perform table.SetTransmissionLimit (view e o n c d w lengths store) ≡ view e o n c d (act.setTransmissionLimit n w) lengths store
   unfolding perform act.setTransmissionLimit withSettings
   set-transmission-limit = refl
 
-  pub set-timeout-type : perform table.SetTimeoutType (view e o n c d w store) ≡ view e o n c d (act.setTimeoutType n w) store
+  pub set-timeout-type : perform table.SetTimeoutType (view e o n c d w lengths store) ≡ view e o n c d (act.setTimeoutType n w) lengths store
   unfolding perform act.setTimeoutType withSettings
   set-timeout-type = refl
 
-  pub set-nnr : perform table.SetNnr (view e o n c d w store) ≡ view e o n c d (act.setNnr n w) store
+  pub set-nnr : perform table.SetNnr (view e o n c d w lengths store) ≡ view e o n c d (act.setNnr n w) lengths store
   unfolding perform act.setNnr withVariables
   set-nnr = refl
 
-  pub suspend : perform table.Suspend (view e o n c d w store) ≡ view e o n c d (act.suspend w) store
+  pub suspend : perform table.Suspend (view e o n c d w lengths store) ≡ view e o n c d (act.suspend w) lengths store
   unfolding perform act.suspend withTold
   suspend = refl
 
-  pub resume : perform table.Resume (view e o n c d w store) ≡ view e o n c d (act.resumed w) store
+  pub resume : perform table.Resume (view e o n c d w lengths store) ≡ view e o n c d (act.resumed w) lengths store
   unfolding perform act.resumed act.setSuspendState act.startTimer withVariables
   resume = refl
 
-  pub release-bc-frame : perform table.ReleaseBcFrame (view e o n c d w store) ≡ view e o n c d (act.releaseBcFrame w) store
+  pub release-bc-frame : perform table.ReleaseBcFrame (view e o n c d w lengths store) ≡ view e o n c d (act.releaseBcFrame w) lengths store
   unfolding perform act.releaseBcFrame act.holdControl withQueues
   release-bc-frame = refl
 
-  pub set-suspend-state : (s : ℕ) → perform (table.SetSuspendState s) (view e o n c d w store) ≡ view e o n c d (act.setSuspendState s w) store
+  pub set-suspend-state : (s : ℕ) → perform (table.SetSuspendState s) (view e o n c d w lengths store) ≡ view e o n c d (act.setSuspendState s w) lengths store
   unfolding perform act.setSuspendState withVariables
   set-suspend-state s = refl
 
   -- the next state of a cell
-  pub to-state : (s : State) → machine.onFop (machine.setState (stateOf s) (fopOf w store)) (view e o n c d w store) ≡ view e o n c d (act.toState s w) store
+  pub to-state : (s : State) → machine.onFop (machine.setState (stateOf s) (fopOf w lengths store)) (view e o n c d w lengths store) ≡ view e o n c d (act.toState s w) lengths store
   unfolding act.toState
   to-state s = refl
 
-  pub set-vs : w .queues .sent ≡ 0 → perform table.SetVs (view e o n c d w store) ≡ view e o n c d (act.setVs n w) store
+  pub set-vs : w .queues .sent ≡ 0 → perform table.SetVs (view e o n c d w lengths store) ≡ view e o n c d (act.setVs n w) lengths store
   unfolding perform act.setVs withVariables
   set-vs z =
       let q = w .queues in
-      let none-sent : (vs : ℕ) → entriesOf (q .lengths) store vs (q .sent) (q .marked) ≡ [] = λ vs.
-      ap (λ (k : ℕ). entriesFrom (q .lengths) store (offset vs (q .sent)) (q .sent - q .marked) 0 k) z in
-      ap (λ (xs : List machine.Entry). machine.onFop (machine.setSequence n (w .variables .nnr) xs (fopOf w store)) (view e o n c d w store))
+      let none-sent : (vs : ℕ) → entriesOf lengths store vs (q .sent) (q .marked) ≡ [] = λ vs.
+      ap (λ (k : ℕ). entriesFrom lengths store (offset vs (q .sent)) (q .sent - q .marked) 0 k) z in
+      ap (λ (xs : List machine.Entry). machine.onFop (machine.setSequence n (w .variables .nnr) xs (fopOf w lengths store)) (view e o n c d w lengths store))
       (none-sent (w .variables .vs) ∙ sym (none-sent n))

@@ -1,12 +1,11 @@
 -- The actions of clause 7.9.2 and of table 7-8, on the work by value.
 -- They follow the struct's layout. The standard's own rendering is crate fop, specs/Machine; proofs/View… ties each of these to it.
-use Prim.Native.Nat.{ℕ, _+_}
+use Prim.Native.Nat.{ℕ, suc, _+_}
 use mathlib.Core.Bool.{Bool, true, false}
 use lib.Dec.{eqb, ltb}
 use lib.ListN.{set}
 use Rattle.base.specs.Choice.{pick}
 use Rattle.base.specs.Modulo.{advanced, offset}
-use Rattle.store.specs.Slid.{slid}
 use Rattle.fop_actions.specs.declared.State.{State}
 use Rattle.fop_actions.specs.declared.Control.{Control}
 use Rattle.fop_actions.specs.declared.Control.the-variants as control
@@ -18,7 +17,7 @@ use Rattle.fop_actions.specs.declared.Response.the-variants.{AcceptAdUni
 use Rattle.fop_actions.specs.declared.Responses.{Responses}
 use Rattle.fop_actions.specs.declared.Run.{Run}
 use Rattle.fop_actions.specs.declared.Work.{Work}
-use Rattle.fop_actions.specs.Limits.{places, largestResponses}
+use Rattle.fop_actions.specs.Limits.{largestResponses}
 use Rattle.fop_actions.specs.Parts.{setting, withSettings, withVariables, withQueues, withTold, numbered, clocked, flagged, suspendedAt, holding, controlling, handing, telling, responding, running}
 
 -- The timer, the out flags, the settings and the numbers.
@@ -130,10 +129,14 @@ suspend w = withTold (telling (w .told .abort) (w .told .alert) true (w .told)) 
 
 -- The queues.
 
--- Add to Wait_Queue a unit of n octets, which stands in the store behind the sent ones
-unfoldable pub addToWaitQueue : ℕ → Work → Work
-addToWaitQueue n w =
-    withQueues (holding (w .queues .sent) (w .queues .marked) true (pick (ltb (w .queues .sent) places) (set (w .queues .lengths) (w .queues .sent) n) (w .queues .lengths)) (w .queues)) w
+-- the units in the store: those on the Sent_Queue, and the one on the Wait_Queue
+abbrev pub unitsHeld : ℕ → Bool → ℕ
+unitsHeld sent true = suc sent
+unitsHeld sent false = sent
+
+-- Add to Wait_Queue a unit, which stands in the store behind the sent ones
+unfoldable pub addToWaitQueue : Work → Work
+addToWaitQueue w = withQueues (holding (w .queues .sent) (w .queues .marked) true (w .queues)) w
 
 -- the type-BC frame on the Sent_Queue, and whether it is marked
 unfoldable pub holdControl : Control → Bool → Work → Work
@@ -155,7 +158,7 @@ transmitAdFrame w =
     let v = w .variables in
     let q = w .queues in
     startTimer (handDown (handed.Ad (v .vs) (q .sent))
-    (withQueues (holding (advanced (q .sent) 1) (q .marked) false (q .lengths) q)
+    (withQueues (holding (advanced (q .sent) 1) (q .marked) false q)
     (withVariables (flagged false (v .«bc_out») (v .«bd_out») (clocked (v .timer) (countFor (q .sent) (v .«transmission_count»)) (numbered (advanced (v .vs) 1) (v .nnr) v))) w)))
 
 -- the oldest marked unit is sent again, and its mark is off: it is the first of the last `marked`
@@ -164,7 +167,7 @@ sendMarked w =
     let v = w .variables in
     let q = w .queues in
     handDown (handed.Ad (offset (v .vs) (q .marked)) (offset (q .sent) (q .marked)))
-    (withQueues (holding (q .sent) (offset (q .marked) 1) (q .waiting) (q .lengths) q)
+    (withQueues (holding (q .sent) (offset (q .marked) 1) (q .waiting) q)
     (withVariables (flagged false (v .«bc_out») (v .«bd_out») v) w))
 
 -- V(S) - NN(R) < K
@@ -227,7 +230,7 @@ again w =
 
 -- clause 7.9.2.11, Initiate AD retransmission: all units are marked
 unfoldable pub initiateAdRetransmission : Work → Work
-initiateAdRetransmission w = again (withQueues (holding (w .queues .sent) (w .queues .sent) (w .queues .waiting) (w .queues .lengths) (w .queues)) w)
+initiateAdRetransmission w = again (withQueues (holding (w .queues .sent) (w .queues .sent) (w .queues .waiting) (w .queues)) w)
 
 -- clause 7.9.2.12, Initiate BC retransmission: the type-BC frame is marked
 unfoldable pub initiateBcRetransmission : Work → Work
@@ -251,13 +254,13 @@ staying n w = least (w .queues .sent) (offset (w .variables .vs) n)
 abbrev pub removed : ℕ → Work → ℕ
 removed n w = offset (w .queues .sent) (staying n w)
 
--- clause 7.9.2.13, Remove acknowledged frames from Sent_Queue: those before number n; the lengths move down as the units in the store do
+-- clause 7.9.2.13, Remove acknowledged frames from Sent_Queue: those before number n
 unfoldable pub removeAcknowledgedFrames : ℕ → Work → Work
 removeAcknowledgedFrames n w =
     let v = w .variables in
     let q = w .queues in
     withTold (running (runFrom (offset (v .vs) (q .sent)) (removed n w)) (w .told .denied) (w .told))
-    (withQueues (holding (staying n w) (least (q .marked) (staying n w)) (q .waiting) (slid (removed n w) (q .lengths)) q)
+    (withQueues (holding (staying n w) (least (q .marked) (staying n w)) (q .waiting) q)
     (withVariables (clocked (v .timer) 1 (numbered (v .vs) n v)) w))
 
 -- the Sent_Queue without its frames; its units are denied
@@ -265,7 +268,7 @@ unfoldable pub emptied : Work → Work
 emptied w =
     let q = w .queues in
     releaseBcFrame (withTold (running (w .told .confirmed) (runFrom (offset (w .variables .vs) (q .sent)) (q .sent)) (w .told))
-    (withQueues (holding 0 0 (q .waiting) (q .lengths) q) w))
+    (withQueues (holding 0 0 (q .waiting) q) w))
 
 -- a type-BC frame gives the Negative Confirm of its directive
 unfoldable pub denyControl : Control → Work → Work
@@ -281,7 +284,7 @@ purgeSentQueue w = denyControl (w .queues .control) (emptied w)
 unfoldable pub notWaiting : Work → Work
 notWaiting w =
     let q = w .queues in
-    withQueues (holding (q .sent) (q .marked) false (q .lengths) q) w
+    withQueues (holding (q .sent) (q .marked) false q) w
 
 -- clause 7.9.2.5, Purging the Wait_Queue: its unit is rejected
 unfoldable pub purgeWaitQueue : Work → Work

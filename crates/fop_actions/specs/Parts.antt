@@ -1,7 +1,6 @@
 -- The work with one of its parts changed.
 use Prim.Native.Nat.{ℕ}
 use mathlib.Core.Bool.{Bool}
-use mathlib.Core.List.{List}
 use Rattle.fop_actions.specs.declared.Settings.{Settings}
 use Rattle.fop_actions.specs.declared.Variables.{Variables}
 use Rattle.fop_actions.specs.declared.Control.{Control}
@@ -90,15 +89,15 @@ suspendedAt s v = record {
 
 -- the queues
 
--- the units: how many are sent, how many of the last are marked, whether one waits, their lengths
-abbrev pub holding : ℕ → ℕ → Bool → List ℕ → Queues → Queues
-holding sent marked waiting lengths q =
-    record { sent = sent; marked = marked; waiting = waiting; control = q .control; «control_marked» = q .«control_marked»; lengths = lengths }
+-- the units: how many are sent, how many of the last are marked, whether one waits
+abbrev pub holding : ℕ → ℕ → Bool → Queues → Queues
+holding sent marked waiting q =
+    record { sent = sent; marked = marked; waiting = waiting; control = q .control; «control_marked» = q .«control_marked» }
 
 -- the type-BC frame, and whether it is marked
 abbrev pub controlling : Control → Bool → Queues → Queues
 controlling control marked q =
-    record { sent = q .sent; marked = q .marked; waiting = q .waiting; control = control; «control_marked» = marked; lengths = q .lengths }
+    record { sent = q .sent; marked = q .marked; waiting = q .waiting; control = control; «control_marked» = marked }
 
 -- what is told
 

@@ -1,6 +1,7 @@
 -- A sender at its start, and the work on an event at its start and at its end.
 use Prim.Native.Nat.{ℕ}
 use mathlib.Core.Bool.{true, false}
+use mathlib.Core.List.{List}
 use lib.ListN.{replicate}
 use Rattle.fop_actions.specs.declared.State.the-variants.{S6}
 use Rattle.fop_actions.specs.declared.Settings.{Settings}
@@ -10,7 +11,8 @@ use Rattle.fop_actions.specs.declared.Alert.the-variants as alert
 use Rattle.fop_actions.specs.declared.SenderState.{SenderState}
 use Rattle.fop_actions.specs.declared.Told.{Told}
 use Rattle.fop_actions.specs.declared.Work.{Work}
-use Rattle.fop_actions.specs.Limits.{places, largestResponses}
+use Rattle.store.specs.Places.{places}
+use Rattle.fop_actions.specs.Limits.{largestResponses}
 
 -- document 01: "A sender starts Initial, flags ready, queues empty, timer stopped, Transmission_Count 1, with the numbers and settings given"
 unfoldable pub startOf : Settings → ℕ → ℕ → SenderState
@@ -27,7 +29,8 @@ startOf settings vs nnr = record {
     «bd_out» = true;
     «suspend_state» = 0;
   };
-  queues = record { sent = 0; marked = 0; waiting = false; control = control.None; «control_marked» = false; lengths = replicate places 0 };
+  queues = record { sent = 0; marked = 0; waiting = false; control = control.None; «control_marked» = false };
+  lengths = replicate places 0;
 }
 
 -- nothing is told yet
@@ -46,6 +49,6 @@ noneTold = record {
 unfoldable pub begun : SenderState → Work
 begun s = record { state = s .state; settings = s .settings; variables = s .variables; queues = s .queues; told = noneTold }
 
--- the sender that the work leaves
-unfoldable pub senderOf : Work → SenderState
-senderOf w = record { state = w .state; settings = w .settings; variables = w .variables; queues = w .queues }
+-- the sender that the work leaves, with the lengths of its units
+unfoldable pub senderOf : Work → List ℕ → SenderState
+senderOf w lengths = record { state = w .state; settings = w .settings; variables = w .variables; queues = w .queues; lengths = lengths }

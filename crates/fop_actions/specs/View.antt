@@ -1,17 +1,16 @@
 -- What the work and the store of units are to the table machine (crate fop, specs/Variables and specs/Machine).
-use Prim.Native.Nat.{ℕ, zero, suc, _-_, _*_, _≤_, _<_}
+use Prim.Native.Nat.{ℕ, zero, suc, _-_, _≤_, _<_}
 use mathlib.Core.Path.{_≡_}
 use mathlib.Core.Bool.{Bool}
 use mathlib.Core.List.{List, [], _∷_, map}
 use mathlib.Core.Option.{Option, none, some}
 use lib.Dec.{eqb, leb}
-use lib.ListN.{length, take, drop, getD}
+use lib.ListN.{length, take, getD}
 use Rattle.base.specs.Choice.{pick}
 use Rattle.base.specs.Limits.{largestUnit}
 use Rattle.base.specs.Modulo.{advanced, offset}
-use Rattle.store.specs.Slid.{slidWithin}
+use Rattle.store.specs.Places.{places, placeOffset, unitAt}
 use Rattle.fop.specs.Limits.{largestK}
-use Rattle.fop_actions.specs.Limits.{places}
 use Rattle.fop.specs.Units.{Fdu, Frame, AD, BD, Unlock, SetVR}
 use Rattle.fop.specs.Answers as answers
 use Rattle.fop.specs.Table as table
@@ -38,14 +37,6 @@ stateOf state.S4 = table.S4
 stateOf state.S5 = table.S5
 stateOf state.S6 = table.S6
 
--- the unit at a place of the store
-abbrev pub unitAt : List ℕ → ℕ → List ℕ → List ℕ
-unitAt lengths place store = take (getD lengths place 0) (drop (largestUnit * place) store)
-
--- the store without its `count` oldest units: the others move down, and what is lent behind the last place stays
-abbrev pub without : ℕ → List ℕ → List ℕ
-without count store = slidWithin (largestUnit * places) (largestUnit * count) store
-
 -- the unit at place i of a queue whose oldest has number f and whose first p are unmarked
 abbrev pub entryAt : List ℕ → List ℕ → ℕ → ℕ → ℕ → Entry
 entryAt lengths store f p i = record { fdu = record { ns = advanced f i; octets = unitAt lengths i store }; marked = leb p i }
@@ -69,9 +60,9 @@ bcOf control.None marked = none
 bcOf control.Unlock marked = some (record { frame = Unlock; marked = marked })
 bcOf (control.SetVr n) marked = some (record { frame = SetVR n; marked = marked })
 
--- FOP-1's variables (clause 7.2.2)
-abbrev pub fopOf : Work → List ℕ → Fop
-fopOf w store = record {
+-- FOP-1's variables (clause 7.2.2), by the lengths and octets of the units in the store
+abbrev pub fopOf : Work → List ℕ → List ℕ → Fop
+fopOf w lengths store = record {
   state = stateOf (w .state);
   vs = w .variables .vs;
   nnr = w .variables .nnr;
@@ -84,8 +75,8 @@ fopOf w store = record {
   };
   clock = record { timer = w .variables .timer; transmissionCount = w .variables .«transmission_count» };
   out = record { ad = w .variables .«ad_out»; bc = w .variables .«bc_out»; bd = w .variables .«bd_out» };
-  sentQueue = entriesOf (w .queues .lengths) store (w .variables .vs) (w .queues .sent) (w .queues .marked);
-  waitQueue = waitOf (w .queues .lengths) store (w .queues .sent) (w .queues .waiting);
+  sentQueue = entriesOf lengths store (w .variables .vs) (w .queues .sent) (w .queues .marked);
+  waitQueue = waitOf lengths store (w .queues .sent) (w .queues .waiting);
   bcFrame = bcOf (w .queues .control) (w .queues .«control_marked»);
 }
 
@@ -127,13 +118,13 @@ abbrev pub runTold : Run → answers.Run
 runTold r = record { number = r .number; count = r .count }
 
 -- the work on the event e with the unit o and the value n; c is confirmed and d denied so far, of which the work holds the runs
-abbrev pub view : Option table.FopEvent → List ℕ → ℕ → List Fdu → List Fdu → Work → List ℕ → machine.Work
-view e o n c d w store = record {
-  fop = fopOf w store;
+abbrev pub view : Option table.FopEvent → List ℕ → ℕ → List Fdu → List Fdu → Work → List ℕ → List ℕ → machine.Work
+view e o n c d w lengths store = record {
+  fop = fopOf w lengths store;
   event = e;
   octets = o;
   value = n;
-  frames = framesOf (w .told .handed) (w .queues .lengths) store o;
+  frames = framesOf (w .told .handed) lengths store o;
   confirmed = c;
   denied = d;
   responses = responsesOf (w .told .responses);
@@ -153,8 +144,8 @@ pub record Formed (vs nnr sent marked : ℕ) (lengths store : List ℕ) : Type 0
   pub last : marked ≤ sent
   pub all-places : length lengths ≡ places
   pub units : (i : ℕ) → getD lengths i 0 ≤ largestUnit
-  pub room : largestUnit * places ≤ length store
+  pub room : placeOffset places ≤ length store
 
--- the same of a work and its store
-abbrev pub WellFormed : Work → List ℕ → Type 0
-WellFormed w store = Formed (w .variables .vs) (w .variables .nnr) (w .queues .sent) (w .queues .marked) (w .queues .lengths) store
+-- the same of a work, the lengths and the store
+abbrev pub WellFormed : Work → List ℕ → List ℕ → Type 0
+WellFormed w lengths store = Formed (w .variables .vs) (w .variables .nnr) (w .queues .sent) (w .queues .marked) lengths store

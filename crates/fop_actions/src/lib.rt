@@ -4,14 +4,9 @@ pub mod entries;
 pub mod release;
 pub mod start;
 pub mod transmit;
-pub mod units;
 pub mod values;
 
-// Document 01, "Limits": the largest sender window K.
-pub const LARGEST_K: u8 = 32;
-
-// The sent units of the largest K, and the unit waiting. The store has a place for each.
-pub const PLACES: usize = LARGEST_K as usize + 1;
+use store::PLACES;
 
 // The responses that one event can give at the most.
 pub const LARGEST_RESPONSES: usize = 4;
@@ -56,16 +51,15 @@ pub enum Control {
     SetVr(u8),
 }
 
-// The sent queue and the wait queue. The units lie in the store at a fixed stride, the oldest first: `sent` units on the sent queue, of
-// which the last `marked` have their To_Be_Retransmitted_Flag set, and directly behind them the unit waiting. `lengths` has the length
-// of each. `control_marked` is the To_Be_Retransmitted_Flag of the type-BC frame.
+// The sent queue and the wait queue. The units lie in the store, the oldest first: `sent` units on the sent queue, of which the last
+// `marked` have their To_Be_Retransmitted_Flag set, and directly behind them the unit waiting. `control_marked` is the
+// To_Be_Retransmitted_Flag of the type-BC frame.
 pub struct Queues {
     pub sent: u8,
     pub marked: u8,
     pub waiting: bool,
     pub control: Control,
     pub control_marked: bool,
-    pub lengths: [u16; PLACES],
 }
 
 // The frame handed down to the lower procedures: AD with its N(S) and the place of its unit in the store, BD with the unit requested.
@@ -114,12 +108,13 @@ pub struct Run {
     pub count: u8,
 }
 
-// The state of the sender, beside its store.
+// The state of the sender, beside its store. `lengths` has the length of each unit in the store.
 pub struct SenderState {
     pub state: State,
     pub settings: Settings,
     pub variables: Variables,
     pub queues: Queues,
+    pub lengths: [u16; PLACES],
 }
 
 // What is told so far: the frame handed down, an abort request, an Alert notification, a Suspend notification, the responses, the units
@@ -134,7 +129,7 @@ pub struct Told {
     pub denied: Run,
 }
 
-// The work on an event: the state of the sender, and what is told so far.
+// The work on an event: the state of the sender but for its units' lengths, and what is told so far.
 pub struct Work {
     pub state: State,
     pub settings: Settings,

@@ -7,7 +7,6 @@ use crate::Work;
 use crate::answers::notify;
 use crate::answers::respond;
 use crate::entries::release_bc_frame;
-use crate::entries::slide_lengths;
 use crate::values::cancel_timer;
 use crate::values::count_one;
 use crate::values::difference;
@@ -54,15 +53,12 @@ pub fn remove_acknowledged_frames(work: Work, number: u8) -> Work
     ensures { λ r. ⌜ r ≡ removeAcknowledgedFrames number work ⌝ }
 {
     let mut queues = work.queues;
-    let lengths = queues.lengths;
     let rest = staying(work, number);
     let removed = difference(queues.sent, rest);
     let marked = least(queues.marked, rest);
     let run = run_from(difference(work.variables.vs, queues.sent), removed);
-    let moved = slide_lengths(lengths, removed);
     queues.sent = rest;
     queues.marked = marked;
-    queues.lengths = moved;
     let mut told = work.told;
     told.confirmed = run;
     let mut next = work;

@@ -3,7 +3,6 @@ use crate::Alert;
 use crate::Control;
 use crate::Handed;
 use crate::LARGEST_RESPONSES;
-use crate::PLACES;
 use crate::Queues;
 use crate::Responses;
 use crate::Run;
@@ -13,6 +12,7 @@ use crate::State;
 use crate::Told;
 use crate::Variables;
 use crate::Work;
+use store::PLACES;
 ghost use mathlib.Core.Path.{_≡_};
 ghost use Rattle.fop_actions.specs.Start.{startOf, noneTold, begun, senderOf};
 
@@ -37,13 +37,13 @@ pub fn start(settings: Settings, vs: u8, nnr: u8) -> SenderState
         waiting: false,
         control: Control::None,
         control_marked: false,
-        lengths: lengths,
     };
     SenderState {
         state: State::S6,
         settings: settings,
         variables: variables,
         queues: queues,
+        lengths: lengths,
     }
 }
 
@@ -89,9 +89,9 @@ pub fn begin(sender: SenderState) -> Work
     }
 }
 
-// The sender after the work on an event.
-pub fn sender_of(work: Work) -> SenderState
-    ensures { λ r. ⌜ r ≡ senderOf work ⌝ }
+// The sender after the work on an event, with its units' lengths.
+pub fn sender_of(work: Work, lengths: [u16; PLACES]) -> SenderState
+    ensures { λ r. ⌜ r ≡ senderOf work lengths ⌝ }
 {
     let state = work.state;
     let settings = work.settings;
@@ -102,5 +102,6 @@ pub fn sender_of(work: Work) -> SenderState
         settings: settings,
         variables: variables,
         queues: queues,
+        lengths: lengths,
     }
 }

@@ -69,7 +69,7 @@ eventNumber E104 = 104
 
 -- the sender's variables; no condition of the table looks at a unit's octets, so no store is needed
 abbrev pub variablesOf : SenderState → Fop
-variablesOf s = fopOf (begun s) []
+variablesOf s = fopOf (begun s) (s .lengths) []
 
 -- what a control word tells FOP-1
 abbrev pub told : Clcw → Word

@@ -7,7 +7,7 @@ ghost use Rattle.fop_events.specs.Rows.{initiate, resume, setNumber, set
 // Document 01, "Limits".
 const LARGEST_NUMBER: u16 = 255;
 
-const LARGEST_K: u16 = fop_actions::LARGEST_K as u16;
+const LARGEST_K: u16 = base::LARGEST_K as u16;
 
 const LARGEST_TRANSMISSION_LIMIT: u16 = 255;
 

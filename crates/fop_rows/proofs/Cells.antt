@@ -90,36 +90,36 @@ unfolding toState
 kept s w e = ap (λ (t : State). toState t w) (sym e)
 
 -- what is asked, done
-module _ (n l : ℕ) where
+module _ (n : ℕ) where
   abbrev askedDone : Asked → Work → Work
-  askedDone a w = toState (a .next) (doneAll (a .acts) n l w)
+  askedDone a w = toState (a .next) (doneAll (a .acts) n w)
 
-  numbers-done : (ks : List ℕ) (w : Work) → doneNumbers ks n l w ≡ doneAll (map actionOf ks) n l w
+  numbers-done : (ks : List ℕ) (w : Work) → doneNumbers ks n w ≡ doneAll (map actionOf ks) n w
   unfolding doneNumbers doneAll
   numbers-done [] w = refl
-  numbers-done (k ∷ more) w = numbers-done more (done (actionOf k) n l w)
+  numbers-done (k ∷ more) w = numbers-done more (done (actionOf k) n w)
 
-  filled-done : (k : ℕ) (acts : List Action) (w : Work) → doneAll (filled k acts) n l w ≡ doneAll acts n l w
+  filled-done : (k : ℕ) (acts : List Action) (w : Work) → doneAll (filled k acts) n w ≡ doneAll acts n w
   unfolding doneAll done
   filled-done zero acts w = refl
   filled-done (suc k) [] w = filled-done k [] w
-  filled-done (suc k) (a ∷ more) w = filled-done k more (done a n l w)
+  filled-done (suc k) (a ∷ more) w = filled-done k more (done a n w)
 
-  cell-done : (c : Cell) (s : State) (w : Work) → w .state ≡ s → askedDone (byTable (eqb (w .variables .«suspend_state») 0) c s) w ≡ doneCell c n l w
+  cell-done : (c : Cell) (s : State) (w : Work) → w .state ≡ s → askedDone (byTable (eqb (w .variables .«suspend_state») 0) c s) w ≡ doneCell c n w
   unfolding doneCell doneAll
   cell-done NotApplicable s w e = ap (toState s) (filled-done 5 [] w) ∙ kept s w e
   cell-done (cell acts t) s w e = ap (toState (declared t)) (filled-done 5 acts w)
   cell-done (ifNotSuspended acts others t) s w e =
       ap (toState (declared t)) (filled-done 5 (pick (eqb (w .variables .«suspend_state») 0) acts others) w ∙ both-ways (eqb (w .variables .«suspend_state») 0))
     where
-      both-ways : (b : Bool) → doneAll (pick b acts others) n l w ≡ pick b (doneAll acts n l w) (doneAll others n l w)
+      both-ways : (b : Bool) → doneAll (pick b acts others) n w ≡ pick b (doneAll acts n w) (doneAll others n w)
       both-ways true = refl
       both-ways false = refl
 
-  row-done : (e : Option FopEvent) (s : State) (w : Work) → w .state ≡ s → askedDone (byEvent (eqb (w .variables .«suspend_state») 0) e s) w ≡ rowIf e n l w
+  row-done : (e : Option FopEvent) (s : State) (w : Work) → w .state ≡ s → askedDone (byEvent (eqb (w .variables .«suspend_state») 0) e s) w ≡ rowIf e n w
   unfolding rowIf rowOf doneCell
   row-done none s w e = cell-done NotApplicable s w e
-  row-done (some x) s w e = cell-done (cell78 (table78 x) (stateOf s)) s w e ∙ ap (λ (t : State). doneCell (cell78 (table78 x) (stateOf t)) n l w) (sym e)
+  row-done (some x) s w e = cell-done (cell78 (table78 x) (stateOf s)) s w e ∙ ap (λ (t : State). doneCell (cell78 (table78 x) (stateOf t)) n w) (sym e)
 
 -- while suspended, a row that stands for its own event is not E35's
 own-row : (k suspendState : ℕ) → eqb suspendState 0 ≡ false → unlessSuspended k suspendState ≡ k → placeOf k ≡ 35 → ⊥
@@ -139,10 +139,10 @@ module _ (rows cells : List (List ℕ)) (while-free : Agree true rows cells) (wh
 
   says : (k : ℕ) (s : State) → Says (getD cells (getD (getD rows (placeOf k) []) (columnOf s) 0) []) k s
   unfolding doneNumbered rowNumbered eventOf
-  says k s n l w e u =
-      ap (toState _) (numbers-done n l _ w)
-      ∙ ap (λ (a : Asked). askedDone n l a w) (asked-at k (w .variables .«suspend_state») s (eqb (w .variables .«suspend_state») 0) refl u)
-      ∙ row-done n l (getD events (placeOf k) none) s w e
+  says k s n w e u =
+      ap (toState _) (numbers-done n _ w)
+      ∙ ap (λ (a : Asked). askedDone n a w) (asked-at k (w .variables .«suspend_state») s (eqb (w .variables .«suspend_state») 0) refl u)
+      ∙ row-done n (getD events (placeOf k) none) s w e
 
   pub tells : all-below 50 rows ≡ true → Tells rows cells
   tells t = record { numbers = is-below 50 rows t (omega arith); says = says }

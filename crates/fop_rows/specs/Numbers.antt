@@ -32,9 +32,9 @@ unfoldable pub actionOf : ℕ → Action
 actionOf k = getD actions k Ignore
 
 -- the actions with these numbers in their order
-unfoldable pub doneNumbers : List ℕ → ℕ → ℕ → Work → Work
-doneNumbers [] n l w = w
-doneNumbers (k ∷ more) n l w = doneNumbers more n l (done (actionOf k) n l w)
+unfoldable pub doneNumbers : List ℕ → ℕ → Work → Work
+doneNumbers [] n w = w
+doneNumbers (k ∷ more) n w = doneNumbers more n (done (actionOf k) n w)
 
 -- the next state by its number: S1 to S6 are 1 to 6, any other number keeps the state s
 unfoldable pub stateNumbered : ℕ → State → State
@@ -43,8 +43,8 @@ stateNumbered k s =
     (pick (eqb k 2) state.S2 (pick (eqb k 3) state.S3 (pick (eqb k 4) state.S4 (pick (eqb k 5) state.S5 (pick (eqb k 6) state.S6 s)))))
 
 -- a cell in the state s: five actions, then the next state
-unfoldable pub doneNumbered : List ℕ → State → ℕ → ℕ → Work → Work
-doneNumbered numbers s n l w = act.toState (stateNumbered (getD numbers 5 0) s) (doneNumbers (take 5 numbers) n l w)
+unfoldable pub doneNumbered : List ℕ → State → ℕ → Work → Work
+doneNumbered numbers s n w = act.toState (stateNumbered (getD numbers 5 0) s) (doneNumbers (take 5 numbers) n w)
 
 -- the column of a state
 abbrev pub columnOf : State → ℕ
@@ -62,7 +62,7 @@ unlessSuspended k suspendState = pick (eqb k 35) (pick (eqb suspendState 0) k 40
 -- these numbers say what the row of the event k says in the state s
 abbrev pub Says : List ℕ → ℕ → State → Type 0
 Says numbers k s =
-    (n l : ℕ) (w : Work) → w .state ≡ s → unlessSuspended k (w .variables .«suspend_state») ≡ k → doneNumbered numbers s n l w ≡ rowNumbered k n l w
+    (n : ℕ) (w : Work) → w .state ≡ s → unlessSuspended k (w .variables .«suspend_state») ≡ k → doneNumbered numbers s n w ≡ rowNumbered k n w
 
 -- rows of cells' numbers, with these cells, say what the table says: each number is that of a cell, and the cell found says what its event's row says
 pub record Tells (rows cells : List (List ℕ)) : Type 0 where

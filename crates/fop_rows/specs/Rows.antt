@@ -63,57 +63,57 @@ isFrame (control.SetVr value) = true
 abbrev pub octet : ℕ → ℕ
 octet n = n % 256
 
--- an action of the table; n is the value that the event brings (N(R), or a directive's), l the length of the unit offered
-unfoldable pub done : Action → ℕ → ℕ → Work → Work
-done Ignore n l w = w
-done Accept n l w = act.respond response.AcceptDirective w
-done Reject n l w = act.respond response.RejectDirective w
-done Confirm n l w = act.respond response.ConfirmDirective w
-done RejectAd n l w = act.respond response.RejectAdUnit w
-done AcceptBd n l w = act.respond response.AcceptBdUnit w
-done RejectBd n l w = act.respond response.RejectBdUnit w
-done AddToWaitQueue n l w = act.addToWaitQueue l w
-done LookForFdu n l w = act.lookForFdu w
-done LookForDirective n l w = act.lookForDirective w
-done RemoveAcknowledgedFrames n l w = act.removeAcknowledgedFrames (octet n) w
-done InitiateAdRetransmission n l w = act.initiateAdRetransmission w
-done InitiateBcRetransmission n l w = act.initiateBcRetransmission w
-done ReleaseBcFrame n l w = act.releaseBcFrame w
-done CancelTimer n l w = act.cancelTimer w
-done StartTimer n l w = act.startTimer w
-done (Alert r) n l w = act.alert (declaredReason r) w
-done Initialise n l w = act.initialise w
-done TransmitUnlock n l w = act.transmitUnlock w
-done TransmitSetVr n l w = act.transmitSetVr (octet n) w
-done TransmitBd n l w = act.transmitBdFrame w
-done (SetSuspendState s) n l w = act.setSuspendState s w
-done Suspend n l w = act.suspend w
-done Resume n l w = act.resumed w
-done SetVs n l w = act.setVs (octet n) w
-done SetNnr n l w = act.setNnr (octet n) w
-done SetK n l w = act.setK (octet n) w
-done SetT1Initial n l w = act.setT1Initial n w
-done SetTransmissionLimit n l w = act.setTransmissionLimit (octet n) w
-done SetTimeoutType n l w = act.setTimeoutType (octet n) w
-done AdOutReady n l w = act.adOutReady w
-done BcOutReady n l w = act.bcOutReady w
-done BdOutReady n l w = act.bdOutReady w
+-- an action of the table; n is the value that the event brings (N(R), or a directive's)
+unfoldable pub done : Action → ℕ → Work → Work
+done Ignore n w = w
+done Accept n w = act.respond response.AcceptDirective w
+done Reject n w = act.respond response.RejectDirective w
+done Confirm n w = act.respond response.ConfirmDirective w
+done RejectAd n w = act.respond response.RejectAdUnit w
+done AcceptBd n w = act.respond response.AcceptBdUnit w
+done RejectBd n w = act.respond response.RejectBdUnit w
+done AddToWaitQueue n w = act.addToWaitQueue w
+done LookForFdu n w = act.lookForFdu w
+done LookForDirective n w = act.lookForDirective w
+done RemoveAcknowledgedFrames n w = act.removeAcknowledgedFrames (octet n) w
+done InitiateAdRetransmission n w = act.initiateAdRetransmission w
+done InitiateBcRetransmission n w = act.initiateBcRetransmission w
+done ReleaseBcFrame n w = act.releaseBcFrame w
+done CancelTimer n w = act.cancelTimer w
+done StartTimer n w = act.startTimer w
+done (Alert r) n w = act.alert (declaredReason r) w
+done Initialise n w = act.initialise w
+done TransmitUnlock n w = act.transmitUnlock w
+done TransmitSetVr n w = act.transmitSetVr (octet n) w
+done TransmitBd n w = act.transmitBdFrame w
+done (SetSuspendState s) n w = act.setSuspendState s w
+done Suspend n w = act.suspend w
+done Resume n w = act.resumed w
+done SetVs n w = act.setVs (octet n) w
+done SetNnr n w = act.setNnr (octet n) w
+done SetK n w = act.setK (octet n) w
+done SetT1Initial n w = act.setT1Initial n w
+done SetTransmissionLimit n w = act.setTransmissionLimit (octet n) w
+done SetTimeoutType n w = act.setTimeoutType (octet n) w
+done AdOutReady n w = act.adOutReady w
+done BcOutReady n w = act.bcOutReady w
+done BdOutReady n w = act.bdOutReady w
 
 -- actions in their order
-unfoldable pub doneAll : List Action → ℕ → ℕ → Work → Work
-doneAll [] n l w = w
-doneAll (a ∷ more) n l w = doneAll more n l (done a n l w)
+unfoldable pub doneAll : List Action → ℕ → Work → Work
+doneAll [] n w = w
+doneAll (a ∷ more) n w = doneAll more n (done a n w)
 
 -- a cell: its actions, then its next state. "Not Applicable": nothing is done and the state is kept.
-unfoldable pub doneCell : Cell → ℕ → ℕ → Work → Work
-doneCell NotApplicable n l w = w
-doneCell (cell acts s) n l w = act.toState (declared s) (doneAll acts n l w)
-doneCell (ifNotSuspended acts others s) n l w =
-    act.toState (declared s) (pick (eqb (w .variables .«suspend_state») 0) (doneAll acts n l w) (doneAll others n l w))
+unfoldable pub doneCell : Cell → ℕ → Work → Work
+doneCell NotApplicable n w = w
+doneCell (cell acts s) n w = act.toState (declared s) (doneAll acts n w)
+doneCell (ifNotSuspended acts others s) n w =
+    act.toState (declared s) (pick (eqb (w .variables .«suspend_state») 0) (doneAll acts n w) (doneAll others n w))
 
 -- the row of an event in the state of the work
-unfoldable pub rowOf : FopEvent → ℕ → ℕ → Work → Work
-rowOf e n l w = doneCell (cell78 (table78 e) (stateOf (w .state))) n l w
+unfoldable pub rowOf : FopEvent → ℕ → Work → Work
+rowOf e n w = doneCell (cell78 (table78 e) (stateOf (w .state))) n w
 
 -- The events by their numbers: E1 to E46 are 1 to 46, E101 to E104 are 101 to 104. Any other number is no event.
 abbrev pub placeOf : ℕ → ℕ
@@ -133,10 +133,10 @@ unfoldable pub eventOf : ℕ → Option FopEvent
 eventOf k = getD events (placeOf k) none
 
 -- the row of an event, if it is one
-unfoldable pub rowIf : Option FopEvent → ℕ → ℕ → Work → Work
-rowIf none n l w = w
-rowIf (some e) n l w = rowOf e n l w
+unfoldable pub rowIf : Option FopEvent → ℕ → Work → Work
+rowIf none n w = w
+rowIf (some e) n w = rowOf e n w
 
 -- the row of the event with this number
-unfoldable pub rowNumbered : ℕ → ℕ → ℕ → Work → Work
-rowNumbered k n l w = rowIf (eventOf k) n l w
+unfoldable pub rowNumbered : ℕ → ℕ → Work → Work
+rowNumbered k n w = rowIf (eventOf k) n w

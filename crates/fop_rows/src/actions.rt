@@ -78,9 +78,9 @@ fn octet(value: u16) -> u8
 }
 
 // Ignore, and the responses of the table.
-fn responding(work: Work, action: u8, value: u16, length: u16) -> Work
+fn responding(work: Work, action: u8, value: u16) -> Work
     requires { ⌜ action < 7 ⌝ }
-    ensures { λ r. ⌜ r ≡ done (actionOf action) value length work ⌝ }
+    ensures { λ r. ⌜ r ≡ done (actionOf action) value work ⌝ }
 {
     if action == IGNORE {
         return work;
@@ -104,9 +104,9 @@ fn responding(work: Work, action: u8, value: u16, length: u16) -> Work
 }
 
 // Alert, by its reason.
-fn alerting(work: Work, action: u8, value: u16, length: u16) -> Work
+fn alerting(work: Work, action: u8, value: u16) -> Work
     requires { ⌜ (7 ≤ action) × (action < 15) ⌝ }
-    ensures { λ r. ⌜ r ≡ done (actionOf action) value length work ⌝ }
+    ensures { λ r. ⌜ r ≡ done (actionOf action) value work ⌝ }
 {
     if action == ALERT_SYNCH {
         return alert(work, Alert::Synch);
@@ -133,12 +133,12 @@ fn alerting(work: Work, action: u8, value: u16, length: u16) -> Work
 }
 
 // The queues: a unit added, units and frames looked for, removed, and marked to be sent again.
-fn queueing(work: Work, action: u8, value: u16, length: u16) -> Work
+fn queueing(work: Work, action: u8, value: u16) -> Work
     requires { ⌜ (15 ≤ action) × (action < 21) ⌝ }
-    ensures { λ r. ⌜ r ≡ done (actionOf action) value length work ⌝ }
+    ensures { λ r. ⌜ r ≡ done (actionOf action) value work ⌝ }
 {
     if action == ADD_TO_WAIT_QUEUE {
-        return add_to_wait_queue(work, length);
+        return add_to_wait_queue(work);
     }
     if action == LOOK_FOR_FDU {
         return look_for_fdu(work);
@@ -156,9 +156,9 @@ fn queueing(work: Work, action: u8, value: u16, length: u16) -> Work
 }
 
 // The type-BC frame released, Initialise, and frames transmitted.
-fn transmitting(work: Work, action: u8, value: u16, length: u16) -> Work
+fn transmitting(work: Work, action: u8, value: u16) -> Work
     requires { ⌜ (21 ≤ action) × (action < 26) ⌝ }
-    ensures { λ r. ⌜ r ≡ done (actionOf action) value length work ⌝ }
+    ensures { λ r. ⌜ r ≡ done (actionOf action) value work ⌝ }
 {
     if action == RELEASE_BC {
         return release_bc_frame(work);
@@ -176,9 +176,9 @@ fn transmitting(work: Work, action: u8, value: u16, length: u16) -> Work
 }
 
 // The timer and suspension.
-fn timing(work: Work, action: u8, value: u16, length: u16) -> Work
+fn timing(work: Work, action: u8, value: u16) -> Work
     requires { ⌜ (26 ≤ action) × (action < 30) ⌝ }
-    ensures { λ r. ⌜ r ≡ done (actionOf action) value length work ⌝ }
+    ensures { λ r. ⌜ r ≡ done (actionOf action) value work ⌝ }
 {
     if action == CANCEL_TIMER {
         return cancel_timer(work);
@@ -193,9 +193,9 @@ fn timing(work: Work, action: u8, value: u16, length: u16) -> Work
 }
 
 // V(S), NN(R) and what directives set.
-fn setting(work: Work, action: u8, value: u16, length: u16) -> Work
+fn setting(work: Work, action: u8, value: u16) -> Work
     requires { ⌜ (30 ≤ action) × (action < 36) ⌝ }
-    ensures { λ r. ⌜ r ≡ done (actionOf action) value length work ⌝ }
+    ensures { λ r. ⌜ r ≡ done (actionOf action) value work ⌝ }
 {
     if action == SET_VS {
         return set_vs(work, octet(value));
@@ -216,9 +216,9 @@ fn setting(work: Work, action: u8, value: u16, length: u16) -> Work
 }
 
 // The out flags, and Suspend_State.
-fn marking(work: Work, action: u8, value: u16, length: u16) -> Work
+fn marking(work: Work, action: u8, value: u16) -> Work
     requires { ⌜ (36 ≤ action) × (action < 43) ⌝ }
-    ensures { λ r. ⌜ r ≡ done (actionOf action) value length work ⌝ }
+    ensures { λ r. ⌜ r ≡ done (actionOf action) value work ⌝ }
 {
     if action == AD_OUT_READY {
         return ad_out_ready(work);
@@ -242,29 +242,29 @@ fn marking(work: Work, action: u8, value: u16, length: u16) -> Work
 }
 
 // An action by its number.
-pub fn perform(work: Work, action: u8, value: u16, length: u16) -> Work
-    ensures { λ r. ⌜ r ≡ done (actionOf action) value length work ⌝ }
+pub fn perform(work: Work, action: u8, value: u16) -> Work
+    ensures { λ r. ⌜ r ≡ done (actionOf action) value work ⌝ }
 {
     if action < 7 {
-        return responding(work, action, value, length);
+        return responding(work, action, value);
     }
     if action < 15 {
-        return alerting(work, action, value, length);
+        return alerting(work, action, value);
     }
     if action < 21 {
-        return queueing(work, action, value, length);
+        return queueing(work, action, value);
     }
     if action < 26 {
-        return transmitting(work, action, value, length);
+        return transmitting(work, action, value);
     }
     if action < 30 {
-        return timing(work, action, value, length);
+        return timing(work, action, value);
     }
     if action < 36 {
-        return setting(work, action, value, length);
+        return setting(work, action, value);
     }
     if action < 43 {
-        return marking(work, action, value, length);
+        return marking(work, action, value);
     }
     work
 }

@@ -75,13 +75,13 @@ fn cell(event: u8, state: State) -> [u8; 6]
 }
 
 // The first five of these actions in their order.
-fn perform_all(work: Work, numbers: [u8; 6], value: u16, length: u16) -> Work
-    ensures { λ r. ⌜ r ≡ doneNumbers (take 5 numbers) value length work ⌝ }
+fn perform_all(work: Work, numbers: [u8; 6], value: u16) -> Work
+    ensures { λ r. ⌜ r ≡ doneNumbers (take 5 numbers) value work ⌝ }
 {
     let mut next = work;
     let mut i = 0;
     while i < 5 {
-        next = perform(next, numbers[i], value, length);
+        next = perform(next, numbers[i], value);
         i += 1;
     }
     next
@@ -112,15 +112,15 @@ fn next_state(number: u8, state: State) -> State
     state
 }
 
-// The work by the row of the event with this number; value is N(R) or a directive's, length that of the unit offered. A number that is
-// no event's does nothing.
-pub fn row(work: Work, event: u8, value: u16, length: u16) -> Work
-    ensures { λ r. ⌜ r ≡ rowNumbered event value length work ⌝ }
+// The work by the row of the event with this number; value is N(R) or a directive's. A number that is no event's does
+// nothing.
+pub fn row(work: Work, event: u8, value: u16) -> Work
+    ensures { λ r. ⌜ r ≡ rowNumbered event value work ⌝ }
 {
     let state = work.state;
     let chosen = unless_suspended(event, work.variables.suspend_state);
     let numbers = cell(chosen, state);
-    let after = perform_all(work, numbers, value, length);
+    let after = perform_all(work, numbers, value);
     let next = next_state(numbers[5], state);
     to_state(after, next)
 }

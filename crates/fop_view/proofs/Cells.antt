@@ -1,16 +1,15 @@
 -- A cell that is allowed shows the machine's work: its actions lead to a mode that its next state asks, and from there the next state is set.
-use Prim.Native.Nat.{ℕ, _<_}
+use Prim.Native.Nat.{ℕ, suc, _+_, _≤_, _<_}
 use mathlib.Core.Path.{_≡_, refl, sym, ap, subst, _∙_}
 use mathlib.Core.Bool.{Bool, true, false, not}
 use mathlib.Core.List.{List, []}
 use native.Mathlib.Omega.{arith}
 use borrow.Author.Tests.{eq-eqb, not-true}
 use lib.Dec.{eqb}
-use lib.ListN.{length}
 use Rattle.base.specs.Choice.{pick, both}
 use Rattle.base.proofs.Tests.{apart, both-left, both-right}
 use Rattle.store.proofs.Parts.{slid-none}
-use Rattle.fop_actions.proofs.SentQueue.{without-none}
+use Rattle.store.proofs.Moving.{without-none}
 use Rattle.fop.specs.Table as table
 use Rattle.fop.specs.Table.{Action, Cell, cell, ifNotSuspended, NotApplicable}
 use Rattle.fop.specs.Variables as machine
@@ -23,14 +22,16 @@ use Rattle.fop_actions.specs.declared.State.{State}
 use Rattle.fop_actions.specs.declared.State.the-variants as state
 use Rattle.fop_actions.specs.declared.Work.{Work}
 use Rattle.fop_actions.specs.Actions as act
+use Rattle.fop_actions.specs.Actions.{unitsHeld}
 use Rattle.fop_actions.specs.Start.{begun, senderOf, noneTold}
 use Rattle.fop_actions.specs.View.{stateOf, fopOf}
+use Rattle.fop_actions.proofs.SentQueue.{held-most}
 use Rattle.fop_actions.proofs.ViewValues as values
 use Rattle.fop_rows.specs.Rows.{declared, doneAll, doneCell, inMain}
 use Rattle.fop_view.specs.State.{Good}
-use Rattle.fop_view.specs.Rows.{Brings, nothing, acknowledging, again, offering, numbering, widening, clocking, limiting, timing, suspending, brings, Needed, storeBy, lengthsBy, Shows}
+use Rattle.fop_view.specs.Rows.{Brings, nothing, acknowledging, again, offering, numbering, widening, clocking, limiting, timing, suspending, brings, Needed, isOffering, storeBy, lengthsBy, Shows}
 use Rattle.fop_view.proofs.Mode.{Stored, kept, moved, put, Idle, Mode, fresh, going, half, over, bad, same, same-is, initial, idleIn, begins, implied, agrees, covers, notPut, putWhere, fits, ends, afterAll, allows}
-use Rattle.fop_view.proofs.Known.{Case, seen, Where, Left, StoreIs, LengthsIs, IdleIs, NoMore, Shut, At, known, where-on, none-below, no-more-first}
+use Rattle.fop_view.proofs.Known.{Case, seen, Where, Left, StoreIs, LengthsIs, IdleIs, most, Shut, At, known, where-on, none-below, no-more-first}
 use Rattle.fop_view.proofs.Actions.{steps}
 
 -- The store and the lengths after the event.
@@ -48,13 +49,13 @@ module _ (count : ℕ) (was : List ℕ) (down : ℕ → List ℕ) (added now : L
   put-left false moved t h = absurd (apart t)
   put-left false put t h = absurd (apart t)
 
-module _ (x : Case) (store : List ℕ) (w : Work) where
+module _ (x : Case) (lengths store : List ℕ) (w : Work) where
   abbrev LeftAfter : Brings → Type 0
-  LeftAfter b = (store ≡ storeBy b (x .octets) (x .sender) w (x .store)) × (w .queues .lengths ≡ lengthsBy b (x .octets) (x .sender) w)
+  LeftAfter b = (store ≡ storeBy b (x .octets) (x .sender) w (x .store)) × (lengths ≡ lengthsBy b (x .octets) (x .sender) w)
 
-  module _ (p : Stored) (s : StoreIs x p (w .told .confirmed .count) store) (l : LengthsIs x p (w .told .confirmed .count) (w .queues .lengths)) where
+  module _ (p : Stored) (s : StoreIs x p (w .told .confirmed .count) store) (l : LengthsIs x p (w .told .confirmed .count) lengths) where
     slid-both : notPut p ≡ true → LeftAfter nothing
-    slid-both t = (slid-left _ _ _ _ _ p (without-none (x .store)) t s, slid-left _ _ _ _ _ p (slid-none (x .sender .queues .lengths)) t l)
+    slid-both t = (slid-left _ _ _ _ _ p (without-none (x .sender .lengths) _ (x .store)) t s, slid-left _ _ _ _ _ p (slid-none (x .sender .lengths)) t l)
 
     left-after : (b : Brings) → fits b (inMain (x .sender .state)) p ≡ true → LeftAfter b
     left-after offering t = (put-left _ _ _ _ _ (inMain (x .sender .state)) p t s, put-left _ _ _ _ _ (inMain (x .sender .state)) p t l)
@@ -67,6 +68,39 @@ module _ (x : Case) (store : List ℕ) (w : Work) where
     left-after limiting t = slid-both t
     left-after timing t = slid-both t
     left-after suspending t = slid-both t
+
+-- The units after the event: no more than before it, where none is offered.
+module _ (x : Case) (w : Work) where
+  abbrev after : ℕ
+  after = w .told .confirmed .count + unitsHeld (w .queues .sent) (w .queues .waiting)
+
+  abbrev Few : Brings → Type 0
+  Few b = after ≤ pick (isOffering b) (suc (x .sender .queues .sent)) (unitsHeld (x .sender .queues .sent) (x .sender .queues .waiting))
+
+  few-kept : (p : Stored) → notPut p ≡ true → after ≤ most x p → Few nothing
+  few-kept kept t h = h
+  few-kept moved t h = h
+  few-kept put t h = absurd (apart t)
+
+  few-put : (b : Bool) (p : Stored) → putWhere b p ≡ true → after ≤ most x p → Few offering
+  few-put true kept t h = absurd (apart t)
+  few-put true moved t h = absurd (apart t)
+  few-put true put t h = h
+  few-put false kept t h = omega (arith, h, held-most (x .sender .queues .sent) (x .sender .queues .waiting))
+  few-put false moved t h = absurd (apart t)
+  few-put false put t h = absurd (apart t)
+
+  few-after : (p : Stored) (b : Brings) → fits b (inMain (x .sender .state)) p ≡ true → after ≤ most x p → Few b
+  few-after p offering t = few-put (inMain (x .sender .state)) p t
+  few-after p nothing t = few-kept p t
+  few-after p acknowledging t = few-kept p t
+  few-after p again t = few-kept p t
+  few-after p numbering t = few-kept p t
+  few-after p widening t = few-kept p t
+  few-after p clocking t = few-kept p t
+  few-after p limiting t = few-kept p t
+  few-after p timing t = few-kept p t
+  few-after p suspending t = few-kept p t
 
 -- The next state.
 declared-is : (t : table.State) → stateOf (declared t) ≡ t
@@ -115,18 +149,19 @@ unfolding begun
 serves s h = eq-eqb (s .variables .«suspend_state») 0 h
 
 -- the work w of the machine's work m, with the store and the lengths that the event leaves;
--- the units confirmed and those still held are at most one more than the units sent before it
+-- the units confirmed and those still held are no more than the units held before it, or than the units sent and the one offered
 pub record Shown (x : Case) (w : Work) (m : machine.Work) : Type 0 where
-  pub shows : Shows (x .own) (x .event) (x .octets) (x .value) w (storeBy (brings (x .event)) (x .octets) (x .sender) w (x .store)) m
-  pub measured : w .queues .lengths ≡ lengthsBy (brings (x .event)) (x .octets) (x .sender) w
-  pub no-more : NoMore x (w .told .confirmed .count) (w .queues .sent) (w .queues .waiting)
+  pub shows : Shows (x .own) (x .event) (x .octets) (x .value) w (lengthsBy (brings (x .event)) (x .octets) (x .sender) w)
+      (storeBy (brings (x .event)) (x .octets) (x .sender) w (x .store)) m
+  pub no-more : Few x w (brings (x .event))
 
-shown : (x : Case) (w : Work) (m : machine.Work) (store : List ℕ) → LeftAfter x store w (brings (x .event))
-    → NoMore x (w .told .confirmed .count) (w .queues .sent) (w .queues .waiting) → Shows (x .own) (x .event) (x .octets) (x .value) w store m → Shown x w m
-shown x w m store left most h = record {
-  shows = subst (λ (s : List ℕ). Shows (x .own) (x .event) (x .octets) (x .value) w s m) (left .0) h;
-  measured = left .1;
-  no-more = most;
+shown : (x : Case) (w : Work) (m : machine.Work) (lengths store : List ℕ) → LeftAfter x lengths store w (brings (x .event))
+    → Few x w (brings (x .event)) → Shows (x .own) (x .event) (x .octets) (x .value) w lengths store m → Shown x w m
+shown x w m lengths store left few h = record {
+  shows =
+      subst (λ (s : List ℕ). Shows (x .own) (x .event) (x .octets) (x .value) w (lengthsBy (brings (x .event)) (x .octets) (x .sender) w) s m) (left .0)
+      (subst (λ (ls : List ℕ). Shows (x .own) (x .event) (x .octets) (x .value) w ls store m) (left .1) h);
+  no-more = few;
 }
 
 module _ (x : Case) (good : Good (x .own) (x .sender) (x .store)) where
@@ -139,13 +174,13 @@ module _ (x : Case) (good : Good (x .own) (x .sender) (x .store)) where
       let q = covered (idleIn (declared t)) z b (e .idle) in
       let v = act.toState (declared t) w in
       let to : machine.Work → machine.Work = λ y. machine.onFop (machine.setState t (y .fop)) y in
-      let is : to m ≡ seen x (h .c) (h .d) v (h .store) =
+      let is : to m ≡ seen x (h .c) (h .d) v (h .lengths) (h .store) =
       ap to (h .is)
-      ∙ ap (λ (y : table.State). machine.onFop (machine.setState y (fopOf w (h .store))) (seen x (h .c) (h .d) w (h .store))) (sym (declared-is t))
-      ∙ values.to-state _ _ _ _ _ w (h .store) (declared t) in
-      shown x v (to m) (h .store) (left-after x (h .store) v p (e .runs .stored) (e .runs .measured) (brings (x .event)) a) (e .no-more)
+      ∙ ap (λ (y : table.State). machine.onFop (machine.setState y (fopOf w (h .lengths) (h .store))) (seen x (h .c) (h .d) w (h .lengths) (h .store))) (sym (declared-is t))
+      ∙ values.to-state _ _ _ _ _ w (h .lengths) (h .store) (declared t) in
+      shown x v (to m) (h .lengths) (h .store) (left-after x (h .lengths) (h .store) v p (e .runs .stored) (e .runs .measured) (brings (x .event)) a) (few-after x v p (brings (x .event)) a (e .no-more))
       (record {
-        is = subst (λ (y : machine.Work). y ≡ seen x (y .confirmed) (y .denied) v (h .store)) (sym is) refl;
+        is = subst (λ (y : machine.Work). y ≡ seen x (y .confirmed) (y .denied) v (h .lengths) (h .store)) (sym is) refl;
         confirmed = ap (λ (y : machine.Work). runOf (y .confirmed)) (h .is) ∙ e .runs .of-confirmed;
         denied = ap (λ (y : machine.Work). runOf (y .denied)) (h .is) ∙ e .runs .of-denied;
         good = record {
@@ -177,18 +212,18 @@ module _ (x : Case) (good : Good (x .own) (x .sender) (x .store)) where
   ended (fresh f z) t w m y h = absurd (apart y)
   ended (going p f z u l) t w m y h =
       enters p z t w m (both-left _ _ y) (both-right (fits (brings (x .event)) (inMain (x .sender .state)) p) (covers (idleIn (declared t)) z) y)
-      (record { store = h .store; c = h .c; d = h .d; is = h .is; formed = h .formed; ended = h .ended })
+      (record { lengths = h .lengths; store = h .store; c = h .c; d = h .d; is = h .is; formed = h .formed; ended = h .ended })
   ended (half p z u l) t w m y h = absurd (apart y)
   ended (over p z) t w m y h =
       enters p z t w m (both-left _ _ y) (both-right (fits (brings (x .event)) (inMain (x .sender .state)) p) (covers (idleIn (declared t)) z) y) h
   ended bad t w m y h = absurd (apart y)
 
   -- Not Applicable: nothing is done
-  unchanged : fits (brings (x .event)) (inMain (x .sender .state)) kept ≡ true → Shown x (begun (x .sender)) (seen x [] [] (begun (x .sender)) (x .store))
+  unchanged : fits (brings (x .event)) (inMain (x .sender .state)) kept ≡ true → Shown x (begun (x .sender)) (seen x [] [] (begun (x .sender)) (x .sender .lengths) (x .store))
   unfolding begun noneTold senderOf
   unchanged a =
-      shown x (begun (x .sender)) (seen x [] [] (begun (x .sender)) (x .store)) (x .store)
-      (left-after x (x .store) (begun (x .sender)) kept (refl, refl) (refl, refl) (brings (x .event)) a) (no-more-first x)
+      shown x (begun (x .sender)) (seen x [] [] (begun (x .sender)) (x .sender .lengths) (x .store)) (x .sender .lengths) (x .store)
+      (left-after x (x .sender .lengths) (x .store) (begun (x .sender)) kept (refl, refl) (refl, refl) (brings (x .event)) a) (few-after x (begun (x .sender)) kept (brings (x .event)) a (no-more-first x))
       (record { is = refl; confirmed = refl; denied = refl; good = good; sent = none-below handed.None (x .sender .queues .sent) refl })
 
   -- the work as it begins
@@ -211,7 +246,7 @@ module _ (x : Case) (good : Good (x .own) (x .sender) (x .store)) where
       }
 
   module _ (meets : Needed (brings (x .event)) (x .octets) (x .value) (x .sender)) where
-    begin : At x (begins (brings (x .event)) (x .sender .state)) (begun (x .sender)) (seen x [] [] (begun (x .sender)) (x .store))
+    begin : At x (begins (brings (x .event)) (x .sender .state)) (begun (x .sender)) (seen x [] [] (begun (x .sender)) (x .sender .lengths) (x .store))
     begin = record {
       begins = refl;
       is = refl;
@@ -222,22 +257,22 @@ module _ (x : Case) (good : Good (x .own) (x .sender) (x .store)) where
 
     acted : (acts : List Action) (t : table.State)
         → ends (brings (x .event)) (x .sender .state) t (afterAll (brings (x .event)) acts (begins (brings (x .event)) (x .sender .state))) ≡ true
-        → Shown x (act.toState (declared t) (doneAll acts (x .value) (length (x .octets)) (begun (x .sender))))
-        (let m : machine.Work = performAll acts (seen x [] [] (begun (x .sender)) (x .store)) in machine.onFop (machine.setState t (m .fop)) m)
+        → Shown x (act.toState (declared t) (doneAll acts (x .value) (begun (x .sender))))
+        (let m : machine.Work = performAll acts (seen x [] [] (begun (x .sender)) (x .sender .lengths) (x .store)) in machine.onFop (machine.setState t (m .fop)) m)
     acted acts t y =
         let b = brings (x .event) in
-        ended (afterAll b acts (begins b (x .sender .state))) t (doneAll acts (x .value) (length (x .octets)) (begun (x .sender)))
-        (performAll acts (seen x [] [] (begun (x .sender)) (x .store))) y
-        (steps x b meets acts (begins b (x .sender .state)) (begun (x .sender)) (seen x [] [] (begun (x .sender)) (x .store)) begin)
+        ended (afterAll b acts (begins b (x .sender .state))) t (doneAll acts (x .value) (begun (x .sender)))
+        (performAll acts (seen x [] [] (begun (x .sender)) (x .sender .lengths) (x .store))) y
+        (steps x b meets acts (begins b (x .sender .state)) (begun (x .sender)) (seen x [] [] (begun (x .sender)) (x .sender .lengths) (x .store)) begin)
 
     pub cell-view : (c : Cell) → allows (brings (x .event)) (x .sender .state) c ≡ true
-        → Shown x (doneCell c (x .value) (length (x .octets)) (begun (x .sender))) (performCell c (seen x [] [] (begun (x .sender)) (x .store)))
+        → Shown x (doneCell c (x .value) (begun (x .sender))) (performCell c (seen x [] [] (begun (x .sender)) (x .sender .lengths) (x .store)))
     unfolding allows doneCell performCell
     cell-view NotApplicable y = unchanged y
     cell-view (cell acts t) y = acted acts t y
     cell-view (ifNotSuspended acts others t) y =
         let w = begun (x .sender) in
-        let m = seen x [] [] w (x .store) in
-        subst (λ (b : Bool). Shown x (act.toState (declared t) (pick b (doneAll acts (x .value) (length (x .octets)) w) (doneAll others (x .value) (length (x .octets)) w)))
+        let m = seen x [] [] w (x .sender .lengths) (x .store) in
+        subst (λ (b : Bool). Shown x (act.toState (declared t) (pick b (doneAll acts (x .value) w) (doneAll others (x .value) w)))
         (let v : machine.Work = pick b (performAll acts m) (performAll others m) in machine.onFop (machine.setState t (v .fop)) v))
         (sym (serves (x .sender) (good .serving))) (acted acts t y)

@@ -1,5 +1,5 @@
 -- What the row of an event, done to the sender's struct and store, has to show: the table machine's work on what they read as.
-use Prim.Native.Nat.{ℕ, _*_, _≤_, _<_}
+use Prim.Native.Nat.{ℕ, _-_, _≤_, _<_}
 use mathlib.Core.Path.{_≡_}
 use mathlib.Core.Bool.{Bool, true, false}
 use mathlib.Core.List.{List}
@@ -8,7 +8,7 @@ use lib.ListN.{length, set}
 use Rattle.base.specs.Choice.{pick}
 use Rattle.base.specs.Limits.{largestUnit}
 use Rattle.base.specs.Modulo.{offset}
-use Rattle.memory.specs.Placed.{placed}
+use Rattle.store.specs.Places.{unitPut, without}
 use Rattle.store.specs.Slid.{slid}
 use Rattle.fop.specs.Limits.{largestK, largestTransmissionLimit}
 use Rattle.fop.specs.Units.{Own}
@@ -19,8 +19,9 @@ use Rattle.fop.specs.Answers.{runOf}
 use Rattle.fop_actions.specs.declared.Handed.the-variants as handed
 use Rattle.fop_actions.specs.declared.SenderState.{SenderState}
 use Rattle.fop_actions.specs.declared.Work.{Work}
+use Rattle.fop_actions.specs.Actions.{unitsHeld}
 use Rattle.fop_actions.specs.Start.{senderOf}
-use Rattle.fop_actions.specs.View.{view, runTold, without}
+use Rattle.fop_actions.specs.View.{view, runTold}
 use Rattle.fop_rows.specs.Rows.{inMain}
 use Rattle.fop_view.specs.State.{Good}
 
@@ -122,11 +123,16 @@ isOffering limiting = false
 isOffering timing = false
 isOffering suspending = false
 
+-- the units that stay in the store: those held before the event, less the units that it confirms
+abbrev pub unitsStaying : SenderState → Work → ℕ
+unitsStaying s w = unitsHeld (s .queues .sent) (s .queues .waiting) - w .told .confirmed .count
+
 -- the store after an event: the unit offered is put behind the sent ones where it is added to the Wait_Queue; the units confirmed are
 -- removed from the front
 abbrev pub storeBy : Brings → List ℕ → SenderState → Work → List ℕ → List ℕ
 storeBy b o s w store =
-    pick (isOffering b) (pick (inMain (s .state)) (placed store (largestUnit * s .queues .sent) o) store) (without (w .told .confirmed .count) store)
+    pick (isOffering b) (pick (inMain (s .state)) (unitPut (s .queues .sent) o store) store)
+    (without (s .lengths) (w .told .confirmed .count) (unitsStaying s w) store)
 
 -- the store after the event
 abbrev pub storeAfter : FopEvent → List ℕ → SenderState → Work → List ℕ → List ℕ
@@ -135,18 +141,17 @@ storeAfter e o s w store = storeBy (brings e) o s w store
 -- and so the lengths of the units
 abbrev pub lengthsBy : Brings → List ℕ → SenderState → Work → List ℕ
 lengthsBy b o s w =
-    pick (isOffering b) (pick (inMain (s .state)) (set (s .queues .lengths) (s .queues .sent) (length o)) (s .queues .lengths))
-    (slid (w .told .confirmed .count) (s .queues .lengths))
+    pick (isOffering b) (pick (inMain (s .state)) (set (s .lengths) (s .queues .sent) (length o)) (s .lengths)) (slid (w .told .confirmed .count) (s .lengths))
 
 -- the lengths after the event
 abbrev pub lengthsAfter : FopEvent → List ℕ → SenderState → Work → List ℕ
 lengthsAfter e o s w = lengthsBy (brings e) o s w
 
--- the work m of the table machine on the event e is what the work w on the struct and the store after it read as; the runs told are the
--- units confirmed and denied; the state stays well-formed; a unit that is handed down is one of the sent ones
-pub record Shows (own : Own) (e : FopEvent) (o : List ℕ) (n : ℕ) (w : Work) (store : List ℕ) (m : machine.Work) : Type 0 where
-  pub is : m ≡ view (some e) o n (m .confirmed) (m .denied) w store
+-- the work m of the table machine on the event e is what the work w on the struct, with the lengths and the store after it, reads as; the runs
+-- told are the units confirmed and denied; the state stays well-formed; a unit that is handed down is one of the sent ones
+pub record Shows (own : Own) (e : FopEvent) (o : List ℕ) (n : ℕ) (w : Work) (lengths store : List ℕ) (m : machine.Work) : Type 0 where
+  pub is : m ≡ view (some e) o n (m .confirmed) (m .denied) w lengths store
   pub confirmed : runOf (m .confirmed) ≡ runTold (w .told .confirmed)
   pub denied : runOf (m .denied) ≡ runTold (w .told .denied)
-  pub good : Good own (senderOf w) store
+  pub good : Good own (senderOf w lengths) store
   pub sent : (k i : ℕ) → w .told .handed ≡ handed.Ad k i → i < w .queues .sent

@@ -1,5 +1,5 @@
 -- The well-formed states of the sender: what every event keeps.
-use Prim.Native.Nat.{ℕ, suc, _≤_, _<_}
+use Prim.Native.Nat.{ℕ, _≤_, _<_}
 use mathlib.Core.Path.{_≡_}
 use mathlib.Core.Bool.{Bool, true, false}
 use mathlib.Core.List.{List}
@@ -10,14 +10,10 @@ use Rattle.fop.specs.Units.{Own}
 use Rattle.fop_actions.specs.declared.State.{State}
 use Rattle.fop_actions.specs.declared.State.the-variants.{S1, S2, S3, S4, S5, S6}
 use Rattle.fop_actions.specs.declared.SenderState.{SenderState}
+use Rattle.fop_actions.specs.Actions.{unitsHeld}
 use Rattle.fop_actions.specs.Start.{begun}
 use Rattle.fop_actions.specs.View.{WellFormed}
 use Rattle.fop_rows.specs.Rows.{inMain, isFrame}
-
--- the units in the store: those sent, and the one waiting
-abbrev pub held : ℕ → Bool → ℕ
-held sent true = suc sent
-held sent false = sent
 
 -- Initialising with BC frame
 abbrev pub withFrame : State → Bool
@@ -33,7 +29,7 @@ withFrame S6 = false
 -- in the main protocol's states; the timer is stopped in Initial; a type-BC frame is on the Sent_Queue in Initialising with BC frame, and
 -- only there; each unit held has an octet
 pub record Good (own : Own) (s : SenderState) (store : List ℕ) : Type 0 where
-  pub formed : WellFormed (begun s) store
+  pub formed : WellFormed (begun s) (s .lengths) store
   pub window-least : 1 ≤ s .settings .k
   pub window : s .settings .k ≤ largestK
   pub clock-least : 1 ≤ s .settings .«t1_initial»
@@ -47,7 +43,7 @@ pub record Good (own : Own) (s : SenderState) (store : List ℕ) : Type 0 where
   pub waiting-main : inMain (s .state) ≡ false → s .queues .waiting ≡ false
   pub stopped : s .state ≡ S6 → s .variables .timer ≡ 0
   pub control-s5 : isFrame (s .queues .control) ≡ withFrame (s .state)
-  pub filled : (i : ℕ) → i < held (s .queues .sent) (s .queues .waiting) → 1 ≤ getD (s .queues .lengths) i 0
+  pub filled : (i : ℕ) → i < unitsHeld (s .queues .sent) (s .queues .waiting) → 1 ≤ getD (s .lengths) i 0
   pub spacecraft : s .settings .spacecraft ≡ own .spacecraft
   pub channel : s .settings .channel ≡ own .channel
   pub spacecraft-most : own .spacecraft ≤ largestSpacecraft

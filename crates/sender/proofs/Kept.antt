@@ -22,7 +22,8 @@ use Rattle.fop_rows.specs.Rows.{isFrame}
 use Rattle.sender.specs.declared.Start.{Start}
 use Rattle.sender.specs.Start.{refusedStart}
 use Rattle.sender.specs.Start.{settingsHold}
-use Rattle.sender.specs.State.{numbersHold, isEmpty, stateHolds, unitsHeld, lengthsHold, wellFormed, restoredOf}
+use Rattle.fop_actions.specs.Actions.{unitsHeld}
+use Rattle.sender.specs.State.{numbersHold, isEmpty, stateHolds, lengthsHold, wellFormed, restoredOf}
 
 -- numbersHold with the difference given
 abbrev pub numbersWith : ℕ → Variables → Queues → Bool
@@ -76,9 +77,9 @@ module _ (s : SenderState) (a b c : Bool) (ea : a ≡ settingsHold (s .settings)
   state-fails p q r = sym (rw (sym ea ∙ p, sym eb ∙ q, sym ec ∙ r))
 
   pub by-lengths : (d : Bool) (n : ℕ) → a ≡ true → b ≡ true → c ≡ true → n ≡ unitsHeld (s .queues .sent) (s .queues .waiting)
-      → d ≡ lengthsHold n (s .queues .lengths) → d ≡ wellFormed s
+      → d ≡ lengthsHold n (s .lengths) → d ≡ wellFormed s
   unfolding wellFormed
-  by-lengths d n p q r e h = h ∙ ap (λ (m : ℕ). lengthsHold m (s .queues .lengths)) e ∙ sym (rw (sym ea ∙ p, sym eb ∙ q, sym ec ∙ r))
+  by-lengths d n p q r e h = h ∙ ap (λ (m : ℕ). lengthsHold m (s .lengths)) e ∙ sym (rw (sym ea ∙ p, sym eb ∙ q, sym ec ∙ r))
 
 pub settings-fail : (s : SenderState) (a : Bool) → a ≡ settingsHold (s .settings) → a ≡ false → false ≡ wellFormed s
 unfolding wellFormed

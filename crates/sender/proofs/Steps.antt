@@ -58,9 +58,9 @@ pub refuses : (n : ℕ) (s : SenderState) {a : Answer} {store output : List ℕ}
 refuses n s p e = same-step p (e, (refl, refl))
 
 -- what was written picks the answer
-pub concludes : (event : ℕ) (s : SenderState) (w : Work) (x y : FrameWritten) (a : Answer) → x ≡ y → a ≡ concluded event s w (writtenAnswer y)
-    → a ≡ concluded event s w (writtenAnswer x)
-concludes event s w x y a p e = e ∙ ap (λ (z : FrameWritten). concluded event s w (writtenAnswer z)) (sym p)
+pub concludes : (event : ℕ) (s : SenderState) (w : Work) (ls : List ℕ) (x y : FrameWritten) (a : Answer) → x ≡ y → a ≡ concluded event s w ls (writtenAnswer y)
+    → a ≡ concluded event s w ls (writtenAnswer x)
+concludes event s w ls x y a p e = e ∙ ap (λ (z : FrameWritten). concluded event s w ls (writtenAnswer z)) (sym p)
 
 -- what is handed down, and its unit, pick the frame
 pub handed-told : (g : Settings) (u : List ℕ) (x : FrameWritten) (new old : List ℕ) (h k : Handed) → h ≡ k → Writes x new (handedWriting g k u (length old)) old
@@ -83,15 +83,15 @@ stored-same (outcome.Answer.done count more) store = refl
 stored-same (outcome.Answer.refused number place) store = refl
 
 -- the refusal in the answer is 0 exactly where the frame is written, so the store changes exactly there
-module _ (event : ℕ) (s : SenderState) (w : Work) (new old : List ℕ) where
-  stored-new : (x : FrameWritten) → concluded event s w (writtenAnswer x) .refusal ≡ 0 → stored (writtenAnswer x) new old ≡ new
+module _ (event : ℕ) (s : SenderState) (w : Work) (ls : List ℕ) (new old : List ℕ) where
+  stored-new : (x : FrameWritten) → concluded event s w ls (writtenAnswer x) .refusal ≡ 0 → stored (writtenAnswer x) new old ≡ new
   unfolding refusing
   stored-new (Done count) z = refl
   stored-new Length z = absurd (omega arith)
   stored-new Setting z = absurd (omega arith)
   stored-new Room z = absurd (omega arith)
 
-  stored-old : (x : FrameWritten) → (concluded event s w (writtenAnswer x) .refusal ≡ 0 → ⊥) → stored (writtenAnswer x) new old ≡ old
+  stored-old : (x : FrameWritten) → (concluded event s w ls (writtenAnswer x) .refusal ≡ 0 → ⊥) → stored (writtenAnswer x) new old ≡ old
   unfolding answered
   stored-old (Done count) z = absurd (z refl)
   stored-old Length z = refl
@@ -103,24 +103,24 @@ abbrev pub handing : SenderState → Work → List ℕ → List ℕ → Outcome 
 handing s w unit output = handedWriting (s .settings) (w .told .handed) unit (length output)
 
 -- the answer by the frame written
-pub answered-by : (event : ℕ) (s : SenderState) (w : Work) (x : FrameWritten) (a : Answer) (unit out output : List ℕ) → Writes x out (handing s w unit output) output
-    → a ≡ concluded event s w (writtenAnswer x)
-    → (a ≡ concluded event s w (answer (handing s w unit output))) × (out ≡ after (handing s w unit output) output)
-answered-by event s w x a unit out output f e = (e ∙ ap (concluded event s w) (f .0), f .1)
+pub answered-by : (event : ℕ) (s : SenderState) (w : Work) (ls : List ℕ) (x : FrameWritten) (a : Answer) (unit out output : List ℕ) → Writes x out (handing s w unit output) output
+    → a ≡ concluded event s w ls (writtenAnswer x)
+    → (a ≡ concluded event s w ls (answer (handing s w unit output))) × (out ≡ after (handing s w unit output) output)
+answered-by event s w ls x a unit out output f e = (e ∙ ap (concluded event s w ls) (f .0), f .1)
 
 -- an event judged, where the unit given is the unit to hand down: the answer by the frame written, and the store by the refusal in it
-module _ (event : ℕ) (s : SenderState) (w : Work) (x : FrameWritten) (a : Answer) (unit given out new old output : List ℕ) (same : given ≡ unit)
-    (written : Writes x out (handing s w given output) output) (told : a ≡ concluded event s w (writtenAnswer x)) where
+module _ (event : ℕ) (s : SenderState) (w : Work) (ls : List ℕ) (x : FrameWritten) (a : Answer) (unit given out new old output : List ℕ) (same : given ≡ unit)
+    (written : Writes x out (handing s w given output) output) (told : a ≡ concluded event s w ls (writtenAnswer x)) where
   frame : Writes x out (handing s w unit output) output
   frame = unit-told (s .settings) (w .told .handed) x out output given unit same written
 
-  step-with : (store : List ℕ) → store ≡ stored (writtenAnswer x) new old → Meets a store out (stepBy event s w (handing s w unit output) new old output)
+  step-with : (store : List ℕ) → store ≡ stored (writtenAnswer x) new old → Meets a store out (stepBy event s w ls (handing s w unit output) new old output)
   step-with store q =
-      let r = answered-by event s w x a unit out output frame told in
+      let r = answered-by event s w ls x a unit out output frame told in
       (r .0, (q ∙ ap (λ y. stored y new old) (frame .0), r .1))
 
-  pub step-done : (store : List ℕ) → a .refusal ≡ 0 → store ≡ new → Meets a store out (stepBy event s w (handing s w unit output) new old output)
-  step-done store z q = step-with store (q ∙ sym (stored-new event s w new old x (sym (ap (λ (y : Answer). y .refusal) told) ∙ z)))
+  pub step-done : (store : List ℕ) → a .refusal ≡ 0 → store ≡ new → Meets a store out (stepBy event s w ls (handing s w unit output) new old output)
+  step-done store z q = step-with store (q ∙ sym (stored-new event s w ls new old x (sym (ap (λ (y : Answer). y .refusal) told) ∙ z)))
 
-  pub step-refused : (a .refusal ≡ 0 → ⊥) → Meets a old out (stepBy event s w (handing s w unit output) new old output)
-  step-refused z = step-with old (sym (stored-old event s w new old x (λ p. z (ap (λ (y : Answer). y .refusal) told ∙ p))))
+  pub step-refused : (a .refusal ≡ 0 → ⊥) → Meets a old out (stepBy event s w ls (handing s w unit output) new old output)
+  step-refused z = step-with old (sym (stored-old event s w ls new old x (λ p. z (ap (λ (y : Answer). y .refusal) told ∙ p))))

@@ -12,7 +12,7 @@ use Rattle.sender.specs.Events.{ticked, tickNumber}
 module _ (s : SenderState) where
   -- the state with the timer's ticks left given
   abbrev timed : ℕ → SenderState
-  timed n = record { state = s .state; settings = s .settings; variables = clocked n (s .variables .«transmission_count») (s .variables); queues = s .queues }
+  timed n = record { state = s .state; settings = s .settings; variables = clocked n (s .variables .«transmission_count») (s .variables); queues = s .queues; lengths = s .lengths }
 
   pub stopped : s .variables .timer ≡ 0 → s ≡ ticked s
   stopped p =

@@ -1,14 +1,15 @@
 -- The events of the sender: "Sender events are judged 10, 12, 7, 11, then by the table." The rows are crate fop_rows' (table 7-8), which row
 -- it is crate fop_events', and the frame handed down is written by crate frame.
-use Prim.Native.Nat.{ℕ, _+_, _-_, _*_}
+use Prim.Native.Nat.{ℕ, _+_, _-_}
 use mathlib.Core.Bool.{Bool}
 use mathlib.Core.List.{List, []}
 use lib.Dec.{leb, eqb}
-use lib.ListN.{length}
+use lib.ListN.{length, set}
 use Rattle.base.specs.Choice.{pick, must, both}
 use Rattle.base.specs.Limits.{largestUnit}
 use Rattle.base.specs.Outcome.{Outcome, Outcome.done}
-use Rattle.memory.specs.Placed.{placed}
+use Rattle.store.specs.Places.{unitAt, unitPut, without}
+use Rattle.store.specs.Slid.{slid}
 use Rattle.frame.specs.Frame.{writing}
 use Rattle.frame.specs.declared.Kind.the-variants as kind
 use Rattle.clcw.specs.Answers.{readingOf}
@@ -20,8 +21,8 @@ use Rattle.fop_actions.specs.declared.Handed.the-variants as handed
 use Rattle.fop_actions.specs.declared.SenderState.{SenderState}
 use Rattle.fop_actions.specs.declared.Work.{Work}
 use Rattle.fop_actions.specs.Parts.{clocked}
+use Rattle.fop_actions.specs.Actions.{unitsHeld}
 use Rattle.fop_actions.specs.Start.{begun}
-use Rattle.fop_actions.specs.View.{unitAt, without}
 use Rattle.fop_rows.specs.Rows.{rowNumbered, inMain}
 use Rattle.fop_events.specs.declared.Lower.{Lower}
 use Rattle.fop_events.specs.Events.{wordNumber, directiveNumber, expiryNumber, adNumber, bdNumber, lowerNumber}
@@ -46,18 +47,26 @@ placeHanded (handed.SetVr n) = 0
 
 -- the unit that is handed down stood, before the event, behind the units that the event confirms
 abbrev pub unitBefore : SenderState → Work → List ℕ → List ℕ
-unitBefore s w store = unitAt (s .queues .lengths) (placeHanded (w .told .handed) + w .told .confirmed .count) store
+unitBefore s w store = unitAt (s .lengths) (placeHanded (w .told .handed) + w .told .confirmed .count) store
+
+-- the store without the units that the event confirms; the others that were held stay
+abbrev pub storeServed : SenderState → Work → List ℕ → List ℕ
+storeServed s w store =
+    without (s .lengths) (w .told .confirmed .count) (unitsHeld (s .queues .sent) (s .queues .waiting) - w .told .confirmed .count) store
+
+-- and the lengths of the units that stay
+abbrev pub lengthsServed : SenderState → Work → List ℕ
+lengthsServed s w = slid (w .told .confirmed .count) (s .lengths)
 
 -- an event that offers no unit, by its number and the work on it: the units confirmed leave the store's front
 unfoldable pub servedBy : ℕ → SenderState → Work → List ℕ → List ℕ → Step
 servedBy event s w store output =
-    stepBy event s w (handedWriting (s .settings) (w .told .handed) (unitBefore s w store) (length output)) (without (w .told .confirmed .count) store)
-    store output
+    stepBy event s w (lengthsServed s w) (handedWriting (s .settings) (w .told .handed) (unitBefore s w store) (length output)) (storeServed s w store) store output
 
 -- the same by the event's row, with the value n that it brings; 11 where the lent store is too short
 unfoldable pub served : ℕ → ℕ → SenderState → SenderState → List ℕ → List ℕ → Step
 served event n s g store output =
-    must (leb smallestStore (length store)) (refusedStep 11 s store output) (servedBy event s (rowNumbered event n 0 (begun g)) store output)
+    must (leb smallestStore (length store)) (refusedStep 11 s store output) (servedBy event s (rowNumbered event n (begun g)) store output)
 
 -- "Legal: within the limits": the length of a unit
 abbrev pub mustBeUnit : {A : Type 0} → List ℕ → A → A → A
@@ -70,13 +79,17 @@ added event s = both (eqb event 19) (inMain (s .state))
 -- the unit that an AD request hands down: the one offered, which would be the last of the sent ones, or an older one that is marked
 abbrev pub unitOffered : SenderState → Work → List ℕ → List ℕ → List ℕ
 unitOffered s w o store =
-    pick (eqb (placeHanded (w .told .handed)) (s .queues .sent)) o (unitAt (s .queues .lengths) (placeHanded (w .told .handed)) store)
+    pick (eqb (placeHanded (w .told .handed)) (s .queues .sent)) o (unitAt (s .lengths) (placeHanded (w .told .handed)) store)
+
+-- the lengths with that of the unit offered, n, behind the sent ones, where it is added to the Wait_Queue
+abbrev pub lengthsOffered : ℕ → SenderState → ℕ → List ℕ
+lengthsOffered event s n = pick (added event s) (set (s .lengths) (s .queues .sent) n) (s .lengths)
 
 -- an AD request by its number and the work on it: the unit offered goes into the store behind the sent ones
 unfoldable pub offeredBy : ℕ → SenderState → Work → List ℕ → List ℕ → List ℕ → Step
 offeredBy event s w o store output =
-    stepBy event s w (handedWriting (s .settings) (w .told .handed) (unitOffered s w o store) (length output))
-    (pick (added event s) (placed store (largestUnit * s .queues .sent) o) store)
+    stepBy event s w (lengthsOffered event s (length o)) (handedWriting (s .settings) (w .told .handed) (unitOffered s w o store) (length output))
+    (pick (added event s) (unitPut (s .queues .sent) o store) store)
     store output
 
 -- Request to transfer an AD unit
@@ -84,18 +97,18 @@ unfoldable pub requestAdOf : SenderState → List ℕ → List ℕ → List ℕ 
 requestAdOf s o store output =
     mustBeUnit o (refusedStep 10 s store output)
     (must (leb smallestStore (length store)) (refusedStep 11 s store output)
-    (offeredBy (adNumber s) s (rowNumbered (adNumber s) 0 (length o) (begun s)) o store output))
+    (offeredBy (adNumber s) s (rowNumbered (adNumber s) 0 (begun s)) o store output))
 
 -- a BD request by its number and the work on it
 unfoldable pub bypassedBy : ℕ → SenderState → Work → List ℕ → List ℕ → List ℕ → Step
-bypassedBy event s w o store output = stepBy event s w (handedWriting (s .settings) (w .told .handed) o (length output)) store store output
+bypassedBy event s w o store output = stepBy event s w (s .lengths) (handedWriting (s .settings) (w .told .handed) o (length output)) store store output
 
 -- Request to transfer a BD unit
 unfoldable pub requestBdOf : SenderState → List ℕ → List ℕ → List ℕ → Step
 requestBdOf s o store output =
     mustBeUnit o (refusedStep 10 s store output)
     (must (leb smallestStore (length store)) (refusedStep 11 s store output)
-    (bypassedBy (bdNumber s) s (rowNumbered (bdNumber s) 0 0 (begun s)) o store output))
+    (bypassedBy (bdNumber s) s (rowNumbered (bdNumber s) 0 (begun s)) o store output))
 
 -- a directive by its number d and value v: 12 for the invalid directive, E40
 unfoldable pub directiveOf : ℕ → ℕ → SenderState → List ℕ → List ℕ → Step
@@ -109,6 +122,7 @@ ticked s = record {
   settings = s .settings;
   variables = clocked (s .variables .timer - 1) (s .variables .«transmission_count») (s .variables);
   queues = s .queues;
+  lengths = s .lengths;
 }
 
 -- "the tick that makes it zero is the expiry"; any other is no event of the table

@@ -13,13 +13,10 @@ use Rattle.fop_actions.specs.declared.State.{State}
 use Rattle.fop_actions.specs.declared.State.the-variants as state
 use Rattle.fop_actions.specs.declared.Variables.{Variables}
 use Rattle.fop_actions.specs.declared.Queues.{Queues}
+use Rattle.fop_actions.specs.Actions.{unitsHeld}
 use Rattle.fop_rows.specs.Rows.{isFrame}
 use Rattle.sender.specs.declared.Start.{Start}
 use Rattle.sender.specs.Start.{settingsHold, refusedStart}
-
--- the units held: those sent, and the one waiting
-abbrev pub unitsHeld : ℕ → Bool → ℕ
-unitsHeld sent waiting = pick waiting (suc sent) sent
 
 -- the units sent are no more than the largest K and than V(S) - NN(R), and the marked ones are among them; Transmission_Count is at least 1;
 -- Suspend_State is 0
@@ -53,7 +50,7 @@ unfoldable pub wellFormed : SenderState → Bool
 wellFormed s =
     both (settingsHold (s .settings))
     (both (numbersHold (s .variables) (s .queues))
-    (both (stateHolds (s .state) (s .variables) (s .queues)) (lengthsHold (unitsHeld (s .queues .sent) (s .queues .waiting)) (s .queues .lengths))))
+    (both (stateHolds (s .state) (s .variables) (s .queues)) (lengthsHold (unitsHeld (s .queues .sent) (s .queues .waiting)) (s .lengths))))
 
 -- a sender from a state that was kept; 12 where it is none
 unfoldable pub restoredOf : SenderState → Start

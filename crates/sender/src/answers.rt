@@ -10,6 +10,7 @@ use fop_actions::Run;
 use fop_actions::Work;
 use fop_actions::start::sender_of;
 use frame::writer::FrameWritten;
+use store::PLACES;
 ghost use mathlib.Core.Path.{_≡_};
 ghost use Rattle.frame.specs.Answers.{writtenAnswer};
 ghost use Rattle.sender.specs.Answers.{kindHanded, answered, refusing, concluded, refusedResponses, refusedEvent};
@@ -30,12 +31,12 @@ fn kind_handed(handed: Handed) -> FrameKind
     }
 }
 
-// An event that is not refused.
-fn answered(event: u8, down: usize, work: Work) -> Answer
-    ensures { λ r. ⌜ r ≡ answered event down work ⌝ }
+// An event that is not refused, with the lengths of the units after it.
+fn answered(event: u8, down: usize, work: Work, lengths: [u16; PLACES]) -> Answer
+    ensures { λ r. ⌜ r ≡ answered event down work lengths ⌝ }
 {
     let next = Sender {
-        fop: sender_of(work),
+        fop: sender_of(work, lengths),
     };
     let state = work.state;
     let told = work.told;
@@ -121,12 +122,13 @@ pub fn conclude(
     sender: fop_actions::SenderState,
     event: u8,
     work: Work,
+    lengths: [u16; PLACES],
     written: FrameWritten,
 ) -> Answer
-    ensures { λ r. ⌜ r ≡ concluded event sender work (writtenAnswer written) ⌝ }
+    ensures { λ r. ⌜ r ≡ concluded event sender work lengths (writtenAnswer written) ⌝ }
 {
     match written {
-        FrameWritten::Done(count) => answered(event, count, work),
+        FrameWritten::Done(count) => answered(event, count, work, lengths),
         FrameWritten::Length => refused(sender, 10),
         FrameWritten::Setting => refused(sender, 12),
         FrameWritten::Room => refused(sender, 11),

@@ -6,21 +6,23 @@
 mod answers;
 mod frames;
 mod state;
+mod units;
 
 use crate::answers::conclude;
 use crate::answers::refused;
 use crate::frames::place_before;
 use crate::frames::place_handed;
-use crate::frames::remove;
-use crate::frames::unit_at;
 use crate::frames::write_handed;
+use crate::frames::write_stored;
 use crate::state::settings_hold;
 use crate::state::well_formed;
+use crate::units::lengths_left;
+use crate::units::lengths_offered;
+use crate::units::remove_confirmed;
 use base::LARGEST_UNIT;
 use clcw::Clcw;
 use clcw::WordReading;
 use fop_actions::Alert;
-use fop_actions::PLACES;
 use fop_actions::Responses;
 use fop_actions::Run;
 use fop_actions::Settings;
@@ -28,7 +30,6 @@ use fop_actions::State;
 use fop_actions::Work;
 use fop_actions::start::begin;
 use fop_actions::start::start;
-use fop_actions::units::put_unit;
 use fop_events::Lower;
 use fop_events::ad_event;
 use fop_events::bd_event;
@@ -38,6 +39,8 @@ use fop_events::lower_event;
 use fop_events::words::word_event;
 use fop_rows::row;
 use frame::writer::FrameWritten;
+use store::PLACES;
+use store::units::put_unit;
 ghost use mathlib.Core.Path.{_≡_};
 ghost use Prim.Native.Nat.{_≤_};
 ghost use lib.Dec.{leb};
@@ -111,13 +114,13 @@ fn serve_work(
     let handed = told.handed;
     let count = told.confirmed.count;
     let place = place_before(handed, count);
-    let lengths = sender.queues.lengths;
+    let lengths = sender.lengths;
     let settings = sender.settings;
-    let unit = unit_at(store, lengths, place);
-    let written = write_handed(settings, handed, unit, output);
-    let answer = conclude(sender, event, work, written);
+    let written = write_stored(settings, handed, place, lengths, store, output);
+    let answer = conclude(sender, event, work, lengths_left(lengths, count), written);
     if answer.refusal == 0 {
-        remove(store, count);
+        let queues = sender.queues;
+        remove_confirmed(store, lengths, queues, count);
     }
     answer
 }
@@ -138,7 +141,7 @@ fn serve(
     if store.len() < SMALLEST_STORE {
         return refused(sender, 11);
     }
-    let work = row(begin(by), event, value, 0);
+    let work = row(begin(by), event, value);
     serve_work(sender, event, work, store, output)
 }
 
@@ -169,15 +172,17 @@ fn offer_work(
     store: &mut [u8],
     output: &mut [u8],
 ) -> Answer
+    requires { ⌜ length (now unit) ≤ largestUnit ⌝ }
     ensures answer { λ r. ⌜ r ≡ offeredBy event sender work (now (unit .entry)) (now (store .entry)) (now (output .entry)) .answer ⌝ }
     ensures store { λ r. ⌜ now (store .exit) ≡ offeredBy event sender work (now (unit .entry)) (now (store .entry)) (now (output .entry)) .store ⌝ }
     ensures output { λ r. ⌜ now (output .exit) ≡ offeredBy event sender work (now (unit .entry)) (now (store .entry)) (now (output .entry)) .output ⌝ }
 {
     let written = write_offered(sender, work, unit, store, output);
-    let answer = conclude(sender, event, work, written);
+    let lengths = lengths_offered(event, sender, unit.len() as u16);
+    let answer = conclude(sender, event, work, lengths, written);
     if answer.refusal == 0 {
         if adds(event, sender) {
-            put_unit(store, begin(sender), unit);
+            put_unit(store, sender.queues.sent, unit);
         }
     }
     answer
@@ -201,9 +206,8 @@ fn write_offered(
     if place == sender.queues.sent {
         return write_handed(settings, handed, unit, output);
     }
-    let lengths = sender.queues.lengths;
-    let older = unit_at(store, lengths, place as usize);
-    write_handed(settings, handed, older, output)
+    let lengths = sender.lengths;
+    write_stored(settings, handed, place as usize, lengths, store, output)
 }
 
 // A BD request, judged: the frame is written.
@@ -214,14 +218,15 @@ fn bypass_work(
     unit: &[u8],
     output: &mut [u8],
 ) -> Answer
-    ensures answer { λ r. ⌜ r ≡ concluded event sender work (answer (handedWriting (sender .settings) (work .told .handed) (now (unit .entry)) (length (now (output .entry))))) ⌝ }
+    ensures answer { λ r. ⌜ r ≡ concluded event sender work (sender .lengths) (answer (handedWriting (sender .settings) (work .told .handed) (now (unit .entry)) (length (now (output .entry))))) ⌝ }
     ensures output { λ r. ⌜ now (output .exit) ≡ after (handedWriting (sender .settings) (work .told .handed) (now (unit .entry)) (length (now (output .entry)))) (now (output .entry)) ⌝ }
 {
     let told = work.told;
     let handed = told.handed;
     let settings = sender.settings;
     let written = write_handed(settings, handed, unit, output);
-    conclude(sender, event, work, written)
+    let lengths = sender.lengths;
+    conclude(sender, event, work, lengths, written)
 }
 
 // The refusal of a request, 0 where there is none: 10 for the length of its unit, then 11 for the lent store.
@@ -347,7 +352,7 @@ impl Sender {
             return refused(sender, number);
         }
         let event = ad_event(sender);
-        let work = row(begin(sender), event, 0, unit.len() as u16);
+        let work = row(begin(sender), event, 0);
         offer_work(sender, event, work, unit, store, output)
     }
 
@@ -363,7 +368,7 @@ impl Sender {
             return refused(sender, number);
         }
         let event = bd_event(sender);
-        let work = row(begin(sender), event, 0, 0);
+        let work = row(begin(sender), event, 0);
         bypass_work(sender, event, work, unit, output)
     }
 

@@ -1,21 +1,22 @@
 // The well-formed states of the sender, tested: a state that was kept over a reset is told from one that no sender has.
+use crate::units::units_held;
 use base::LARGEST_CHANNEL;
+use base::LARGEST_K;
 use base::LARGEST_SPACECRAFT;
 use base::LARGEST_UNIT;
 use fop_actions::Control;
-use fop_actions::LARGEST_K;
-use fop_actions::PLACES;
 use fop_actions::Queues;
 use fop_actions::SenderState;
 use fop_actions::Settings;
 use fop_actions::State;
 use fop_actions::Variables;
 use fop_actions::values::difference;
+use store::PLACES;
 ghost use mathlib.Core.Path.{_≡_};
 ghost use Rattle.base.specs.Choice.{both};
 ghost use Rattle.fop_rows.specs.Rows.{isFrame};
 ghost use Rattle.sender.specs.Start.{settingsHold};
-ghost use Rattle.sender.specs.State.{unitsHeld, numbersHold, isEmpty, stateHolds, lengthsHold, wellFormed};
+ghost use Rattle.sender.specs.State.{numbersHold, isEmpty, stateHolds, lengthsHold, wellFormed};
 
 // Document 01's limits of the settings.
 pub(crate) fn settings_hold(settings: Settings) -> bool
@@ -111,17 +112,6 @@ fn state_holds(state: State, variables: Variables, queues: Queues) -> bool
     }
 }
 
-// The units held: those sent, and the one waiting.
-fn units_held(sent: u8, waiting: bool) -> usize
-    ensures { λ r. ⌜ r ≡ unitsHeld sent waiting ⌝ }
-{
-    let n = sent as usize;
-    if waiting {
-        return n + 1;
-    }
-    n
-}
-
 // Every length is that of a unit at the most; the first `held` are at least 1.
 fn lengths_hold(lengths: [u16; PLACES], held: usize) -> bool
     ensures { λ r. ⌜ r ≡ lengthsHold held lengths ⌝ }
@@ -159,7 +149,7 @@ pub fn well_formed(sender: SenderState) -> bool
     if !state_holds(state, variables, queues) {
         return false;
     }
-    let held = units_held(queues.sent, queues.waiting);
-    let lengths = queues.lengths;
+    let held = units_held(queues.sent, queues.waiting) as usize;
+    let lengths = sender.lengths;
     lengths_hold(lengths, held)
 }

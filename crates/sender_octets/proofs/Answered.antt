@@ -110,11 +110,11 @@ handed-fits g handed.Unlock u lent = written-fits 1 1 0 (g .spacecraft) (g .chan
 handed-fits g (handed.SetVr n) u lent = written-fits 1 1 0 (g .spacecraft) (g .channel) (setVrCommand n) lent
 
 -- an answer tells the count of octets written, none where it refuses
-module _ (event : ℕ) (s : SenderState) (w : Work) where
-  down-written : (x : outcome.Answer (Unit {0})) → concluded event s w x .down ≡ countOf x
+module _ (event : ℕ) (s : SenderState) (w : Work) (lengths : List ℕ) where
+  down-written : (x : outcome.Answer (Unit {0})) → concluded event s w lengths x .down ≡ countOf x
   unfolding answered refusing
   down-written (outcome.Answer.done count more) = refl
   down-written (outcome.Answer.refused number place) = refl
 
-  pub down-fits : (g : Settings) (h : Handed) (u : List ℕ) (lent : ℕ) → concluded event s w (answer (handedWriting g h u lent)) .down ≤ largestFrame
+  pub down-fits : (g : Settings) (h : Handed) (u : List ℕ) (lent : ℕ) → concluded event s w lengths (answer (handedWriting g h u lent)) .down ≤ largestFrame
   down-fits g h u lent = omega (arith, down-written (answer (handedWriting g h u lent)), handed-fits g h u lent)

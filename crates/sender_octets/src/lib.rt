@@ -8,12 +8,12 @@ use crate::writer::numbers_of;
 use crate::writer::state_number;
 use crate::writer::truth;
 use fop_actions::Alert;
-use fop_actions::PLACES;
 use sender::Answer;
 use sender::FrameKind;
 use sender::Sender;
 use sender::Start;
 use sender::refused_state;
+use store::PLACES;
 use text::same;
 ghost use mathlib.Core.Path.{_≡_};
 ghost use Rattle.sender_octets.specs.Kept.{octetsOf, senderIn};
@@ -33,7 +33,7 @@ pub fn octets_of(state: fop_actions::SenderState) -> [u8; STATE_OCTETS]
     ensures { λ r. ⌜ r ≡ octetsOf state ⌝ }
 {
     let numbers = numbers_of(state);
-    let lengths = state.queues.lengths;
+    let lengths = state.lengths;
     join(numbers, lengths)
 }
 

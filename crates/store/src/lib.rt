@@ -8,7 +8,6 @@ use base::LARGEST_K;
 use base::LARGEST_UNIT;
 ghost use mathlib.Core.Path.{_≡_};
 ghost use Rattle.store.specs.Places.{storeNeed};
-ghost use Rattle.store.specs.Slid.{slid};
 
 // The sent units of the largest K, and the unit waiting. The store has a place for each.
 pub const PLACES: usize = LARGEST_K as usize + 1;
@@ -18,19 +17,4 @@ pub fn store_need(_k: u8, _outstanding: u8) -> usize
     ensures { λ r. ⌜ r ≡ storeNeed «_k» «_outstanding» ⌝ }
 {
     LARGEST_UNIT * PLACES
-}
-
-// Removes the first octets of memory: the others move down, and the last `count` octets stay.
-pub fn slide(memory: &mut [u8], count: usize)
-    ensures { λ _. ⌜ now (memory .exit) ≡ slid count (now (memory .entry)) ⌝ }
-{
-    if count <= memory.len() {
-        let rest = memory.len() - count;
-        let mut i = 0;
-        while i < rest {
-            let octet = memory[count + i];
-            memory[i] = octet;
-            i += 1;
-        }
-    }
 }

@@ -21,7 +21,7 @@ fn move_octets(memory: &mut [u8], from: usize, to: usize, count: usize)
 }
 
 // Moves one unit down by `count` places, to place i.
-fn move_unit(store: &mut [u8], lengths: &[u16], count: u8, i: u8)
+fn move_unit(store: &mut [u8], lengths: &[u16], count: u8, i: u16)
     ensures { λ _. ⌜ now (store .exit) ≡ movedDown (now (lengths .entry)) count i (now (store .entry)) ⌝ }
 {
     let place = (count as usize) + (i as usize);
@@ -37,13 +37,13 @@ fn move_unit(store: &mut [u8], lengths: &[u16], count: u8, i: u8)
 }
 
 // Removes the `count` oldest units from the store; the `staying` units behind them move down, the oldest first.
-pub fn remove_units(store: &mut [u8], lengths: &[u16], count: u8, staying: u8)
+pub fn remove_units(store: &mut [u8], lengths: &[u16], count: u8, staying: u16)
     ensures { λ _. ⌜ now (store .exit) ≡ without (now (lengths .entry)) count staying (now (store .entry)) ⌝ }
 {
     if count == 0 {
         return;
     }
-    let mut i: u8 = 0;
+    let mut i: u16 = 0;
     while i < staying {
         move_unit(store, lengths, count, i);
         i += 1;

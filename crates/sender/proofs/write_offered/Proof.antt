@@ -24,14 +24,11 @@ returns c =
     (offered-newest (a .sender) (a .work) (a .unit .now) (a .store .now) (p .place-handed .ensures) (t .if1 .taken))
     (w .write-handed .ensures)
 
-cast-unit-at : tie.Need-cast-unit-at
-cast-unit-at c = search needs
+cast-write-stored : tie.Need-cast-write-stored
+cast-write-stored c = search needs
 
-unit-at-requires : tie.Need-unit-at-requires
-unit-at-requires c κs = search needs
-
-write-handed-requires-2 : tie.Need-write-handed-requires-2
-write-handed-requires-2 c κs = search needs
+write-stored-requires : tie.Need-write-stored-requires
+write-stored-requires c κs = search needs
 
 same-length-2 : tie.Need-same-length-2
 same-length-2 c = search needs
@@ -39,13 +36,11 @@ same-length-2 c = search needs
 returns-2 : tie.Need-returns-2
 returns-2 c =
     let w = c .before .before in
-    let u = w .before .before in
-    let t = u .before .before in
+    let t = w .before .before .before in
     let p = t .before .before in
     let a = p .before .before .before .before .before .before .args in
-    unit-told (a .sender .settings) (a .work .told .handed) (w .write-handed2 .result) _ (a .output .now) (u .unit-at .result .now) _
-    (offered-older (a .sender) (a .work) (a .unit .now) (a .store .now) (p .place-handed .ensures) (t .if1 .left) (u .unit-at .ensures))
-    (w .write-handed2 .ensures)
+    unit-told (a .sender .settings) (a .work .told .handed) (w .write-stored .result) _ (a .output .now) _ _
+    (offered-older (a .sender) (a .work) (a .unit .now) (a .store .now) (p .place-handed .ensures) (t .if1 .left)) (w .write-stored .ensures)
 
 pub write-offered-spec : {M : Type 1} → statement M
 write-offered-spec =
@@ -55,8 +50,7 @@ write-offered-spec =
     write-handed-requires
     same-length
     returns
-    cast-unit-at
-    unit-at-requires
-    write-handed-requires-2
+    cast-write-stored
+    write-stored-requires
     same-length-2
     returns-2)

@@ -1,16 +1,12 @@
 -- What the callees ensure, put together, is the definition.
 use Rattle.fop_actions.specs.Parts.{withQueues}
 use Rattle.fop_actions.specs.Actions.{addToWaitQueue}
-use borrow.Author.Needs.{needs}
 use Rattle.fop_actions.proofs.entries.add_to_wait_queue.Statement.{statement}
 use Rattle.fop_actions.proofs.entries.add_to_wait_queue.Tie as tie
-
-set-length-requires : tie.Need-set-length-requires
-set-length-requires c κs = search needs
 
 returns : tie.Need-returns
 unfolding addToWaitQueue withQueues
 returns c = cc
 
 pub add-to-wait-queue-spec : {M : Type 1} → statement M
-add-to-wait-queue-spec = tie.close (tie.spec set-length-requires returns)
+add-to-wait-queue-spec = tie.close (tie.spec returns)

@@ -20,9 +20,6 @@ difference-requires-2 c κs = search needs
 run-from-requires : tie.Need-run-from-requires
 run-from-requires c κs = search needs
 
-slide-lengths-requires : tie.Need-slide-lengths-requires
-slide-lengths-requires c κs = search needs
-
 returns : tie.Need-returns
 unfolding removeAcknowledgedFrames withTold withQueues withVariables
 returns c = cc
@@ -36,5 +33,4 @@ remove-acknowledged-frames-spec =
     least-requires
     difference-requires-2
     run-from-requires
-    slide-lengths-requires
     returns)

@@ -7,7 +7,7 @@ use native.Mathlib.Nat.{sub-zero}
 use native.Mathlib.Omega.{arith}
 use lib.ListN.{drop}
 use Rattle.sender.specs.State.{lengthsHold}
-use Rattle.fop_actions.specs.Limits.{places}
+use Rattle.store.specs.Places.{places}
 use Rattle.sender.proofs.Kept.{length-missing, held-beyond, free-beyond, held-on, free-on, lengths-end}
 use Rattle.sender.proofs.state.lengths_hold.Statement.{statement}
 use Rattle.sender.proofs.state.lengths_hold.Tie as tie

@@ -45,6 +45,9 @@ returns-3 c =
 units-held-requires : tie.Need-units-held-requires
 units-held-requires c κs = search needs
 
+cast-held : tie.Need-cast-held
+cast-held c = search needs
+
 lengths-hold-requires : tie.Need-lengths-hold-requires
 lengths-hold-requires c κs = search needs
 
@@ -73,5 +76,6 @@ well-formed-spec =
     state-holds-requires
     returns-3
     units-held-requires
+    cast-held
     lengths-hold-requires
     returns-4)
