@@ -10,7 +10,7 @@ use lib.Dec.{leb, eqb}
 use lib.ListN.{length}
 use Rattle.base.specs.Choice.{must}
 use Rattle.memory.specs.Placed.{placed}
-use Rattle.fop_actions.specs.declared.SenderState.{SenderState}
+use Rattle.sender_values.specs.declared.SenderState.{SenderState}
 use Rattle.sender.specs.declared.Answer.{Answer}
 use Rattle.sender.specs.declared.Sender.{Sender}
 use Rattle.sender.specs.declared.Start.{Start}

@@ -7,8 +7,8 @@ use lib.ListN.{length}
 use Rattle.base.specs.Choice.{pick, must}
 use Rattle.memory.specs.Placed.{placed}
 use Rattle.fop.specs.Limits.{largestNumber, largestTimer, largestTransmissionLimit}
-use Rattle.fop_actions.specs.declared.SenderState.{SenderState}
-use Rattle.fop_actions.specs.declared.Settings.{Settings}
+use Rattle.sender_values.specs.declared.SenderState.{SenderState}
+use Rattle.sender_values.specs.declared.Settings.{Settings}
 use Rattle.fop_events.specs.declared.Lower.{Lower}
 use Rattle.fop_events.specs.declared.Lower.the-variants as lower
 use Rattle.sender.specs.declared.Start.{Start}

@@ -14,11 +14,11 @@ use Rattle.fop.specs.Limits.{largestK, largestTimer, largestTransmissionLimit, 
 use Rattle.fop.specs.Table as table
 use Rattle.fop.specs.Table.{table78, cell78, FopEvent, E23, E24, E25, E26, E29, E30, E31, E32, E33, E34}
 use Rattle.fop.specs.Events.{validDirective, directiveEvent}
-use Rattle.fop_actions.specs.declared.SenderState.{SenderState}
-use Rattle.fop_actions.specs.declared.Work.{Work}
-use Rattle.fop_actions.specs.Start.{begun}
-use Rattle.fop_actions.specs.View.{stateOf}
-use Rattle.fop_rows.specs.Rows.{done, doneAll, doneCell, rowOf}
+use Rattle.sender_values.specs.declared.SenderState.{SenderState}
+use Rattle.sender_values.specs.declared.Work.{Work}
+use Rattle.sender_values.specs.Start.{begun}
+use Rattle.sender_view.specs.View.{stateOf}
+use Rattle.sender_table.specs.Rows.{done, doneAll, doneCell, rowOf}
 use Rattle.fop_events.specs.Events.{eventNumber, directiveNumber}
 use Rattle.session.proofs.Choices.{by-pick, upto, _also_}
 use Rattle.sender.specs.Answers.{Step, refusedStep}

@@ -27,10 +27,10 @@ use Rattle.frame.proofs.Back.{Legal, frame-back}
 use Rattle.fecf.specs.Fecf.{fecfOf, fieldOctets}
 use Rattle.fop.specs.Units.{Own}
 use Rattle.fop.specs.Answers.{Answer}
-use Rattle.fop_actions.specs.declared.Handed.{Handed}
-use Rattle.fop_actions.specs.declared.Handed.the-variants as handed
-use Rattle.fop_actions.specs.declared.SenderState.{SenderState}
-use Rattle.fop_actions.specs.declared.Work.{Work}
+use Rattle.sender_values.specs.declared.Handed.{Handed}
+use Rattle.sender_values.specs.declared.Handed.the-variants as handed
+use Rattle.sender_values.specs.declared.SenderState.{SenderState}
+use Rattle.sender_values.specs.declared.Work.{Work}
 use Rattle.session.specs.Frames.{carried, byReading, read}
 use Rattle.session.proofs.Choices.{none-some}
 use Rattle.sender.specs.Answers.{kindHanded, answered, refusing, Step, stepBy, refusedStep}

@@ -28,7 +28,7 @@ use Rattle.farm.specs.declared.Variables.{Variables}
 use Rattle.farm.specs.Table.{stepOf}
 use Rattle.farm.proofs.Cells.{e9-keeps}
 use Rattle.farm.proofs.Restored as farm-restored
-use Rattle.fop_actions.specs.declared.SenderState.{SenderState}
+use Rattle.sender_values.specs.declared.SenderState.{SenderState}
 use Rattle.sender.specs.declared.Start.{Start}
 use Rattle.sender.specs.Answers.{Step}
 use Rattle.sender.specs.Events.{lowerLayerOf}

@@ -11,21 +11,21 @@ use Rattle.fop.specs.Table.{Action, Cell, cell, ifNotSuspended, NotApplicable, 
 use Rattle.fop.specs.Table.{Ignore, Accept, Reject, Confirm, RejectAd, AcceptBd, RejectBd, AddToWaitQueue, LookForFdu, LookForDirective, RemoveAcknowledgedFrames}
 use Rattle.fop.specs.Table.{InitiateAdRetransmission, InitiateBcRetransmission, ReleaseBcFrame, CancelTimer, StartTimer, Alert, Initialise, TransmitUnlock, TransmitSetVr, TransmitBd}
 use Rattle.fop.specs.Table.{SetSuspendState, Suspend, Resume, SetVs, SetNnr, SetK, SetT1Initial, SetTransmissionLimit, SetTimeoutType, AdOutReady, BcOutReady, BdOutReady}
-use Rattle.fop_actions.specs.declared.Alert.{Alert as Reason}
-use Rattle.fop_actions.specs.declared.Control.{Control}
-use Rattle.fop_actions.specs.declared.Control.the-variants as control
-use Rattle.fop_actions.specs.declared.Handed.{Handed}
-use Rattle.fop_actions.specs.declared.Response.{Response}
-use Rattle.fop_actions.specs.declared.Response.the-variants as response
-use Rattle.fop_actions.specs.declared.Responses.{Responses}
-use Rattle.fop_actions.specs.declared.SenderState.{SenderState}
-use Rattle.fop_actions.specs.declared.Work.{Work}
-use Rattle.fop_actions.specs.Limits.{largestResponses}
-use Rattle.fop_actions.specs.Parts.{withSettings, withVariables, withQueues, withTold}
-use Rattle.fop_actions.specs.Actions as act
-use Rattle.fop_actions.specs.Start.{begun, noneTold}
-use Rattle.fop_actions.specs.View.{stateOf}
-use Rattle.fop_rows.specs.Rows.{declaredReason, octet, done, doneAll, doneCell, rowOf, eventOf, rowIf, rowNumbered}
+use Rattle.sender_values.specs.declared.Alert.{Alert as Reason}
+use Rattle.sender_values.specs.declared.Control.{Control}
+use Rattle.sender_values.specs.declared.Control.the-variants as control
+use Rattle.sender_values.specs.declared.Handed.{Handed}
+use Rattle.sender_values.specs.declared.Response.{Response}
+use Rattle.sender_values.specs.declared.Response.the-variants as response
+use Rattle.sender_values.specs.declared.Responses.{Responses}
+use Rattle.sender_values.specs.declared.SenderState.{SenderState}
+use Rattle.sender_values.specs.declared.Work.{Work}
+use Rattle.sender_values.specs.Limits.{largestResponses}
+use Rattle.sender_values.specs.Parts.{withSettings, withVariables, withQueues, withTold}
+use Rattle.sender_values.specs.Actions as act
+use Rattle.sender_values.specs.Start.{begun, noneTold}
+use Rattle.sender_view.specs.View.{stateOf}
+use Rattle.sender_table.specs.Rows.{declaredReason, octet, done, doneAll, doneCell, rowOf, eventOf, rowIf, rowNumbered}
 
 -- the numbers of four responses
 abbrev pub Four : Work → Type 0

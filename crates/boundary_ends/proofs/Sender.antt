@@ -18,11 +18,11 @@ use Rattle.fop.specs.Units.{Own, areOctets}
 use Rattle.fop.specs.Events.{SenderEvent, requestAd, requestBd, tick, lower, directive, wordArrives}
 use Rattle.fop.specs.Events as fop
 use Rattle.fop.specs.Answers.{senderAnswer, senderNext}
-use Rattle.fop_actions.specs.declared.SenderState.{SenderState}
+use Rattle.sender_values.specs.declared.SenderState.{SenderState}
 use Rattle.store.specs.Places.{places}
-use Rattle.fop_actions.specs.Start.{begun}
-use Rattle.fop_actions.specs.View.{stateOf, reasonOf, responsesOf, runTold}
-use Rattle.fop_rows.specs.Rows.{eventOf}
+use Rattle.sender_values.specs.Start.{begun}
+use Rattle.sender_view.specs.View.{stateOf, reasonOf, responsesOf, runTold}
+use Rattle.sender_table.specs.Rows.{eventOf}
 use Rattle.fop_events.specs.declared.Lower.{Lower}
 use Rattle.fop_view.specs.State.{Good}
 use Rattle.sender.specs.declared.Answer.{Answer as SenderAnswer}

@@ -13,8 +13,8 @@ use Rattle.base.specs.Limits.{largestSpacecraft, largestChannel}
 use Rattle.memory.specs.Placed.{placed}
 use Rattle.fop.specs.Limits.{largestK, largestNumber, largestTimer, largestTransmissionLimit}
 use Rattle.fop.specs.Events.{directive}
-use Rattle.fop_actions.specs.declared.SenderState.{SenderState}
-use Rattle.fop_actions.specs.Start.{startOf}
+use Rattle.sender_values.specs.declared.SenderState.{SenderState}
+use Rattle.sender_values.specs.Start.{startOf}
 use Rattle.fop_view.specs.State.{Good}
 use Rattle.farm.specs.Kept as farm
 use Rattle.farm.specs.Receiver as farmStart

@@ -16,13 +16,13 @@ use Rattle.store.specs.Places.{unitPut}
 use Rattle.clcw.specs.Answers.{readingOf}
 use Rattle.clcw.specs.declared.WordReading.{WordReading}
 use Rattle.clcw.specs.declared.WordReading.the-variants as reading
-use Rattle.fop_actions.specs.declared.Response.the-variants.{RejectDirective}
-use Rattle.fop_actions.specs.declared.SenderState.{SenderState}
-use Rattle.fop_actions.specs.declared.Work.{Work}
-use Rattle.fop_actions.specs.Actions.{responseNumber, responsesWith}
-use Rattle.fop_actions.specs.Limits.{largestResponses}
-use Rattle.fop_actions.specs.Start.{begun}
-use Rattle.fop_rows.specs.Rows.{rowNumbered}
+use Rattle.sender_values.specs.declared.Response.the-variants.{RejectDirective}
+use Rattle.sender_values.specs.declared.SenderState.{SenderState}
+use Rattle.sender_values.specs.declared.Work.{Work}
+use Rattle.sender_values.specs.Actions.{responseNumber, responsesWith}
+use Rattle.sender_values.specs.Limits.{largestResponses}
+use Rattle.sender_values.specs.Start.{begun}
+use Rattle.sender_table.specs.Rows.{rowNumbered}
 use Rattle.fop_events.specs.declared.Lower.{Lower}
 use Rattle.fop_events.specs.Events.{wordNumber, directiveNumber, adNumber, bdNumber, lowerNumber}
 use Rattle.sender.specs.declared.Answer.{Answer}

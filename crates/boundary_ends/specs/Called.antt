@@ -13,8 +13,8 @@ use Rattle.fop.specs.Units.{areOctets}
 use Rattle.fop.specs.Events.{SenderEvent, requestAd, requestBd, tick, lower, directive, wordArrives}
 use Rattle.fop.specs.Events as fop
 use Rattle.fop.specs.Answers.{Answer}
-use Rattle.fop_actions.specs.View.{stateOf, reasonOf, responsesOf, runTold}
-use Rattle.fop_rows.specs.Rows.{eventOf}
+use Rattle.sender_view.specs.View.{stateOf, reasonOf, responsesOf, runTold}
+use Rattle.sender_table.specs.Rows.{eventOf}
 use Rattle.farm.specs.Kept.{octetsOf as receiverOctets}
 use Rattle.farm.specs.declared.Event.{Event as FarmEvent}
 use Rattle.farm.specs.declared.Event.the-variants.{E1, E2, E3, E4, E5, E6, E7, E8, E9, E10, E11}

@@ -9,7 +9,7 @@ use Rattle.base.specs.Outcome as outcome
 use Rattle.store.proofs.Laws.{put-rest, without-behind}
 use Rattle.fop.specs.Units.{Own}
 use Rattle.fop.specs.Events.{SenderEvent}
-use Rattle.fop_actions.specs.Start.{begun}
+use Rattle.sender_values.specs.Start.{begun}
 use Rattle.fop_view.specs.State.{Good}
 use Rattle.sender.specs.Answers.{stored}
 use Rattle.sender.specs.Limits.{smallestStore}

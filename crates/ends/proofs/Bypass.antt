@@ -13,18 +13,18 @@ use Rattle.fop.specs.Table.{InitiateAdRetransmission, InitiateBcRetransmission,
 use Rattle.fop.specs.Table.{SetSuspendState, Suspend, Resume, SetVs, SetNnr, SetK, SetT1Initial, SetTransmissionLimit, SetTimeoutType, AdOutReady, BcOutReady, BdOutReady}
 use Rattle.fop.specs.Table.{E1, E2, E3, E4, E5, E6, E7, E8, E9, E10, E11, E12, E13, E14, E15, E16, E17, E18, E19, E20, E21, E22, E23, E24, E25, E26, E27, E28, E29, E30, E31, E32, E33, E34}
 use Rattle.fop.specs.Table.{E35, E36, E37, E38, E39, E40, E41, E42, E43, E44, E45, E46, E101, E102, E103, E104}
-use Rattle.fop_actions.specs.declared.Control.{Control}
-use Rattle.fop_actions.specs.declared.Control.the-variants as control
-use Rattle.fop_actions.specs.declared.Handed.{Handed}
-use Rattle.fop_actions.specs.declared.Handed.the-variants as handed
-use Rattle.fop_actions.specs.declared.Response.the-variants as response
-use Rattle.fop_actions.specs.declared.SenderState.{SenderState}
-use Rattle.fop_actions.specs.declared.Work.{Work}
-use Rattle.fop_actions.specs.Actions as act
-use Rattle.fop_actions.specs.Parts.{withSettings, withVariables, withQueues, withTold}
-use Rattle.fop_actions.specs.Start.{begun, noneTold}
-use Rattle.fop_actions.specs.View.{stateOf}
-use Rattle.fop_rows.specs.Rows.{done, doneAll, doneCell, rowOf}
+use Rattle.sender_values.specs.declared.Control.{Control}
+use Rattle.sender_values.specs.declared.Control.the-variants as control
+use Rattle.sender_values.specs.declared.Handed.{Handed}
+use Rattle.sender_values.specs.declared.Handed.the-variants as handed
+use Rattle.sender_values.specs.declared.Response.the-variants as response
+use Rattle.sender_values.specs.declared.SenderState.{SenderState}
+use Rattle.sender_values.specs.declared.Work.{Work}
+use Rattle.sender_values.specs.Actions as act
+use Rattle.sender_values.specs.Parts.{withSettings, withVariables, withQueues, withTold}
+use Rattle.sender_values.specs.Start.{begun, noneTold}
+use Rattle.sender_view.specs.View.{stateOf}
+use Rattle.sender_table.specs.Rows.{done, doneAll, doneCell, rowOf}
 use Rattle.fop_events.specs.Events.{eventNumber}
 use Rattle.fop_view.proofs.Allowed.{every, every-in}
 use Rattle.session.proofs.Choices.{by-pick}

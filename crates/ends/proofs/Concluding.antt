@@ -18,12 +18,12 @@ use Rattle.fop.specs.Table.{FopEvent}
 use Rattle.fop.specs.Variables as machine
 use Rattle.fop.specs.Variables.{Fop}
 use Rattle.fop.specs.Answers.{Answer, Run, runOf, octetsDown, room, answered, refused}
-use Rattle.fop_actions.specs.declared.SenderState.{SenderState}
-use Rattle.fop_actions.specs.declared.Work.{Work}
-use Rattle.fop_actions.specs.Actions.{responsesWith}
-use Rattle.fop_actions.specs.Start.{begun, senderOf}
-use Rattle.fop_actions.specs.View.{stateOf, reasonOf, responsesOf, runTold, fopOf, view}
-use Rattle.fop_rows.specs.Rows.{eventOf}
+use Rattle.sender_values.specs.declared.SenderState.{SenderState}
+use Rattle.sender_values.specs.declared.Work.{Work}
+use Rattle.sender_values.specs.Actions.{responsesWith}
+use Rattle.sender_values.specs.Start.{begun, senderOf}
+use Rattle.sender_view.specs.View.{stateOf, reasonOf, responsesOf, runTold, fopOf, view}
+use Rattle.sender_table.specs.Rows.{eventOf}
 use Rattle.fop_view.specs.State.{Good}
 use Rattle.sender.specs.Answers as sender
 use Rattle.sender.specs.Answers.{Step, stepBy, refusedStep}

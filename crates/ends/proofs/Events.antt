@@ -34,12 +34,12 @@ use Rattle.fop.specs.Machine.{fopDo}
 use Rattle.fop.specs.Events.{when, first, SenderEvent, requestAd, requestBd, tick, lower, directive, wordArrives, isEmpty, seen, wordLines, wordEvent, expiryLines, validDirective, directiveLines, directiveEvent, work, fopAd, fopBd, fopTick, fopExpiry, fopLower, fopDirective, fopReceived, fopWord}
 use Rattle.fop.specs.Events as fop
 use Rattle.fop.specs.Answers.{judged, otherRefusal, refused}
-use Rattle.fop_actions.specs.declared.SenderState.{SenderState}
-use Rattle.fop_actions.specs.declared.Work.{Work}
-use Rattle.fop_actions.specs.Start.{begun, noneTold, senderOf}
-use Rattle.fop_actions.specs.View.{fopOf}
-use Rattle.fop_actions.specs.Actions.{unitsHeld}
-use Rattle.fop_rows.specs.Rows.{eventOf, rowIf, rowOf, rowNumbered}
+use Rattle.sender_values.specs.declared.SenderState.{SenderState}
+use Rattle.sender_values.specs.declared.Work.{Work}
+use Rattle.sender_values.specs.Start.{begun, noneTold, senderOf}
+use Rattle.sender_view.specs.View.{fopOf}
+use Rattle.sender_values.specs.Actions.{unitsHeld}
+use Rattle.sender_table.specs.Rows.{eventOf, rowIf, rowOf, rowNumbered}
 use Rattle.fop_events.specs.Events.{eventNumber, variablesOf, expiryNumber, adNumber, bdNumber, lowerNumber, directiveNumber, wordNumber, told}
 use Rattle.fop_view.specs.State.{Good}
 use Rattle.fop_view.specs.Rows.{brings, Meets, isOffering}

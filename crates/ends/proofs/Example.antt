@@ -21,10 +21,10 @@ use Rattle.frame.specs.Frame.{rawWriting}
 use Rattle.store.specs.Places as stored
 use Rattle.store.specs.Slid as slide
 use Rattle.memory.specs.Placed as place
-use Rattle.fop_actions.specs.Actions as act
-use Rattle.fop_actions.specs.Parts as parts
-use Rattle.fop_actions.specs.Start as start
-use Rattle.fop_rows.specs.Rows as rows
+use Rattle.sender_values.specs.Actions as act
+use Rattle.sender_values.specs.Parts as parts
+use Rattle.sender_values.specs.Start as start
+use Rattle.sender_table.specs.Rows as rows
 use Rattle.fop_events.specs.Events as number
 use Rattle.sender.specs.Limits.{smallestStore}
 use Rattle.sender.specs.Answers as answers

@@ -15,8 +15,8 @@ use Rattle.fop.specs.Limits.{largestK, largestTransmissionLimit, largestTimer, 
 use Rattle.fop.specs.Units.{Word}
 use Rattle.fop.specs.Table.{FopEvent, E18, E25, E26, E27, E28, E39, E40, E103}
 use Rattle.fop.specs.Events.{Line, when, first, seen, wordLines, wordEvent, expiryLines, validDirective, directiveLines, directiveEvent}
-use Rattle.fop_actions.specs.declared.SenderState.{SenderState}
-use Rattle.fop_actions.specs.Start.{begun}
+use Rattle.sender_values.specs.declared.SenderState.{SenderState}
+use Rattle.sender_values.specs.Start.{begun}
 use Rattle.fop_events.specs.Events.{eventNumber, variablesOf}
 use Rattle.fop_view.specs.Rows.{acknowledging, Needed, Meets}
 use Rattle.session.proofs.Choices.{by-pick, and-l, and-r, upto, _also_}

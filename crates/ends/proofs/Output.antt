@@ -7,7 +7,7 @@ use lib.ListN.{length, take, drop}
 use lib.Seq.{take-append-seam}
 use Rattle.base.specs.Outcome.{Outcome, Outcome.done, Outcome.refused}
 use Rattle.fop.specs.Events.{SenderEvent}
-use Rattle.fop_actions.specs.declared.Work.{Work}
+use Rattle.sender_values.specs.declared.Work.{Work}
 use Rattle.sender.specs.Answers.{answered, refusing, stepBy}
 use Rattle.ends.specs.Ours.{Held, stepOf, heldAfter, answerBy}
 use Rattle.ends.proofs.Steps.{concluded}

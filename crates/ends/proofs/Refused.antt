@@ -7,7 +7,7 @@ use mathlib.Core.List.{List}
 use lib.ListN.{length}
 use Rattle.base.specs.Outcome.{Outcome, Outcome.done, Outcome.refused}
 use Rattle.fop.specs.Events.{SenderEvent}
-use Rattle.fop_actions.specs.declared.Work.{Work}
+use Rattle.sender_values.specs.declared.Work.{Work}
 use Rattle.sender.specs.Answers.{Step, answered, refusing, stepBy}
 use Rattle.ends.specs.Ours.{Held, stepOf, heldAfter}
 use Rattle.ends.specs.Demand.{refusalOf, RefusedKeepsAll}

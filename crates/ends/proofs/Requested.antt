@@ -18,17 +18,17 @@ use Rattle.fop.specs.Units.{Own}
 use Rattle.fop.specs.Table.{FopEvent, table78, cell78, E19, E20, E21, E22}
 use Rattle.fop.specs.Variables as machine
 use Rattle.fop.specs.Machine.{fopDo}
-use Rattle.fop_actions.specs.declared.Handed.{Handed}
-use Rattle.fop_actions.specs.declared.Handed.the-variants as handed
-use Rattle.fop_actions.specs.declared.State.{State}
-use Rattle.fop_actions.specs.declared.SenderState.{SenderState}
-use Rattle.fop_actions.specs.declared.Work.{Work}
-use Rattle.fop_actions.specs.Actions as act
-use Rattle.fop_actions.specs.Actions.{unitsHeld}
-use Rattle.fop_actions.specs.Parts.{withVariables, withTold}
-use Rattle.fop_actions.specs.Start.{begun, noneTold, senderOf}
-use Rattle.fop_actions.specs.View.{stateOf, fopOf}
-use Rattle.fop_rows.specs.Rows.{inMain, done, doneAll, doneCell, rowOf}
+use Rattle.sender_values.specs.declared.Handed.{Handed}
+use Rattle.sender_values.specs.declared.Handed.the-variants as handed
+use Rattle.sender_values.specs.declared.State.{State}
+use Rattle.sender_values.specs.declared.SenderState.{SenderState}
+use Rattle.sender_values.specs.declared.Work.{Work}
+use Rattle.sender_values.specs.Actions as act
+use Rattle.sender_values.specs.Actions.{unitsHeld}
+use Rattle.sender_values.specs.Parts.{withVariables, withTold}
+use Rattle.sender_values.specs.Start.{begun, noneTold, senderOf}
+use Rattle.sender_view.specs.View.{stateOf, fopOf}
+use Rattle.sender_table.specs.Rows.{inMain, done, doneAll, doneCell, rowOf}
 use Rattle.fop_events.specs.Events.{eventNumber}
 use Rattle.fop_view.specs.State.{Good}
 use Rattle.fop_view.specs.Rows.{Meets, Shows, brings, isOffering, lengthsAfter}

@@ -14,19 +14,19 @@ use Rattle.base.specs.Modulo.{offset}
 use Rattle.base.proofs.Tests.{both-left as left, both-right as right}
 use Rattle.fop.specs.Limits.{largestK, largestTransmissionLimit}
 use Rattle.fop.specs.Units.{Own}
-use Rattle.fop_actions.specs.declared.Queues.{Queues}
-use Rattle.fop_actions.specs.declared.SenderState.{SenderState}
-use Rattle.fop_actions.specs.declared.Settings.{Settings}
-use Rattle.fop_actions.specs.declared.State.{State}
-use Rattle.fop_actions.specs.declared.State.the-variants as state
-use Rattle.fop_actions.specs.declared.Variables.{Variables}
+use Rattle.sender_values.specs.declared.Queues.{Queues}
+use Rattle.sender_values.specs.declared.SenderState.{SenderState}
+use Rattle.sender_values.specs.declared.Settings.{Settings}
+use Rattle.sender_values.specs.declared.State.{State}
+use Rattle.sender_values.specs.declared.State.the-variants as state
+use Rattle.sender_values.specs.declared.Variables.{Variables}
 use Rattle.store.specs.Places.{places}
-use Rattle.fop_actions.specs.Start.{startOf, begun}
-use Rattle.fop_rows.specs.Rows.{inMain, isFrame}
+use Rattle.sender_values.specs.Start.{startOf, begun}
+use Rattle.sender_table.specs.Rows.{inMain, isFrame}
 use Rattle.fop_view.specs.State.{Good, withFrame}
 use Rattle.sender.specs.Limits.{smallestStore}
 use Rattle.sender.specs.Start.{settingsHold}
-use Rattle.fop_actions.specs.Actions.{unitsHeld}
+use Rattle.sender_values.specs.Actions.{unitsHeld}
 use Rattle.sender.specs.State.{numbersHold, isEmpty, stateHolds, lengthsHold, wellFormed}
 
 -- two tests that hold

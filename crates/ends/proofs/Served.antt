@@ -15,17 +15,17 @@ use Rattle.fop.specs.Units.{Own, Unlock}
 use Rattle.fop.specs.Table.{FopEvent}
 use Rattle.fop.specs.Variables as machine
 use Rattle.fop.specs.Machine.{fopDo}
-use Rattle.fop_actions.specs.declared.Handed.{Handed}
-use Rattle.fop_actions.specs.declared.Handed.the-variants as handed
-use Rattle.fop_actions.specs.declared.Queues.{Queues}
-use Rattle.fop_actions.specs.declared.SenderState.{SenderState}
-use Rattle.fop_actions.specs.declared.Work.{Work}
+use Rattle.sender_values.specs.declared.Handed.{Handed}
+use Rattle.sender_values.specs.declared.Handed.the-variants as handed
+use Rattle.sender_values.specs.declared.Queues.{Queues}
+use Rattle.sender_values.specs.declared.SenderState.{SenderState}
+use Rattle.sender_values.specs.declared.Work.{Work}
 use Rattle.store.specs.Places.{places}
-use Rattle.fop_actions.specs.Start.{begun, senderOf}
-use Rattle.fop_actions.specs.Actions.{unitsHeld}
-use Rattle.fop_actions.specs.View.{fopOf}
-use Rattle.fop_actions.proofs.SentQueue.{held-least, held-most}
-use Rattle.fop_rows.specs.Rows.{rowOf}
+use Rattle.sender_values.specs.Start.{begun, senderOf}
+use Rattle.sender_values.specs.Actions.{unitsHeld}
+use Rattle.sender_view.specs.View.{fopOf}
+use Rattle.sender_view.proofs.SentQueue.{held-least, held-most}
+use Rattle.sender_table.specs.Rows.{rowOf}
 use Rattle.fop_events.specs.Events.{eventNumber}
 use Rattle.fop_view.specs.State.{Good}
 use Rattle.fop_view.specs.Rows.{Brings, brings, Meets, Shows, storeBy, lengthsBy, isOffering}

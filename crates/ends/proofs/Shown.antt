@@ -16,13 +16,13 @@ use Rattle.fop.specs.Units.{Own, Frame, Unlock, written}
 use Rattle.fop.specs.Table.{FopEvent}
 use Rattle.fop.specs.Variables as machine
 use Rattle.fop.specs.Answers.{octetsDown}
-use Rattle.fop_actions.specs.declared.Handed.{Handed}
-use Rattle.fop_actions.specs.declared.Handed.the-variants as handed
-use Rattle.fop_actions.specs.declared.SenderState.{SenderState}
-use Rattle.fop_actions.specs.declared.Work.{Work}
-use Rattle.fop_actions.specs.Start.{begun}
-use Rattle.fop_actions.specs.View.{fopOf, framesOf}
-use Rattle.fop_actions.specs.Actions.{unitsHeld}
+use Rattle.sender_values.specs.declared.Handed.{Handed}
+use Rattle.sender_values.specs.declared.Handed.the-variants as handed
+use Rattle.sender_values.specs.declared.SenderState.{SenderState}
+use Rattle.sender_values.specs.declared.Work.{Work}
+use Rattle.sender_values.specs.Start.{begun}
+use Rattle.sender_view.specs.View.{fopOf, framesOf}
+use Rattle.sender_values.specs.Actions.{unitsHeld}
 use Rattle.store.specs.Places.{unitAt}
 use Rattle.fop_events.specs.Events.{eventNumber}
 use Rattle.fop_view.specs.State.{Good}

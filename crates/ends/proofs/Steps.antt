@@ -17,11 +17,11 @@ use Rattle.clcw.specs.declared.WordReading.{WordReading}
 use Rattle.clcw.specs.declared.WordReading.the-variants as reading
 use Rattle.fop.specs.Units.{areOctets}
 use Rattle.fop.specs.Events.{SenderEvent, requestAd, requestBd, tick, lower, directive, wordArrives}
-use Rattle.fop_actions.specs.declared.SenderState.{SenderState}
-use Rattle.fop_actions.specs.declared.Work.{Work}
-use Rattle.fop_actions.specs.Start.{begun}
-use Rattle.fop_actions.proofs.SentQueue.{held-most}
-use Rattle.fop_rows.specs.Rows.{rowNumbered}
+use Rattle.sender_values.specs.declared.SenderState.{SenderState}
+use Rattle.sender_values.specs.declared.Work.{Work}
+use Rattle.sender_values.specs.Start.{begun}
+use Rattle.sender_view.proofs.SentQueue.{held-most}
+use Rattle.sender_table.specs.Rows.{rowNumbered}
 use Rattle.fop_events.specs.Events.{wordNumber, directiveNumber, adNumber, bdNumber, lowerNumber}
 use Rattle.sender.specs.Answers.{Step, stepBy, refusedStep}
 use Rattle.sender.specs.Limits.{smallestStore}

@@ -19,9 +19,9 @@ use Rattle.fop.specs.Events as events
 use Rattle.fop.specs.Events.{SenderEvent, directive}
 use Rattle.fop.specs.Answers as answers
 use Rattle.fop.specs.Answers.{senderNext}
-use Rattle.fop_actions.specs.declared.SenderState.{SenderState}
-use Rattle.fop_actions.specs.Start.{startOf, begun}
-use Rattle.fop_actions.specs.View.{fopOf}
+use Rattle.sender_values.specs.declared.SenderState.{SenderState}
+use Rattle.sender_values.specs.Start.{startOf, begun}
+use Rattle.sender_view.specs.View.{fopOf}
 use Rattle.fop_view.specs.State.{Good}
 use Rattle.farm.specs.Receiver as farm
 use Rattle.farm.specs.declared.Start.the-variants.{Ready}

@@ -19,10 +19,10 @@ use Rattle.frame.proofs.Emitted.{length-frame, writing-room, writing-done}
 use Rattle.fop.specs.Limits.{largestK}
 use Rattle.fop.specs.Units.{Own, written}
 use Rattle.fop.specs.Answers.{octetsDown, room}
-use Rattle.fop_actions.specs.declared.Settings.{Settings}
-use Rattle.fop_actions.specs.declared.Handed.{Handed}
-use Rattle.fop_actions.specs.declared.Handed.the-variants as handed
-use Rattle.fop_actions.specs.View.{framesOf}
+use Rattle.sender_values.specs.declared.Settings.{Settings}
+use Rattle.sender_values.specs.declared.Handed.{Handed}
+use Rattle.sender_values.specs.declared.Handed.the-variants as handed
+use Rattle.sender_view.specs.View.{framesOf}
 use Rattle.store.specs.Places.{unitAt}
 use Rattle.sender.specs.Events.{handedWriting}
 use Rattle.sender.specs.Limits.{smallestStore}

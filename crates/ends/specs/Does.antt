@@ -8,8 +8,8 @@ use Rattle.fop.specs.Units.{Own}
 use Rattle.fop.specs.Variables.{Fop}
 use Rattle.fop.specs.Events.{SenderEvent}
 use Rattle.fop.specs.Answers.{senderAnswer, senderNext}
-use Rattle.fop_actions.specs.Start.{begun}
-use Rattle.fop_actions.specs.View.{fopOf}
+use Rattle.sender_values.specs.Start.{begun}
+use Rattle.sender_view.specs.View.{fopOf}
 use Rattle.fop_view.specs.State.{Good}
 use Rattle.sender.specs.Answers.{Step}
 use Rattle.ends.specs.Ours.{Held, stepOf, answerBy, reads}

@@ -12,10 +12,10 @@ use Rattle.fop.specs.Events.{SenderEvent, requestAd, requestBd, tick, lower, di
 use Rattle.fop.specs.Events as fop
 use Rattle.fop.specs.Variables.{Fop}
 use Rattle.fop.specs.Answers.{Answer}
-use Rattle.fop_actions.specs.declared.Settings.{Settings as SenderSettings}
-use Rattle.fop_actions.specs.Start.{begun}
-use Rattle.fop_actions.specs.View.{stateOf, reasonOf, responsesOf, runTold, fopOf}
-use Rattle.fop_rows.specs.Rows.{eventOf}
+use Rattle.sender_values.specs.declared.Settings.{Settings as SenderSettings}
+use Rattle.sender_values.specs.Start.{begun}
+use Rattle.sender_view.specs.View.{stateOf, reasonOf, responsesOf, runTold, fopOf}
+use Rattle.sender_table.specs.Rows.{eventOf}
 use Rattle.fop_events.specs.declared.Lower.{Lower}
 use Rattle.fop_events.specs.declared.Lower.the-variants as answer
 use Rattle.fop_view.specs.State.{Good}

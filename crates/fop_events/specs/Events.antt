@@ -8,9 +8,9 @@ use Rattle.fop.specs.Units.{Word}
 use Rattle.fop.specs.Variables.{Fop}
 use Rattle.fop.specs.Events.{Lower, adAccept, adReject, bcAccept, bcReject, bdAccept, bdReject, lowerEvent, first, when, isEmpty, seen, wordEvent, expiryLines, directiveEvent}
 use Rattle.clcw.specs.declared.Clcw.{Clcw}
-use Rattle.fop_actions.specs.declared.SenderState.{SenderState}
-use Rattle.fop_actions.specs.Start.{begun}
-use Rattle.fop_actions.specs.View.{fopOf}
+use Rattle.sender_values.specs.declared.SenderState.{SenderState}
+use Rattle.sender_values.specs.Start.{begun}
+use Rattle.sender_view.specs.View.{fopOf}
 use Rattle.fop_events.specs.declared.Lower.{Lower as LowerAnswer}
 use Rattle.fop_events.specs.declared.Lower.the-variants as lower
 

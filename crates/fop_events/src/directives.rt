@@ -1,5 +1,5 @@
 // A directive by its number, 1 to 11: E23 to E40. Any other number, or a value outside its limit, is the invalid directive, E40.
-use fop_actions::SenderState;
+use sender_values::SenderState;
 ghost use mathlib.Core.Path.{_≡_};
 ghost use Rattle.fop_events.specs.Events.{directiveNumber};
 ghost use Rattle.fop_events.specs.Rows.{initiate, resume, setNumber, setLimit};

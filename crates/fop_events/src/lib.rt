@@ -2,7 +2,7 @@
 pub mod directives;
 pub mod words;
 
-use fop_actions::SenderState;
+use sender_values::SenderState;
 ghost use mathlib.Core.Path.{_≡_};
 ghost use Rattle.fop_events.specs.Events.{expiryNumber, adNumber, bdNumber, lowerNumber};
 

@@ -7,9 +7,9 @@ use lib.ListN.{length, take, drop, getD, length-take, List·getD-eq-default}
 use lib.Seq.{getD-take, drop-length}
 use Rattle.base.proofs.Lists.{next}
 use Rattle.fop.specs.Table.{Action, Ignore}
-use Rattle.fop_actions.specs.declared.Work.{Work}
-use Rattle.fop_rows.specs.Rows.{done, octet}
-use Rattle.fop_rows.specs.Numbers.{actions, actionOf, doneNumbers}
+use Rattle.sender_values.specs.declared.Work.{Work}
+use Rattle.sender_table.specs.Rows.{done, octet}
+use Rattle.sender_table.specs.Numbers.{actions, actionOf, doneNumbers}
 
 -- the action of a number that is known
 pub numbered : (k a n : ℕ) (w r : Work) → a ≡ k → r ≡ done (actionOf k) n w → r ≡ done (actionOf a) n w

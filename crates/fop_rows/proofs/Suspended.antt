@@ -7,14 +7,14 @@ use borrow.Author.Tests.{eqb-true}
 use lib.Dec.{eqb}
 use lib.ListN.{getD, take}
 use Rattle.fop.specs.Table.{table78, cell78, E35, E40}
-use Rattle.fop_actions.specs.declared.State.{State}
-use Rattle.fop_actions.specs.declared.State.the-variants.{S1, S2, S3, S4, S5, S6}
-use Rattle.fop_actions.specs.declared.Work.{Work}
-use Rattle.fop_actions.specs.Actions.{toState}
-use Rattle.fop_actions.specs.View.{stateOf}
-use Rattle.fop_rows.specs.Rows.{doneCell, rowOf, eventOf, rowIf, rowNumbered}
-use Rattle.fop_rows.specs.Numbers.{doneNumbers, stateNumbered, doneNumbered, unlessSuspended, Says}
-use Rattle.fop_rows.proofs.Places.{chosen}
+use Rattle.sender_values.specs.declared.State.{State}
+use Rattle.sender_values.specs.declared.State.the-variants.{S1, S2, S3, S4, S5, S6}
+use Rattle.sender_values.specs.declared.Work.{Work}
+use Rattle.sender_values.specs.Actions.{toState}
+use Rattle.sender_values.specs.States.{stateOf}
+use Rattle.sender_table.specs.Rows.{doneCell, rowOf, eventOf, rowIf, rowNumbered}
+use Rattle.sender_table.specs.Numbers.{doneNumbers, stateNumbered, doneNumbered, unlessSuspended, Says}
+use Rattle.sender_table.proofs.Places.{chosen}
 
 module _ (n : ℕ) (w : Work) where
   abbrev suspendState : ℕ

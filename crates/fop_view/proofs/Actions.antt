@@ -10,14 +10,14 @@ use Rattle.fop.specs.Table.{InitiateAdRetransmission, InitiateBcRetransmission,
 use Rattle.fop.specs.Table.{SetSuspendState, Suspend, Resume, SetVs, SetNnr, SetK, SetT1Initial, SetTransmissionLimit, SetTimeoutType, AdOutReady, BcOutReady, BdOutReady}
 use Rattle.fop.specs.Variables as machine
 use Rattle.fop.specs.Machine.{perform, performAll}
-use Rattle.fop_actions.specs.declared.Response.{Response}
-use Rattle.fop_actions.specs.declared.Response.the-variants as response
-use Rattle.fop_actions.specs.declared.Work.{Work}
-use Rattle.fop_actions.specs.Limits.{largestResponses}
-use Rattle.fop_actions.specs.Actions as act
-use Rattle.fop_actions.proofs.ViewAnswers as answers
-use Rattle.fop_actions.proofs.ViewAnswers.{Room}
-use Rattle.fop_rows.specs.Rows.{done, doneAll, declaredReason}
+use Rattle.sender_values.specs.declared.Response.{Response}
+use Rattle.sender_values.specs.declared.Response.the-variants as response
+use Rattle.sender_values.specs.declared.Work.{Work}
+use Rattle.sender_values.specs.Limits.{largestResponses}
+use Rattle.sender_values.specs.Actions as act
+use Rattle.sender_view.proofs.ViewAnswers as answers
+use Rattle.sender_view.proofs.ViewAnswers.{Room}
+use Rattle.sender_table.specs.Rows.{done, doneAll, declaredReason}
 use Rattle.fop_view.specs.Rows.{Brings, acknowledging, offering, numbering, widening, clocking, limiting, timing, Needed}
 use Rattle.fop_view.proofs.Mode.{Stored, moved, put, Idle, started, ceased, released, offered, remaining, sending, bothPurged, Mode, going, half, over, same, same-is, onGoing, onlyIf, taking, turned, answered, repeated, purged, handedDown, controlled, looked, given, after, afterAll}
 use Rattle.fop_view.proofs.Known.{Case, seen, Open, At}

@@ -15,19 +15,19 @@ use Rattle.fop.specs.Table.{Action, Cell, cell, ifNotSuspended, NotApplicable}
 use Rattle.fop.specs.Variables as machine
 use Rattle.fop.specs.Answers.{runOf}
 use Rattle.fop.specs.Machine.{performAll, performCell}
-use Rattle.fop_actions.specs.declared.Control.{Control}
-use Rattle.fop_actions.specs.declared.Handed.the-variants as handed
-use Rattle.fop_actions.specs.declared.SenderState.{SenderState}
-use Rattle.fop_actions.specs.declared.State.{State}
-use Rattle.fop_actions.specs.declared.State.the-variants as state
-use Rattle.fop_actions.specs.declared.Work.{Work}
-use Rattle.fop_actions.specs.Actions as act
-use Rattle.fop_actions.specs.Actions.{unitsHeld}
-use Rattle.fop_actions.specs.Start.{begun, senderOf, noneTold}
-use Rattle.fop_actions.specs.View.{stateOf, fopOf}
-use Rattle.fop_actions.proofs.SentQueue.{held-most}
-use Rattle.fop_actions.proofs.ViewValues as values
-use Rattle.fop_rows.specs.Rows.{declared, doneAll, doneCell, inMain}
+use Rattle.sender_values.specs.declared.Control.{Control}
+use Rattle.sender_values.specs.declared.Handed.the-variants as handed
+use Rattle.sender_values.specs.declared.SenderState.{SenderState}
+use Rattle.sender_values.specs.declared.State.{State}
+use Rattle.sender_values.specs.declared.State.the-variants as state
+use Rattle.sender_values.specs.declared.Work.{Work}
+use Rattle.sender_values.specs.Actions as act
+use Rattle.sender_values.specs.Actions.{unitsHeld}
+use Rattle.sender_values.specs.Start.{begun, senderOf, noneTold}
+use Rattle.sender_view.specs.View.{stateOf, fopOf}
+use Rattle.sender_view.proofs.SentQueue.{held-most}
+use Rattle.sender_view.proofs.ViewValues as values
+use Rattle.sender_table.specs.Rows.{declared, doneAll, doneCell, inMain}
 use Rattle.fop_view.specs.State.{Good}
 use Rattle.fop_view.specs.Rows.{Brings, nothing, acknowledging, again, offering, numbering, widening, clocking, limiting, timing, suspending, brings, Needed, isOffering, storeBy, lengthsBy, Shows}
 use Rattle.fop_view.proofs.Mode.{Stored, kept, moved, put, Idle, Mode, fresh, going, half, over, bad, same, same-is, initial, idleIn, begins, implied, agrees, covers, notPut, putWhere, fits, ends, afterAll, allows}

@@ -18,21 +18,21 @@ use Rattle.fop.specs.Limits.{largestK}
 use Rattle.fop.specs.Table as table
 use Rattle.fop.specs.Variables as machine
 use Rattle.fop.specs.Machine.{perform, fdus}
-use Rattle.fop_actions.specs.declared.Handed.the-variants as handed
-use Rattle.fop_actions.specs.declared.Work.{Work}
-use Rattle.fop_actions.specs.Limits.{largestResponses}
-use Rattle.fop_actions.specs.Parts.{withVariables, withQueues, withTold}
-use Rattle.fop_actions.specs.Actions as act
-use Rattle.fop_actions.specs.Actions.{unitsHeld, staying, removed}
-use Rattle.fop_actions.specs.Start.{begun, noneTold}
-use Rattle.fop_actions.specs.View.{entriesOf}
-use Rattle.fop_actions.proofs.Kept as well
-use Rattle.fop_actions.proofs.SentQueue.{held-most}
-use Rattle.fop_actions.proofs.ViewRemoval as removal
-use Rattle.fop_actions.proofs.ViewRemoval.{gone-is, least-first}
-use Rattle.fop_actions.proofs.ViewRuns.{confirmed-run}
-use Rattle.fop_actions.proofs.ViewStart.{room-begun}
-use Rattle.fop_actions.proofs.ViewWaiting as waiting
+use Rattle.sender_values.specs.declared.Handed.the-variants as handed
+use Rattle.sender_values.specs.declared.Work.{Work}
+use Rattle.sender_values.specs.Limits.{largestResponses}
+use Rattle.sender_values.specs.Parts.{withVariables, withQueues, withTold}
+use Rattle.sender_values.specs.Actions as act
+use Rattle.sender_values.specs.Actions.{unitsHeld, staying, removed}
+use Rattle.sender_values.specs.Start.{begun, noneTold}
+use Rattle.sender_view.specs.View.{entriesOf}
+use Rattle.sender_view.proofs.Kept as well
+use Rattle.sender_view.proofs.SentQueue.{held-most}
+use Rattle.sender_view.proofs.ViewRemoval as removal
+use Rattle.sender_view.proofs.ViewRemoval.{gone-is, least-first}
+use Rattle.sender_view.proofs.ViewRuns.{confirmed-run}
+use Rattle.sender_view.proofs.ViewStart.{room-begun}
+use Rattle.sender_view.proofs.ViewWaiting as waiting
 use Rattle.fop_view.specs.State.{Good}
 use Rattle.fop_view.proofs.Mode.{moved, put, Idle, offered, remaining}
 use Rattle.fop_view.proofs.Known.{Case, Fresh, NoMore, Open, octet-is, held-waiting, good-settled, good-counted, counts-one, none-below}

@@ -13,19 +13,19 @@ use Rattle.fop.specs.Units.{Fdu}
 use Rattle.fop.specs.Table as table
 use Rattle.fop.specs.Variables as machine
 use Rattle.fop.specs.Machine.{perform}
-use Rattle.fop_actions.specs.declared.Control.{Control}
-use Rattle.fop_actions.specs.declared.Control.the-variants as control
-use Rattle.fop_actions.specs.declared.Handed.{Handed}
-use Rattle.fop_actions.specs.declared.Handed.the-variants as handed
-use Rattle.fop_actions.specs.declared.Response.the-variants.{AcceptAdUnit}
-use Rattle.fop_actions.specs.declared.Work.{Work}
-use Rattle.fop_actions.specs.Parts.{withVariables, withQueues, withTold}
-use Rattle.fop_actions.specs.Actions as act
-use Rattle.fop_actions.specs.Actions.{unitsHeld}
-use Rattle.fop_actions.specs.View.{WellFormed}
-use Rattle.fop_actions.proofs.Kept as well
-use Rattle.fop_actions.proofs.ViewTransmit as transmit
-use Rattle.fop_rows.specs.Rows.{isFrame}
+use Rattle.sender_values.specs.declared.Control.{Control}
+use Rattle.sender_values.specs.declared.Control.the-variants as control
+use Rattle.sender_values.specs.declared.Handed.{Handed}
+use Rattle.sender_values.specs.declared.Handed.the-variants as handed
+use Rattle.sender_values.specs.declared.Response.the-variants.{AcceptAdUnit}
+use Rattle.sender_values.specs.declared.Work.{Work}
+use Rattle.sender_values.specs.Parts.{withVariables, withQueues, withTold}
+use Rattle.sender_values.specs.Actions as act
+use Rattle.sender_values.specs.Actions.{unitsHeld}
+use Rattle.sender_view.specs.View.{WellFormed}
+use Rattle.sender_view.proofs.Kept as well
+use Rattle.sender_view.proofs.ViewTransmit as transmit
+use Rattle.sender_table.specs.Rows.{isFrame}
 use Rattle.fop_view.proofs.Mode.{Stored, Idle, started, framed, sending}
 use Rattle.fop_view.proofs.Known.{Case, seen, Counted, IdleIs, NoMore, EndedOf, Open, Shut, octet-is, less-room, starts, frames, idle-again, counts-one}
 use Rattle.fop_view.proofs.Onward.{shuts}

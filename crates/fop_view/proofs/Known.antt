@@ -15,23 +15,23 @@ use Rattle.fop.specs.Units.{Fdu, Own}
 use Rattle.fop.specs.Table.{FopEvent}
 use Rattle.fop.specs.Variables as machine
 use Rattle.fop.specs.Answers.{runOf}
-use Rattle.fop_actions.specs.declared.Control.{Control}
-use Rattle.fop_actions.specs.declared.Control.the-variants as control
-use Rattle.fop_actions.specs.declared.Handed.{Handed}
-use Rattle.fop_actions.specs.declared.Handed.the-variants as handed
-use Rattle.fop_actions.specs.declared.Responses.{Responses}
-use Rattle.fop_actions.specs.declared.Run.{Run}
-use Rattle.fop_actions.specs.declared.SenderState.{SenderState}
-use Rattle.fop_actions.specs.declared.Settings.{Settings}
-use Rattle.fop_actions.specs.declared.Work.{Work}
-use Rattle.fop_actions.specs.Limits.{largestResponses}
-use Rattle.fop_actions.specs.Actions.{unitsHeld}
-use Rattle.fop_actions.specs.Start.{begun, noneTold}
-use Rattle.fop_actions.specs.View.{view, runTold, Formed, WellFormed}
-use Rattle.fop_actions.proofs.SentQueue.{held-least}
-use Rattle.fop_actions.proofs.ViewAnswers.{Room}
-use Rattle.fop_actions.proofs.ViewStart.{room-begun}
-use Rattle.fop_rows.specs.Rows.{isFrame}
+use Rattle.sender_values.specs.declared.Control.{Control}
+use Rattle.sender_values.specs.declared.Control.the-variants as control
+use Rattle.sender_values.specs.declared.Handed.{Handed}
+use Rattle.sender_values.specs.declared.Handed.the-variants as handed
+use Rattle.sender_values.specs.declared.Responses.{Responses}
+use Rattle.sender_values.specs.declared.Run.{Run}
+use Rattle.sender_values.specs.declared.SenderState.{SenderState}
+use Rattle.sender_values.specs.declared.Settings.{Settings}
+use Rattle.sender_values.specs.declared.Work.{Work}
+use Rattle.sender_values.specs.Limits.{largestResponses}
+use Rattle.sender_values.specs.Actions.{unitsHeld}
+use Rattle.sender_values.specs.Start.{begun, noneTold}
+use Rattle.sender_view.specs.View.{view, runTold, Formed, WellFormed}
+use Rattle.sender_view.proofs.SentQueue.{held-least}
+use Rattle.sender_view.proofs.ViewAnswers.{Room}
+use Rattle.sender_view.proofs.ViewStart.{room-begun}
+use Rattle.sender_table.specs.Rows.{isFrame}
 use Rattle.fop_view.specs.State.{Good}
 use Rattle.fop_view.proofs.Mode.{Stored, kept, moved, put, Idle, started, ceased, framed, released, Mode, fresh, going, half, over, bad}
 

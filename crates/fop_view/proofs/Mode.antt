@@ -13,10 +13,10 @@ use Rattle.fop.specs.Table.{Action, Cell, cell, ifNotSuspended, NotApplicable}
 use Rattle.fop.specs.Table.{Ignore, Accept, Reject, Confirm, RejectAd, AcceptBd, RejectBd, AddToWaitQueue, LookForFdu, LookForDirective, RemoveAcknowledgedFrames}
 use Rattle.fop.specs.Table.{InitiateAdRetransmission, InitiateBcRetransmission, ReleaseBcFrame, CancelTimer, StartTimer, Alert, Initialise, TransmitUnlock, TransmitSetVr, TransmitBd}
 use Rattle.fop.specs.Table.{SetSuspendState, Suspend, Resume, SetVs, SetNnr, SetK, SetT1Initial, SetTransmissionLimit, SetTimeoutType, AdOutReady, BcOutReady, BdOutReady}
-use Rattle.fop_actions.specs.declared.State.{State}
-use Rattle.fop_actions.specs.declared.State.the-variants as state
-use Rattle.fop_actions.specs.Limits.{largestResponses}
-use Rattle.fop_rows.specs.Rows.{declared, inMain}
+use Rattle.sender_values.specs.declared.State.{State}
+use Rattle.sender_values.specs.declared.State.the-variants as state
+use Rattle.sender_values.specs.Limits.{largestResponses}
+use Rattle.sender_table.specs.Rows.{declared, inMain}
 use Rattle.fop_view.specs.State.{withFrame}
 use Rattle.fop_view.specs.Rows.{Brings, nothing, acknowledging, again, offering, numbering, widening, clocking, limiting, timing, suspending}
 

@@ -7,9 +7,9 @@ use Rattle.fop.specs.Units.{Fdu}
 use Rattle.fop.specs.Table.{Action}
 use Rattle.fop.specs.Variables as machine
 use Rattle.fop.specs.Machine.{perform}
-use Rattle.fop_actions.specs.declared.Work.{Work}
-use Rattle.fop_actions.specs.Limits.{largestResponses}
-use Rattle.fop_actions.specs.View.{WellFormed}
+use Rattle.sender_values.specs.declared.Work.{Work}
+use Rattle.sender_values.specs.Limits.{largestResponses}
+use Rattle.sender_view.specs.View.{WellFormed}
 use Rattle.fop_view.proofs.Mode.{Stored, kept, Idle, Mode, fresh, going, half, over, bad, onFresh, onGoing, onHalf, onlyIf, taking}
 use Rattle.fop_view.proofs.Known.{Case, seen, EndedOf, GoingOf, Fresh, Open, Half, Shut, At, opened}
 

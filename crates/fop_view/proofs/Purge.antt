@@ -12,22 +12,22 @@ use Rattle.fop.specs.Table as table
 use Rattle.fop.specs.Variables as machine
 use Rattle.fop.specs.Answers.{runOf}
 use Rattle.fop.specs.Machine.{perform, fdus}
-use Rattle.fop_actions.specs.declared.Alert.the-variants as alert
-use Rattle.fop_actions.specs.declared.Control.{Control}
-use Rattle.fop_actions.specs.declared.Control.the-variants as control
-use Rattle.fop_actions.specs.declared.Response.{Response}
-use Rattle.fop_actions.specs.declared.Response.the-variants.{RejectAdUnit, DenyDirective}
-use Rattle.fop_actions.specs.declared.Work.{Work}
-use Rattle.fop_actions.specs.Parts.{withVariables, withQueues, withTold}
-use Rattle.fop_actions.specs.Actions as act
-use Rattle.fop_actions.specs.Actions.{unitsHeld, runFrom, responseNumber}
-use Rattle.fop_actions.specs.View.{entriesOf, reasonOf, runTold}
-use Rattle.fop_actions.proofs.Kept as well
-use Rattle.fop_actions.proofs.SentQueue.{held-least}
-use Rattle.fop_actions.proofs.ViewAnswers.{Room, room-more}
-use Rattle.fop_actions.proofs.ViewRelease as release
-use Rattle.fop_actions.proofs.ViewRuns.{denied-run}
-use Rattle.fop_rows.specs.Rows.{declaredReason}
+use Rattle.sender_values.specs.declared.Alert.the-variants as alert
+use Rattle.sender_values.specs.declared.Control.{Control}
+use Rattle.sender_values.specs.declared.Control.the-variants as control
+use Rattle.sender_values.specs.declared.Response.{Response}
+use Rattle.sender_values.specs.declared.Response.the-variants.{RejectAdUnit, DenyDirective}
+use Rattle.sender_values.specs.declared.Work.{Work}
+use Rattle.sender_values.specs.Parts.{withVariables, withQueues, withTold}
+use Rattle.sender_values.specs.Actions as act
+use Rattle.sender_values.specs.Actions.{unitsHeld, runFrom, responseNumber}
+use Rattle.sender_view.specs.View.{entriesOf, reasonOf, runTold}
+use Rattle.sender_view.proofs.Kept as well
+use Rattle.sender_view.proofs.SentQueue.{held-least}
+use Rattle.sender_view.proofs.ViewAnswers.{Room, room-more}
+use Rattle.sender_view.proofs.ViewRelease as release
+use Rattle.sender_view.proofs.ViewRuns.{denied-run}
+use Rattle.sender_table.specs.Rows.{declaredReason}
 use Rattle.fop_view.proofs.Mode.{Stored, Idle, ceased, sentPurged, waitPurged, bothPurged}
 use Rattle.fop_view.proofs.Known.{Case, EndedOf, GoingOf, Open, held-waiting, less-room, idle-again, stops, counts-one, none-below}
 use Rattle.fop_view.proofs.Onward.{goes-on}

@@ -7,11 +7,11 @@ use Rattle.base.specs.Choice.{pick}
 use Rattle.fop.specs.Units.{Own}
 use Rattle.fop.specs.Table.{FopEvent, table78, cell78}
 use Rattle.fop.specs.Machine.{fopDo}
-use Rattle.fop_actions.specs.declared.SenderState.{SenderState}
-use Rattle.fop_actions.specs.Actions.{unitsHeld}
-use Rattle.fop_actions.specs.Start.{begun, noneTold}
-use Rattle.fop_actions.specs.View.{stateOf, fopOf}
-use Rattle.fop_rows.specs.Rows.{rowOf}
+use Rattle.sender_values.specs.declared.SenderState.{SenderState}
+use Rattle.sender_values.specs.Actions.{unitsHeld}
+use Rattle.sender_values.specs.Start.{begun, noneTold}
+use Rattle.sender_view.specs.View.{stateOf, fopOf}
+use Rattle.sender_table.specs.Rows.{rowOf}
 use Rattle.fop_view.specs.State.{Good}
 use Rattle.fop_view.specs.Rows.{brings, isOffering, Meets, storeAfter, lengthsAfter, Shows}
 use Rattle.fop_view.proofs.Allowed.{allowed}

@@ -1,5 +1,5 @@
 -- The actions that leave the queues alone: the timer, the out flags, the settings, the numbers, the responses, the retransmissions. Each
--- keeps what is known; the laws of crate fop_actions say what the machine does.
+-- keeps what is known; the laws of crate sender_values say what the machine does.
 use Prim.Native.Nat.{ℕ, suc, _%_, _≤_, _<_}
 use mathlib.Core.Path.{_≡_, refl, sym, ap, subst, _∙_}
 use mathlib.Core.Bool.{Bool, true, false}
@@ -11,16 +11,16 @@ use Rattle.fop.specs.Table as table
 use Rattle.fop.specs.Table.{Action}
 use Rattle.fop.specs.Variables as machine
 use Rattle.fop.specs.Machine.{perform}
-use Rattle.fop_actions.specs.declared.Response.{Response}
-use Rattle.fop_actions.specs.declared.Work.{Work}
-use Rattle.fop_actions.specs.Parts.{withSettings, withVariables, withQueues, withTold}
-use Rattle.fop_actions.specs.Actions as act
-use Rattle.fop_actions.specs.Actions.{responseNumber}
-use Rattle.fop_actions.specs.View.{Formed}
-use Rattle.fop_actions.proofs.Kept as well
-use Rattle.fop_actions.proofs.ViewValues as values
-use Rattle.fop_actions.proofs.ViewAnswers.{Room, room-more}
-use Rattle.fop_actions.proofs.ViewTransmit as transmit
+use Rattle.sender_values.specs.declared.Response.{Response}
+use Rattle.sender_values.specs.declared.Work.{Work}
+use Rattle.sender_values.specs.Parts.{withSettings, withVariables, withQueues, withTold}
+use Rattle.sender_values.specs.Actions as act
+use Rattle.sender_values.specs.Actions.{responseNumber}
+use Rattle.sender_view.specs.View.{Formed}
+use Rattle.sender_view.proofs.Kept as well
+use Rattle.sender_view.proofs.ViewValues as values
+use Rattle.sender_view.proofs.ViewAnswers.{Room, room-more}
+use Rattle.sender_view.proofs.ViewTransmit as transmit
 use Rattle.fop_view.proofs.Mode.{Stored, Idle, started, ceased, released}
 use Rattle.fop_view.proofs.Known.{Case, seen, EndedOf, Open, Half, octet-is, less-room, known, starts, stops, releases, resettled, idle-again, counts-more}
 use Rattle.fop_view.proofs.Onward.{goes-on}

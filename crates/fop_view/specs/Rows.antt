@@ -16,13 +16,13 @@ use Rattle.fop.specs.Table.{FopEvent, E1, E2, E3, E4, E5, E6, E7, E8, E9, E10, 
 use Rattle.fop.specs.Table.{E35, E36, E37, E38, E39, E40, E41, E42, E43, E44, E45, E46, E101, E102, E103, E104}
 use Rattle.fop.specs.Variables as machine
 use Rattle.fop.specs.Answers.{runOf}
-use Rattle.fop_actions.specs.declared.Handed.the-variants as handed
-use Rattle.fop_actions.specs.declared.SenderState.{SenderState}
-use Rattle.fop_actions.specs.declared.Work.{Work}
-use Rattle.fop_actions.specs.Actions.{unitsHeld}
-use Rattle.fop_actions.specs.Start.{senderOf}
-use Rattle.fop_actions.specs.View.{view, runTold}
-use Rattle.fop_rows.specs.Rows.{inMain}
+use Rattle.sender_values.specs.declared.Handed.the-variants as handed
+use Rattle.sender_values.specs.declared.SenderState.{SenderState}
+use Rattle.sender_values.specs.declared.Work.{Work}
+use Rattle.sender_values.specs.Actions.{unitsHeld}
+use Rattle.sender_values.specs.Start.{senderOf}
+use Rattle.sender_view.specs.View.{view, runTold}
+use Rattle.sender_table.specs.Rows.{inMain}
 use Rattle.fop_view.specs.State.{Good}
 
 -- what an event brings, as its conditions in table 7-8 and document 01's limits give it

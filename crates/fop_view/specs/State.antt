@@ -7,13 +7,13 @@ use lib.ListN.{getD}
 use Rattle.base.specs.Limits.{largestSpacecraft, largestChannel}
 use Rattle.fop.specs.Limits.{largestK, largestTransmissionLimit}
 use Rattle.fop.specs.Units.{Own}
-use Rattle.fop_actions.specs.declared.State.{State}
-use Rattle.fop_actions.specs.declared.State.the-variants.{S1, S2, S3, S4, S5, S6}
-use Rattle.fop_actions.specs.declared.SenderState.{SenderState}
-use Rattle.fop_actions.specs.Actions.{unitsHeld}
-use Rattle.fop_actions.specs.Start.{begun}
-use Rattle.fop_actions.specs.View.{WellFormed}
-use Rattle.fop_rows.specs.Rows.{inMain, isFrame}
+use Rattle.sender_values.specs.declared.State.{State}
+use Rattle.sender_values.specs.declared.State.the-variants.{S1, S2, S3, S4, S5, S6}
+use Rattle.sender_values.specs.declared.SenderState.{SenderState}
+use Rattle.sender_values.specs.Actions.{unitsHeld}
+use Rattle.sender_values.specs.Start.{begun}
+use Rattle.sender_view.specs.View.{WellFormed}
+use Rattle.sender_table.specs.Rows.{inMain, isFrame}
 
 -- Initialising with BC frame
 abbrev pub withFrame : State → Bool
@@ -24,7 +24,7 @@ withFrame S4 = false
 withFrame S5 = true
 withFrame S6 = false
 
--- V(S), NN(R), counts, lengths and store as crate fop_actions says; the settings within document 01's limits, with the address of both
+-- V(S), NN(R), counts, lengths and store as crate sender_values says; the settings within document 01's limits, with the address of both
 -- ends; Transmission_Count from 1 to the largest Transmission_Limit; "Suspend_State stays 0", and so does Timeout_Type; no unit is held but
 -- in the main protocol's states; the timer is stopped in Initial; a type-BC frame is on the Sent_Queue in Initialising with BC frame, and
 -- only there; each unit held has an octet

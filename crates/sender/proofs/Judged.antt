@@ -18,11 +18,11 @@ use Rattle.clcw.specs.Answers.{readingOf}
 use Rattle.clcw.specs.declared.ReceivedWord.{ReceivedWord}
 use Rattle.clcw.specs.declared.WordReading.{WordReading}
 use Rattle.clcw.specs.declared.WordReading.the-variants.{Word}
-use Rattle.fop_actions.specs.declared.State.{State}
-use Rattle.fop_actions.specs.declared.SenderState.{SenderState}
-use Rattle.fop_actions.specs.declared.Work.{Work}
-use Rattle.fop_actions.specs.Start.{begun}
-use Rattle.fop_rows.specs.Rows.{rowNumbered, inMain}
+use Rattle.sender_values.specs.declared.State.{State}
+use Rattle.sender_values.specs.declared.SenderState.{SenderState}
+use Rattle.sender_values.specs.declared.Work.{Work}
+use Rattle.sender_values.specs.Start.{begun}
+use Rattle.sender_table.specs.Rows.{rowNumbered, inMain}
 use Rattle.fop_events.specs.declared.Lower.{Lower}
 use Rattle.fop_events.specs.Events.{wordNumber, directiveNumber, lowerNumber, adNumber, bdNumber}
 use Rattle.sender.specs.declared.Answer.{Answer}

@@ -3,9 +3,9 @@ use mathlib.Core.Path.{_≡_, sym, ap, _∙_}
 use mathlib.Core.Bool.{Bool, true, false}
 use Prim.Native.Nat.{ℕ, _≤_, _<_}
 use borrow.Author.Tests.{le-leb, lt-leb}
-use Rattle.fop_actions.specs.declared.Settings.{Settings}
-use Rattle.fop_actions.specs.declared.SenderState.{SenderState}
-use Rattle.fop_actions.specs.Start.{startOf}
+use Rattle.sender_values.specs.declared.Settings.{Settings}
+use Rattle.sender_values.specs.declared.SenderState.{SenderState}
+use Rattle.sender_values.specs.Start.{startOf}
 use Rattle.sender.specs.declared.Start.{Start}
 use Rattle.sender.specs.Limits.{smallestStore}
 use Rattle.sender.specs.Start.{settingsHold, refusedStart, startingOf}

@@ -11,10 +11,10 @@ use Rattle.base.specs.Outcome as outcome
 use Rattle.frame.specs.Answers.{writtenAnswer}
 use Rattle.frame.specs.declared.writer.FrameWritten.{FrameWritten}
 use Rattle.frame.specs.declared.writer.FrameWritten.the-variants.{Done, Length, Setting, Room}
-use Rattle.fop_actions.specs.declared.Settings.{Settings}
-use Rattle.fop_actions.specs.declared.Handed.{Handed}
-use Rattle.fop_actions.specs.declared.SenderState.{SenderState}
-use Rattle.fop_actions.specs.declared.Work.{Work}
+use Rattle.sender_values.specs.declared.Settings.{Settings}
+use Rattle.sender_values.specs.declared.Handed.{Handed}
+use Rattle.sender_values.specs.declared.SenderState.{SenderState}
+use Rattle.sender_values.specs.declared.Work.{Work}
 use Rattle.sender.specs.declared.Answer.{Answer}
 use Rattle.sender.specs.Answers.{Step, answered, refusing, refusedStep, concluded, stored, stepBy}
 use Rattle.sender.specs.Events.{handedWriting}

@@ -7,17 +7,17 @@ use lib.ListN.{replicate}
 use Rattle.base.specs.Choice.{pick}
 use Rattle.base.specs.Outcome.{Outcome, Answer.done, Answer.refused, answer, after}
 use Rattle.base.specs.Outcome as outcome
-use Rattle.fop_actions.specs.declared.Alert.the-variants as alert
-use Rattle.fop_actions.specs.declared.Handed.{Handed}
-use Rattle.fop_actions.specs.declared.Handed.the-variants as handed
-use Rattle.fop_actions.specs.declared.Response.the-variants.{RejectDirective}
-use Rattle.fop_actions.specs.declared.Responses.{Responses}
-use Rattle.fop_actions.specs.declared.Run.{Run}
-use Rattle.fop_actions.specs.declared.SenderState.{SenderState}
-use Rattle.fop_actions.specs.declared.Work.{Work}
-use Rattle.fop_actions.specs.Actions.{responseNumber, responsesWith}
-use Rattle.fop_actions.specs.Limits.{largestResponses}
-use Rattle.fop_actions.specs.Start.{senderOf}
+use Rattle.sender_values.specs.declared.Alert.the-variants as alert
+use Rattle.sender_values.specs.declared.Handed.{Handed}
+use Rattle.sender_values.specs.declared.Handed.the-variants as handed
+use Rattle.sender_values.specs.declared.Response.the-variants.{RejectDirective}
+use Rattle.sender_values.specs.declared.Responses.{Responses}
+use Rattle.sender_values.specs.declared.Run.{Run}
+use Rattle.sender_values.specs.declared.SenderState.{SenderState}
+use Rattle.sender_values.specs.declared.Work.{Work}
+use Rattle.sender_values.specs.Actions.{responseNumber, responsesWith}
+use Rattle.sender_values.specs.Limits.{largestResponses}
+use Rattle.sender_values.specs.Start.{senderOf}
 use Rattle.sender.specs.declared.Answer.{Answer}
 use Rattle.sender.specs.declared.FrameKind.{FrameKind}
 use Rattle.sender.specs.declared.FrameKind.the-variants as kind

@@ -5,8 +5,8 @@ use lib.Dec.{leb, eqb}
 use Rattle.base.specs.Choice.{must, both}
 use Rattle.base.specs.Limits.{largestSpacecraft, largestChannel}
 use Rattle.fop.specs.Limits.{largestK}
-use Rattle.fop_actions.specs.declared.Settings.{Settings}
-use Rattle.fop_actions.specs.Start.{startOf}
+use Rattle.sender_values.specs.declared.Settings.{Settings}
+use Rattle.sender_values.specs.Start.{startOf}
 use Rattle.sender.specs.declared.Start.{Start}
 use Rattle.sender.specs.Limits.{smallestStore}
 

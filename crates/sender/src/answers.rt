@@ -2,14 +2,14 @@
 use crate::Answer;
 use crate::FrameKind;
 use crate::Sender;
-use fop_actions::Alert;
-use fop_actions::Handed;
-use fop_actions::LARGEST_RESPONSES;
-use fop_actions::Responses;
-use fop_actions::Run;
-use fop_actions::Work;
-use fop_actions::start::sender_of;
 use frame::writer::FrameWritten;
+use sender_values::Alert;
+use sender_values::Handed;
+use sender_values::LARGEST_RESPONSES;
+use sender_values::Responses;
+use sender_values::Run;
+use sender_values::Work;
+use sender_values::start::sender_of;
 use store::PLACES;
 ghost use mathlib.Core.Path.{_≡_};
 ghost use Rattle.frame.specs.Answers.{writtenAnswer};
@@ -91,7 +91,7 @@ fn refused_event(number: u8) -> u8
 }
 
 // A refusal: nothing changes.
-pub fn refused(sender: fop_actions::SenderState, number: u8) -> Answer
+pub fn refused(sender: sender_values::SenderState, number: u8) -> Answer
     ensures { λ r. ⌜ r ≡ refusing number sender ⌝ }
 {
     let state = sender.state;
@@ -119,7 +119,7 @@ pub fn refused(sender: fop_actions::SenderState, number: u8) -> Answer
 
 // The answer by what writing the frame handed down came to.
 pub fn conclude(
-    sender: fop_actions::SenderState,
+    sender: sender_values::SenderState,
     event: u8,
     work: Work,
     lengths: [u16; PLACES],

@@ -1,11 +1,11 @@
 // The frame handed down: the place of its unit in the store, and the frame written into the lent output.
-use fop_actions::Handed;
-use fop_actions::Settings;
 use frame::writer::FrameWritten;
 use frame::writer::write_ad;
 use frame::writer::write_bd;
 use frame::writer::write_set_vr;
 use frame::writer::write_unlock;
+use sender_values::Handed;
+use sender_values::Settings;
 use store::PLACES;
 use store::units::unit_at;
 ghost use mathlib.Core.Path.{_≡_};

@@ -22,14 +22,6 @@ use crate::units::remove_confirmed;
 use base::LARGEST_UNIT;
 use clcw::Clcw;
 use clcw::WordReading;
-use fop_actions::Alert;
-use fop_actions::Responses;
-use fop_actions::Run;
-use fop_actions::Settings;
-use fop_actions::State;
-use fop_actions::Work;
-use fop_actions::start::begin;
-use fop_actions::start::start;
 use fop_events::Lower;
 use fop_events::ad_event;
 use fop_events::bd_event;
@@ -39,6 +31,14 @@ use fop_events::lower_event;
 use fop_events::words::word_event;
 use fop_rows::row;
 use frame::writer::FrameWritten;
+use sender_values::Alert;
+use sender_values::Responses;
+use sender_values::Run;
+use sender_values::Settings;
+use sender_values::State;
+use sender_values::Work;
+use sender_values::start::begin;
+use sender_values::start::start;
 use store::PLACES;
 use store::units::put_unit;
 ghost use mathlib.Core.Path.{_≡_};
@@ -60,7 +60,7 @@ pub const SMALLEST_STORE: usize = LARGEST_UNIT * PLACES;
 
 // The sender's state. No other crate can write one: a start gives one, and each answer the next.
 pub struct Sender {
-    fop: fop_actions::SenderState,
+    fop: sender_values::SenderState,
 }
 
 // A start: document 01's refusal (0 for done, 12 for a setting, 11 for the lent store), and the sender; after a refusal that of the least
@@ -100,7 +100,7 @@ pub struct Answer {
 
 // An event that offers no unit, judged: the frame is written, then the units confirmed leave the store.
 fn serve_work(
-    sender: fop_actions::SenderState,
+    sender: sender_values::SenderState,
     event: u8,
     work: Work,
     store: &mut [u8],
@@ -127,8 +127,8 @@ fn serve_work(
 
 // The same by the event's row, of the state `by`, with the value that the event brings.
 fn serve(
-    sender: fop_actions::SenderState,
-    by: fop_actions::SenderState,
+    sender: sender_values::SenderState,
+    by: sender_values::SenderState,
     event: u8,
     value: u16,
     store: &mut [u8],
@@ -146,7 +146,7 @@ fn serve(
 }
 
 // Whether the unit offered is added to the wait queue: E19 in S1 to S3.
-fn adds(event: u8, sender: fop_actions::SenderState) -> bool
+fn adds(event: u8, sender: sender_values::SenderState) -> bool
     ensures { λ r. ⌜ r ≡ added event sender ⌝ }
 {
     if event != 19 {
@@ -165,7 +165,7 @@ fn adds(event: u8, sender: fop_actions::SenderState) -> bool
 
 // An AD request, judged: the frame is written, then the unit offered goes into the store.
 fn offer_work(
-    sender: fop_actions::SenderState,
+    sender: sender_values::SenderState,
     event: u8,
     work: Work,
     unit: &[u8],
@@ -190,7 +190,7 @@ fn offer_work(
 
 // Writes the frame that an AD request hands down: of the unit offered, or of an older unit that is marked.
 fn write_offered(
-    sender: fop_actions::SenderState,
+    sender: sender_values::SenderState,
     work: Work,
     unit: &[u8],
     store: &[u8],
@@ -212,7 +212,7 @@ fn write_offered(
 
 // A BD request, judged: the frame is written.
 fn bypass_work(
-    sender: fop_actions::SenderState,
+    sender: sender_values::SenderState,
     event: u8,
     work: Work,
     unit: &[u8],
@@ -248,7 +248,7 @@ fn request_refusal(unit: &[u8], store: &[u8]) -> u8
 }
 
 // The state after a tick lowered a running timer by one.
-fn lower_timer(sender: fop_actions::SenderState) -> fop_actions::SenderState
+fn lower_timer(sender: sender_values::SenderState) -> sender_values::SenderState
     ensures { λ r. ⌜ r ≡ ticked sender ⌝ }
 {
     let ticks = sender.variables.timer;
@@ -262,7 +262,7 @@ fn lower_timer(sender: fop_actions::SenderState) -> fop_actions::SenderState
 }
 
 // The event of a tick: the expiry where it makes the timer zero.
-fn tick_event(sender: fop_actions::SenderState) -> u8
+fn tick_event(sender: sender_values::SenderState) -> u8
     ensures { λ r. ⌜ r ≡ tickNumber sender ⌝ }
 {
     if sender.variables.timer == 1 {
@@ -301,14 +301,14 @@ pub fn refused_state() -> Start
 
 impl Sender {
     // The state, to be kept.
-    pub fn state(self) -> fop_actions::SenderState
+    pub fn state(self) -> sender_values::SenderState
         ensures { λ r. ⌜ r ≡ self .fop ⌝ }
     {
         self.fop
     }
 
     // A sender from a state that was kept; 12 where no sender has it.
-    pub fn restore(state: fop_actions::SenderState) -> Start
+    pub fn restore(state: sender_values::SenderState) -> Start
         ensures { λ r. ⌜ r ≡ restoredOf state ⌝ }
     {
         if !well_formed(state) {

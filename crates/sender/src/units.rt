@@ -1,7 +1,7 @@
 // The units in the store and their lengths, after an event.
 use crate::adds;
-use fop_actions::Queues;
-use fop_actions::SenderState;
+use sender_values::Queues;
+use sender_values::SenderState;
 use store::PLACES;
 use store::lengths::set_length;
 use store::lengths::slide_lengths;
@@ -10,7 +10,7 @@ ghost use mathlib.Core.Path.{_≡_};
 ghost use Prim.Native.Nat.{_-_};
 ghost use Rattle.store.specs.Places.{without};
 ghost use Rattle.store.specs.Slid.{slid};
-ghost use Rattle.fop_actions.specs.Actions.{unitsHeld};
+ghost use Rattle.sender_values.specs.Actions.{unitsHeld};
 ghost use Rattle.sender.specs.Events.{lengthsOffered};
 
 // The units held: those sent, and the one waiting.

@@ -15,14 +15,14 @@ use Rattle.base.specs.Outcome.{Outcome, Outcome.done, Outcome.refused, answer, 
 use Rattle.base.specs.Outcome as outcome
 use Rattle.frame.specs.Frame.{rawFrame, rawWriting, unlockCommand, setVrCommand}
 use Rattle.frame.proofs.Emitted.{length-frame}
-use Rattle.fop_actions.specs.Limits.{largestResponses}
-use Rattle.fop_actions.specs.declared.Alert.{Alert}
-use Rattle.fop_actions.specs.declared.Alert.the-variants as alert
-use Rattle.fop_actions.specs.declared.Handed.{Handed}
-use Rattle.fop_actions.specs.declared.Handed.the-variants as handed
-use Rattle.fop_actions.specs.declared.SenderState.{SenderState}
-use Rattle.fop_actions.specs.declared.Settings.{Settings}
-use Rattle.fop_actions.specs.declared.Work.{Work}
+use Rattle.sender_values.specs.Limits.{largestResponses}
+use Rattle.sender_values.specs.declared.Alert.{Alert}
+use Rattle.sender_values.specs.declared.Alert.the-variants as alert
+use Rattle.sender_values.specs.declared.Handed.{Handed}
+use Rattle.sender_values.specs.declared.Handed.the-variants as handed
+use Rattle.sender_values.specs.declared.SenderState.{SenderState}
+use Rattle.sender_values.specs.declared.Settings.{Settings}
+use Rattle.sender_values.specs.declared.Work.{Work}
 use Rattle.sender.specs.Answers.{answered, refusing, concluded}
 use Rattle.sender.specs.Events.{handedWriting}
 use Rattle.sender.specs.declared.Answer.{Answer}

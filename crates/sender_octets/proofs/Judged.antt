@@ -10,7 +10,7 @@ use Rattle.base.specs.Octets.{same}
 use Rattle.base.proofs.Lists.{same-length-not}
 use Rattle.base.proofs.Tests.{no}
 use Rattle.store.specs.Places.{places}
-use Rattle.fop_actions.specs.declared.SenderState.{SenderState}
+use Rattle.sender_values.specs.declared.SenderState.{SenderState}
 use Rattle.sender.specs.State.{wellFormed, restoredOf}
 use Rattle.sender.specs.Start.{refusedStart}
 use Rattle.sender.specs.declared.Start.{Start}

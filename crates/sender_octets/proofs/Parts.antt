@@ -6,12 +6,12 @@ use Prim.Native.Nat.{ℕ, _/_, _%_}
 use lib.ListN.{getD}
 use Rattle.base.specs.Flags.{bitOf, isSet}
 use Rattle.store.specs.Places.{places}
-use Rattle.fop_actions.specs.declared.State.{State}
-use Rattle.fop_actions.specs.declared.Settings.{Settings}
-use Rattle.fop_actions.specs.declared.Variables.{Variables}
-use Rattle.fop_actions.specs.declared.Queues.{Queues}
-use Rattle.fop_actions.specs.declared.Control.{Control}
-use Rattle.fop_actions.specs.declared.SenderState.{SenderState}
+use Rattle.sender_values.specs.declared.State.{State}
+use Rattle.sender_values.specs.declared.Settings.{Settings}
+use Rattle.sender_values.specs.declared.Variables.{Variables}
+use Rattle.sender_values.specs.declared.Queues.{Queues}
+use Rattle.sender_values.specs.declared.Control.{Control}
+use Rattle.sender_values.specs.declared.SenderState.{SenderState}
 use Rattle.sender.specs.declared.Answer.{Answer}
 use Rattle.sender_octets.specs.Kept.{numberOctets, octetsOf, stateIn, stateNumber, stateNumbered, controlNumber, controlValue, controlNumbered, flagsOf, pairs, pairAt, pairsFrom}
 use Rattle.sender_octets.specs.Answer.{octetsOfAnswer, alertNumber, kindNumber}

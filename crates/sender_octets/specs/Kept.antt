@@ -15,11 +15,11 @@ use Rattle.base.specs.Choice.{pick, both}
 use Rattle.base.specs.Octets.{same}
 use Rattle.base.specs.Flags.{bitOf, isSet}
 use Rattle.store.specs.Places.{places}
-use Rattle.fop_actions.specs.declared.State.{State}
-use Rattle.fop_actions.specs.declared.State.the-variants as state
-use Rattle.fop_actions.specs.declared.Control.{Control}
-use Rattle.fop_actions.specs.declared.Control.the-variants as control
-use Rattle.fop_actions.specs.declared.SenderState.{SenderState}
+use Rattle.sender_values.specs.declared.State.{State}
+use Rattle.sender_values.specs.declared.State.the-variants as state
+use Rattle.sender_values.specs.declared.Control.{Control}
+use Rattle.sender_values.specs.declared.Control.the-variants as control
+use Rattle.sender_values.specs.declared.SenderState.{SenderState}
 use Rattle.sender.specs.State.{wellFormed, restoredOf}
 use Rattle.sender.specs.Start.{refusedStart}
 use Rattle.sender.specs.declared.Start.{Start}

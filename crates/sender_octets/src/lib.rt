@@ -7,12 +7,12 @@ use crate::writer::join;
 use crate::writer::numbers_of;
 use crate::writer::state_number;
 use crate::writer::truth;
-use fop_actions::Alert;
 use sender::Answer;
 use sender::FrameKind;
 use sender::Sender;
 use sender::Start;
 use sender::refused_state;
+use sender_values::Alert;
 use store::PLACES;
 use text::same;
 ghost use mathlib.Core.Path.{_≡_};
@@ -29,7 +29,7 @@ pub const STATE_OCTETS: usize = NUMBER_OCTETS + 2 * PLACES;
 pub const ANSWER_OCTETS: usize = 18;
 
 // A state as octets.
-pub fn octets_of(state: fop_actions::SenderState) -> [u8; STATE_OCTETS]
+pub fn octets_of(state: sender_values::SenderState) -> [u8; STATE_OCTETS]
     ensures { λ r. ⌜ r ≡ octetsOf state ⌝ }
 {
     let numbers = numbers_of(state);

@@ -1,11 +1,11 @@
 // The state that octets would hold.
 use crate::NUMBER_OCTETS;
-use fop_actions::Control;
-use fop_actions::Queues;
-use fop_actions::SenderState;
-use fop_actions::Settings;
-use fop_actions::State;
-use fop_actions::Variables;
+use sender_values::Control;
+use sender_values::Queues;
+use sender_values::SenderState;
+use sender_values::Settings;
+use sender_values::State;
+use sender_values::Variables;
 use store::PLACES;
 ghost use mathlib.Core.Path.{_≡_};
 ghost use Prim.Native.Nat.{_+_, _*_, _<_};

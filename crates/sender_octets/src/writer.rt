@@ -1,9 +1,9 @@
 // A state as octets: numbers and flags, then two for each length, the most significant first.
 use crate::NUMBER_OCTETS;
 use crate::STATE_OCTETS;
-use fop_actions::Control;
-use fop_actions::SenderState;
-use fop_actions::State;
+use sender_values::Control;
+use sender_values::SenderState;
+use sender_values::State;
 use store::PLACES;
 ghost use mathlib.Core.Path.{_≡_};
 ghost use mathlib.Core.List.{_++_};

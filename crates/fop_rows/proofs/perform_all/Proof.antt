@@ -4,7 +4,7 @@ use Prim.Native.Nat.{_-_, _≤_}
 use native.Mathlib.Omega.{arith}
 use lib.ListN as list
 use lib.ListN.{take, drop}
-use Rattle.fop_rows.specs.Numbers.{doneNumbers}
+use Rattle.sender_table.specs.Numbers.{doneNumbers}
 use Rattle.fop_rows.proofs.Numbered.{in-turn, all-done}
 use borrow.Author.Needs.{needs}
 use Rattle.fop_rows.proofs.perform_all.Statement.{statement}

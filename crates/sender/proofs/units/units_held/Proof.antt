@@ -2,7 +2,7 @@
 use borrow.Author.Needs.{needs}
 use mathlib.Core.Path.{sym, ap, _∙_}
 use native.Mathlib.Numerals.{add-one}
-use Rattle.fop_actions.specs.Actions.{unitsHeld}
+use Rattle.sender_values.specs.Actions.{unitsHeld}
 use Rattle.sender.proofs.units.units_held.Statement.{statement}
 use Rattle.sender.proofs.units.units_held.Tie as tie
 

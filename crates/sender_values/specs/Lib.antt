@@ -1,0 +1,5 @@
+pub mod Limits
+pub mod Parts
+pub mod Actions
+pub mod Start
+pub mod States
