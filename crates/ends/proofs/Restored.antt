@@ -1,7 +1,7 @@
 -- The test by which a kept state is restored (crate sender, specs/State) holds of every state that a sender can reach, and a state of which it
 -- holds is well-formed: the test is the conjunction of what every event keeps. A start with any two numbers is well-formed.
 use Prim.Native.Nat.{ℕ, zero, suc, _≤_, _<_}
-use mathlib.Core.Path.{_≡_, refl, sym, ap, subst}
+use mathlib.Core.Path.{_≡_, refl, ap, subst}
 use mathlib.Core.Bool.{Bool, true, false, not, true≢false}
 use mathlib.Core.List.{List, [], _∷_}
 use native.Mathlib.Omega.{arith}

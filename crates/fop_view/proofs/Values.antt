@@ -1,5 +1,5 @@
 -- The actions that leave the queues alone: the timer, the out flags, the settings, the numbers, the responses, the retransmissions. Each
--- keeps what is known; the laws of crate sender_values say what the machine does.
+-- keeps what is known; the laws of crate sender_view say what the machine does.
 use Prim.Native.Nat.{ℕ, suc, _%_, _≤_, _<_}
 use mathlib.Core.Path.{_≡_, refl, sym, ap, subst, _∙_}
 use mathlib.Core.Bool.{Bool, true, false}

@@ -24,7 +24,7 @@ withFrame S4 = false
 withFrame S5 = true
 withFrame S6 = false
 
--- V(S), NN(R), counts, lengths and store as crate sender_values says; the settings within document 01's limits, with the address of both
+-- V(S), NN(R), counts, lengths and store as crate sender_view says; the settings within document 01's limits, with the address of both
 -- ends; Transmission_Count from 1 to the largest Transmission_Limit; "Suspend_State stays 0", and so does Timeout_Type; no unit is held but
 -- in the main protocol's states; the timer is stopped in Initial; a type-BC frame is on the Sent_Queue in Initialising with BC frame, and
 -- only there; each unit held has an octet

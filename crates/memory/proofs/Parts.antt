@@ -2,14 +2,13 @@
 -- stand change nothing. Each is said of any octets; where they do not fit the memory is as it was.
 use mathlib.Core.Path.{_≡_, refl, sym, ap, subst, _∙_}
 use mathlib.Core.Bool.{Bool, true, false}
-use mathlib.Core.List.{List, [], _++_, append-assoc, append-nil}
-use Prim.Native.Nat.{ℕ, _+_, _-_, _<_, _≤_}
-use native.Mathlib.Nat.{add-zero}
+use mathlib.Core.List.{List, [], _++_, append-assoc}
+use Prim.Native.Nat.{ℕ, _+_, _-_, _≤_}
 use native.Mathlib.Omega.{arith}
 use borrow.Author.Tests.{leb-true, leb-false}
 use lib.Dec.{leb}
-use lib.ListN.{length, take, drop, getD, length-append, length-take, length-drop, take-append-drop}
-use lib.Seq.{take-length, take-take, take-add, take-append-le, drop-append-le, drop-append-add, take-append-seam, drop-append-seam, drop-drop, length-take-le, getD-drop, getD-take}
+use lib.ListN.{length, take, drop, length-append, length-take, length-drop, take-append-drop}
+use lib.Seq.{take-length, take-take, take-add, take-append-le, drop-append-le, drop-append-add, take-append-seam, drop-append-seam, drop-drop, length-take-le}
 use Rattle.memory.specs.Placed.{placed}
 use Rattle.memory.proofs.Laws.{placed-fits, placed-not}
 

@@ -48,7 +48,8 @@ fn cell_in(rows: [[u8; 6]; 51], cells: [[u8; 6]; 50], event: u8, state: State) -
     cells[number as usize]
 }
 
-// The cell of an event in a state: five actions by number, and the next state.
+// The cell of an event in a state: five actions by number, and the next state. The numbers are free (specs/Numbers names them); what holds of
+// them is that they do what the event's row does.
 pub fn cell(event: u8, state: State) -> [u8; 6]
     ensures { λ r. ⌜ Says r event state ⌝ }
 {

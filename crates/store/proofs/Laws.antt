@@ -4,14 +4,13 @@ use mathlib.Core.Path.{_≡_, refl, sym, ap, _∙_}
 use mathlib.Core.Bool.{Bool, true, false}
 use mathlib.Core.List.{List, [], _∷_, _++_}
 use mathlib.Core.Logic.{_⊎_, ⊎-elim}
-use Prim.Native.Nat.{ℕ, zero, suc, _+_, _-_, _*_, _<_, _≤_}
+use Prim.Native.Nat.{ℕ, zero, suc, _+_, _-_, _<_, _≤_}
 use native.Mathlib.Omega.{arith}
 use borrow.Author.Tests.{leb-true, leb-false}
 use lib.Dec.{leb}
 use lib.ListN.{length, take, drop, getD, set, length-drop, length-take}
 use lib.Seq.{length-take-le, getD-set-same, getD-set-other, getD-drop, getD-take}
 use Rattle.base.specs.Limits.{largestUnit}
-use Rattle.memory.specs.Placed.{placed}
 use Rattle.memory.proofs.Parts.{placed-length, placed-there, placed-before, placed-after}
 use Rattle.store.specs.Slid.{slid}
 use Rattle.store.specs.Places.{placeOffset, unitAt, unitPut, movedDown, without}

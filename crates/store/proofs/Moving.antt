@@ -7,7 +7,7 @@ use native.Mathlib.Nat.{zero-add}
 use native.Mathlib.Numerals.{add-one}
 use native.Mathlib.Omega.{arith}
 use lib.ListN.{length, getD, take, drop, set, length-drop, length-take}
-use lib.Seq.{paste, paste-zero, paste-suc, length-paste, drop-paste, getD-drop, getD-take, length-take-le, take-length, take-take}
+use lib.Seq.{paste, paste-suc, length-paste, drop-paste, getD-drop, getD-take, length-take-le, take-length, take-take}
 use Rattle.memory.specs.Placed.{placed}
 use Rattle.memory.proofs.Laws.{pasted}
 use Rattle.memory.proofs.Parts.{placed-own, placed-none}
