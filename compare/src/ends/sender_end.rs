@@ -4,7 +4,7 @@ use super::{compare_numbers, compare_octets};
 use crate::library::{self, SenderEvent, SenderMemory, SenderSettings};
 use crate::octets::{self, no_sender_state, SenderState, ANSWER, SENDER_STATE};
 use crate::random::Random;
-use independent::fop1::{self, Answer, Sender, STORE};
+use independent::fop1::{self, Answer, Sender, UNIT_MOST};
 use independent::refusal::{DONE, ROOM, SETTING};
 
 /// Between the events.
@@ -157,7 +157,9 @@ impl Call {
         compare_octets("output", &after.output, &output, &mut differences);
         if expected.number == DONE {
             compare_state(sender, &after.state, &before.state, &mut differences);
-            compare_store(sender, &before.store, &after.store, &mut differences);
+            let run = expected.answer.as_ref().map(|answer| answer.confirmed);
+            let confirmed = run.map_or(0, |run| usize::from(run.count));
+            compare_store(sender, confirmed, (before, after), &mut differences);
         } else {
             compare_octets("state", &after.state, &before.state, &mut differences);
             compare_octets("store", &after.store, &before.store, &mut differences);
@@ -207,11 +209,22 @@ fn compare_state(sender: &Sender, after: &[u8], before: &[u8], differences: &mut
     }
 }
 
-/// The units at their places, and what is lent behind the last place as it was. What a place holds besides its unit
-/// is free.
-fn compare_store(sender: &Sender, before: &[u8], after: &[u8], differences: &mut Vec<String>) {
-    let mut expected = after.to_vec();
+/// The store after an event that confirms so many units. Of the units that were held the others move
+/// down, the oldest first, and of each only its own octets; a unit that is added stands at its place.
+/// Every other octet is as it was.
+fn compare_store(
+    sender: &Sender,
+    confirmed: usize,
+    (before, after): (&SenderMemory, &SenderMemory),
+    differences: &mut Vec<String>,
+) {
+    let mut expected = before.store.clone();
+    let held = SenderState::read(&before.state[..SENDER_STATE]).map(|state| state.lengths);
+    let staying = held.iter().flatten().skip(confirmed).enumerate();
+    for (place, length) in staying {
+        let unit = (place + confirmed) * UNIT_MOST;
+        expected.copy_within(unit..unit + usize::from(*length), place * UNIT_MOST);
+    }
     octets::put_stored(sender, &mut expected);
-    expected[STORE..].copy_from_slice(&before[STORE..]);
-    compare_octets("store", after, &expected, differences);
+    compare_octets("store", &after.store, &expected, differences);
 }

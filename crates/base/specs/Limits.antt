@@ -24,3 +24,7 @@ largestSpacecraft = 1023
 -- "channel 0 to 63"
 abbrev pub largestChannel : ℕ
 largestChannel = 63
+
+-- "Sender window K 1 to 32" (FOP_Sliding_Window_Width)
+abbrev pub largestK : ℕ
+largestK = 32

@@ -15,3 +15,6 @@ pub const LARGEST_UNIT: usize = 249;
 pub const LARGEST_SPACECRAFT: u16 = 1023;
 
 pub const LARGEST_CHANNEL: u8 = 63;
+
+// Document 01, "Limits": the largest sender window K.
+pub const LARGEST_K: u8 = 32;

@@ -1,5 +1,2 @@
 pub mod Narrowed
 pub mod Numbering
-pub mod Told
-pub mod ReceiverCalls
-pub mod SenderCalls

@@ -2,10 +2,10 @@
 use mathlib.Core.Path.{_≡_, refl}
 use Prim.Native.Nat.{ℕ}
 use Rattle.frame.specs.declared.Kind.the-variants as frame
-use Rattle.fop_actions.specs.declared.Handed.the-variants as handed
+use Rattle.sender_values.specs.declared.Handed.the-variants as handed
 use Rattle.sender.specs.Answers.{kindHanded}
 use Rattle.sender_octets.specs.Answer.{kindNumber as answerKind}
-use Rattle.boundary.specs.Numbers.{kindNumber}
+use Rattle.boundary_numbers.specs.Numbers.{kindNumber}
 
 pub kinds-alike : (n i : ℕ)
     → (kindNumber (frame.Ad n) ≡ answerKind (kindHanded (handed.Ad n i)))

@@ -1,12 +1,11 @@
 // FECF and transfer frames (clauses 6.2 and 6.4 to 6.8).
-use crate::numbers::NO_CHANNEL;
-use crate::numbers::NO_SPACECRAFT;
-use crate::numbers::narrow_u8;
-use crate::numbers::narrow_u16;
-use crate::numbers::with_number;
-use frame::FrameReading;
-use frame::Kind;
-use frame::writer::FrameWritten;
+use boundary_numbers::NO_CHANNEL;
+use boundary_numbers::NO_SPACECRAFT;
+use boundary_numbers::frames::told_reading;
+use boundary_numbers::frames::told_written;
+use boundary_numbers::narrow_u8;
+use boundary_numbers::narrow_u16;
+use boundary_numbers::with_number;
 ghost use mathlib.Core.Path.{_≡_};
 ghost use mathlib.Core.List.{[]};
 ghost use lib.ListN.{length};
@@ -14,31 +13,14 @@ ghost use Rattle.base.specs.Outcome.{answer, after, numberOf, countOf};
 ghost use Rattle.fecf.specs.Fecf.{fecfOf};
 ghost use Rattle.frame.specs.declared.Kind.the-variants.{Bd, Unlock};
 ghost use Rattle.frame.specs.Frame.{writing};
-ghost use Rattle.frame.specs.Answers.{writtenAnswer, readingOf, readingNumber};
-ghost use Rattle.boundary.specs.Numbers.{adWriting, setVrWriting, kindNumber, kindValue, frameKind, frameValue, frameTotal, frameField};
+ghost use Rattle.frame.specs.Answers.{readingOf, readingNumber};
+ghost use Rattle.boundary_numbers.specs.Numbers.{adWriting, setVrWriting, frameKind, frameValue, frameTotal, frameField};
 
 #[no_mangle]
 pub extern "C" fn pondreszi_fecf(message: &[u8]) -> u16
     ensures { λ r. ⌜ r ≡ fecfOf (now (message .entry)) ⌝ }
 {
     fecf::fecf(message)
-}
-
-// What a writer answered, by its number and the count of octets written.
-fn told(written: FrameWritten, count: &mut u64) -> u8
-    ensures number { λ r. ⌜ r ≡ numberOf (writtenAnswer written) ⌝ }
-    ensures counted { λ r. ⌜ now (count .exit) ≡ countOf (writtenAnswer written) ⌝ }
-{
-    *count = 0;
-    match written {
-        FrameWritten::Done(n) => {
-            *count = n as u64;
-            0
-        }
-        FrameWritten::Length => 10,
-        FrameWritten::Setting => 12,
-        FrameWritten::Room => 11,
-    }
 }
 
 #[no_mangle]
@@ -58,14 +40,14 @@ pub extern "C" fn pondreszi_frame_write_ad(
     let own_spacecraft = narrow_u16(judged, NO_SPACECRAFT);
     let own_channel = narrow_u8(channel, NO_CHANNEL);
     let sequence_number = narrow_u8(number, 0);
-    let written = frame::writer::write_ad(
+    let written = frame_writer::write_ad(
         own_spacecraft,
         own_channel,
         sequence_number,
         unit,
         output,
     );
-    told(written, count)
+    told_written(written, count)
 }
 
 #[no_mangle]
@@ -82,8 +64,8 @@ pub extern "C" fn pondreszi_frame_write_bd(
 {
     let own_spacecraft = narrow_u16(spacecraft, NO_SPACECRAFT);
     let own_channel = narrow_u8(channel, NO_CHANNEL);
-    let written = frame::writer::write_bd(own_spacecraft, own_channel, unit, output);
-    told(written, count)
+    let written = frame_writer::write_bd(own_spacecraft, own_channel, unit, output);
+    told_written(written, count)
 }
 
 #[no_mangle]
@@ -99,8 +81,8 @@ pub extern "C" fn pondreszi_frame_write_unlock(
 {
     let own_spacecraft = narrow_u16(spacecraft, NO_SPACECRAFT);
     let own_channel = narrow_u8(channel, NO_CHANNEL);
-    let written = frame::writer::write_unlock(own_spacecraft, own_channel, output);
-    told(written, count)
+    let written = frame_writer::write_unlock(own_spacecraft, own_channel, output);
+    told_written(written, count)
 }
 
 #[no_mangle]
@@ -119,31 +101,8 @@ pub extern "C" fn pondreszi_frame_write_set_vr(
     let own_spacecraft = narrow_u16(judged, NO_SPACECRAFT);
     let own_channel = narrow_u8(channel, NO_CHANNEL);
     let set_value = narrow_u8(value, 0);
-    let written = frame::writer::write_set_vr(own_spacecraft, own_channel, set_value, output);
-    told(written, count)
-}
-
-// The kind of a frame as a number, and what it carries.
-fn kind_number(kind: Kind) -> u8
-    ensures { λ r. ⌜ r ≡ kindNumber kind ⌝ }
-{
-    match kind {
-        Kind::Ad(_) => 1,
-        Kind::Bd => 2,
-        Kind::Unlock => 3,
-        Kind::SetVr(_) => 4,
-    }
-}
-
-fn kind_value(kind: Kind) -> u8
-    ensures { λ r. ⌜ r ≡ kindValue kind ⌝ }
-{
-    match kind {
-        Kind::Ad(number) => number,
-        Kind::Bd => 0,
-        Kind::Unlock => 0,
-        Kind::SetVr(value) => value,
-    }
+    let written = frame_writer::write_set_vr(own_spacecraft, own_channel, set_value, output);
+    told_written(written, count)
 }
 
 // The data field of a frame that is not refused begins at its octet 5 and has `field` octets.
@@ -163,22 +122,8 @@ pub extern "C" fn pondreszi_frame_read(
     ensures totals { λ r. ⌜ now (total .exit) ≡ frameTotal (readingOf (now (octets .entry)) spacecraft channel) ⌝ }
     ensures fields { λ r. ⌜ now (field .exit) ≡ frameField (readingOf (now (octets .entry)) spacecraft channel) ⌝ }
 {
-    *kind = 0;
-    *value = 0;
-    *total = 0;
-    *field = 0;
     let own_spacecraft = narrow_u16(spacecraft, NO_SPACECRAFT);
     let own_channel = narrow_u8(channel, NO_CHANNEL);
     let reading = frame::read(octets, own_spacecraft, own_channel);
-    match reading {
-        FrameReading::Frame(fields) => {
-            let found = fields.kind;
-            *kind = kind_number(found);
-            *value = kind_value(found);
-            *total = fields.total;
-            *field = fields.field;
-            0
-        }
-        FrameReading::Refused(number) => number,
-    }
+    told_reading(reading, kind, value, total, field)
 }

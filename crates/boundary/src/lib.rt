@@ -1,14 +1,14 @@
-// What C and Rust call: numbers, and octets as a pointer and a length. Each function passes its arguments on and puts the
-// answer into numbers. This file: channel coding (clause 8); the modules: frames and control words (clause 6), receiver and sender (clause 7).
+// What C and Rust call: numbers, and octets as a pointer and a length. Each function passes its arguments on and puts the answer into numbers
+// (crates boundary_numbers, boundary_receiver and boundary_sender). Only this crate's functions are exported. This file: channel coding (clause
+// 8); the modules: frames and control words (clause 6), receiver and sender (clause 7).
 pub mod frames;
-mod numbers;
 pub mod receivers;
 pub mod senders;
 pub mod words;
 
-use crate::numbers::flag;
-use cltu::reader::CltuReading;
-use cltu::writer::CltuWritten;
+use boundary_numbers::coding::told_reading;
+use boundary_numbers::coding::told_written;
+use boundary_numbers::flag;
 ghost use mathlib.Core.Path.{_≡_};
 ghost use lib.ListN.{length};
 ghost use Rattle.base.specs.Outcome.{answer, after, numberOf, countOf};
@@ -16,8 +16,7 @@ ghost use Rattle.base.specs.Flags.{bitOf};
 ghost use Rattle.codeblock.specs.Codeblock.{errorControl, judged, isGood};
 ghost use Rattle.randomizer.specs.Randomizer.{octet};
 ghost use Rattle.cltu.specs.Cltu.{writing, reading};
-ghost use Rattle.cltu.specs.Answers.{writtenAnswer, readAnswer};
-ghost use Rattle.boundary.specs.Numbers.{placeOf, correctedOf};
+ghost use Rattle.boundary_numbers.specs.Numbers.{placeOf, correctedOf};
 
 #[no_mangle]
 pub extern "C" fn pondreszi_codeblock_error_control(information: &[u8]) -> u8
@@ -40,22 +39,6 @@ pub extern "C" fn pondreszi_randomizer_octet(place: u64) -> u8
     randomizer::octet_at(place)
 }
 
-// What the writer answered, by its number and the count of octets written.
-fn told_written(written: CltuWritten, count: &mut u64) -> u8
-    ensures number { λ r. ⌜ r ≡ numberOf (writtenAnswer written) ⌝ }
-    ensures counted { λ r. ⌜ now (count .exit) ≡ countOf (writtenAnswer written) ⌝ }
-{
-    *count = 0;
-    match written {
-        CltuWritten::Done(n) => {
-            *count = n as u64;
-            0
-        }
-        CltuWritten::Length => 10,
-        CltuWritten::Room => 11,
-    }
-}
-
 #[no_mangle]
 pub extern "C" fn pondreszi_cltu_write(frame: &[u8], output: &mut [u8], count: &mut u64) -> u8
     ensures number { λ r. ⌜ r ≡ numberOf (answer (writing (now (frame .entry)) (length (now (output .entry))))) ⌝ }
@@ -64,44 +47,6 @@ pub extern "C" fn pondreszi_cltu_write(frame: &[u8], output: &mut [u8], count: &
 {
     let written = cltu::writer::write(frame, output);
     told_written(written, count)
-}
-
-// What the reader answered, by its number, the count of octets handed out, the place, and the count of corrected codeblocks.
-fn told_reading(reading: CltuReading, count: &mut u64, place: &mut u64, corrected: &mut u64) -> u8
-    ensures number { λ r. ⌜ r ≡ numberOf (readAnswer reading) ⌝ }
-    ensures counted { λ r. ⌜ now (count .exit) ≡ countOf (readAnswer reading) ⌝ }
-    ensures placed { λ r. ⌜ now (place .exit) ≡ placeOf (readAnswer reading) ⌝ }
-    ensures mended { λ r. ⌜ now (corrected .exit) ≡ correctedOf (readAnswer reading) ⌝ }
-{
-    *count = 0;
-    *place = 0;
-    *corrected = 0;
-    match reading {
-        CltuReading::Done {
-            count: n,
-            place: p,
-            corrected: c,
-        } => {
-            *count = n as u64;
-            *place = p as u64;
-            *corrected = c as u64;
-            0
-        }
-        CltuReading::NoStart(p) => {
-            *place = p as u64;
-            1
-        }
-        CltuReading::NoBlock(p) => {
-            *place = p as u64;
-            2
-        }
-        CltuReading::NoEnd(p) => {
-            *place = p as u64;
-            3
-        }
-        CltuReading::Length => 10,
-        CltuReading::Room => 11,
-    }
 }
 
 #[no_mangle]

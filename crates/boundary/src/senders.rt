@@ -1,69 +1,17 @@
 // FOP-1, the sender (clause 7, table 7-8). Its state is octets in a lent buffer, its answer octets in another (crate sender_octets).
-use crate::numbers::BEYOND;
-use crate::numbers::LARGEST_NUMBER;
-use crate::numbers::LARGEST_PAIR;
-use crate::numbers::NO_CHANNEL;
-use crate::numbers::NO_SPACECRAFT;
-use crate::numbers::narrow_u8;
-use crate::numbers::narrow_u16;
-use fop_actions::Settings;
-use fop_events::Lower;
-use sender::Answer;
-use sender::Sender;
-use sender::Start;
-use sender::refused_state;
-use sender_octets::ANSWER_OCTETS;
+use boundary_numbers::narrow_u16;
+use boundary_sender::event_call;
+use boundary_sender::lower_numbered;
+use boundary_sender::narrow_number;
+use boundary_sender::started;
+use sender::Event;
 use sender_octets::STATE_OCTETS;
 use sender_octets::octets_of;
-use sender_octets::octets_of_answer;
-use sender_octets::sender_in;
 ghost use mathlib.Core.Path.{_≡_};
-ghost use lib.Dec.{leb, eqb};
-ghost use lib.ListN.{length};
-ghost use Rattle.base.specs.Choice.{must};
-ghost use Rattle.memory.specs.Placed.{placed};
-ghost use Rattle.sender_octets.specs.Kept.{octetsOf, senderIn};
-ghost use Rattle.sender_octets.specs.Answer.{answerOctets, octetsOfAnswer};
-ghost use Rattle.boundary.specs.Senders.{requestAdCall, requestBdCall, tickCall, wordCall, lowerCall, directiveCall, newCall, lowerNumbered, narrowNumber, startGiven};
+ghost use Rattle.boundary_sender.specs.Senders.{requestAdCall, requestBdCall, tickCall, wordCall, lowerCall, directiveCall, newCall};
 
 // The last answer of the lower layer.
 const LAST_LOWER: u32 = 6;
-
-// Document 01, "Limits".
-const LARGEST_TIMER: u32 = 65535;
-
-const LARGEST_TRANSMISSION_LIMIT: u32 = 255;
-
-// The sender that a call reaches: 12 where the octets are no state, then 11 where the answer has no room.
-fn reach(state: &[u8], answer: &[u8]) -> Start
-    ensures number { λ r. ⌜ r .refusal ≡ must (eqb (senderIn (now (state .entry)) .refusal) 0) 12 (must (leb answerOctets (length (now (answer .entry)))) 11 0) ⌝ }
-    ensures sender { λ r. ⌜ r .sender ≡ senderIn (now (state .entry)) .sender ⌝ }
-{
-    let mut reached = sender_in(state);
-    if reached.refusal != 0 {
-        reached.refusal = 12;
-        return reached;
-    }
-    if answer.len() < ANSWER_OCTETS {
-        reached.refusal = 11;
-        return reached;
-    }
-    reached
-}
-
-// An answer, told: the next state and the answer as octets at the front of their buffers, and the refusal, 0 for done.
-fn tell(told: Answer, state: &mut [u8], answer: &mut [u8]) -> u8
-    ensures number { λ r. ⌜ r ≡ told .refusal ⌝ }
-    ensures state { λ r. ⌜ now (state .exit) ≡ placed (now (state .entry)) 0 (octetsOf (told .next .fop)) ⌝ }
-    ensures answer { λ r. ⌜ now (answer .exit) ≡ placed (now (answer .entry)) 0 (octetsOfAnswer told) ⌝ }
-{
-    let next = told.next;
-    let kept = octets_of(next.state());
-    memory::put(state, 0, &kept);
-    let octets = octets_of_answer(told);
-    memory::put(answer, 0, &octets);
-    told.refusal
-}
 
 #[no_mangle]
 pub extern "C" fn pondreszi_sender_request_ad(
@@ -79,13 +27,7 @@ pub extern "C" fn pondreszi_sender_request_ad(
     ensures output { λ r. ⌜ now (output .exit) ≡ requestAdCall (now (state .entry)) (now (unit .entry)) (now (store .entry)) (now (output .entry)) (now (answer .entry)) .output ⌝ }
     ensures answer { λ r. ⌜ now (answer .exit) ≡ requestAdCall (now (state .entry)) (now (unit .entry)) (now (store .entry)) (now (output .entry)) (now (answer .entry)) .answer ⌝ }
 {
-    let reached = reach(state, answer);
-    if reached.refusal != 0 {
-        return reached.refusal;
-    }
-    let sender = reached.sender;
-    let told = sender.request_ad(unit, store, output);
-    tell(told, state, answer)
+    event_call(state, Event::RequestAd, unit, store, output, answer)
 }
 
 #[no_mangle]
@@ -102,29 +44,7 @@ pub extern "C" fn pondreszi_sender_request_bd(
     ensures output { λ r. ⌜ now (output .exit) ≡ requestBdCall (now (state .entry)) (now (unit .entry)) (now (store .entry)) (now (output .entry)) (now (answer .entry)) .output ⌝ }
     ensures answer { λ r. ⌜ now (answer .exit) ≡ requestBdCall (now (state .entry)) (now (unit .entry)) (now (store .entry)) (now (output .entry)) (now (answer .entry)) .answer ⌝ }
 {
-    let reached = reach(state, answer);
-    if reached.refusal != 0 {
-        return reached.refusal;
-    }
-    let sender = reached.sender;
-    let told = sender.request_bd(unit, store, output);
-    tell(told, state, answer)
-}
-
-// The number of a directive, as the sender takes it: what does not fit, its value too, is the invalid directive.
-fn narrow_number(number: u32, value: u32) -> u8
-    ensures { λ r. ⌜ r ≡ narrowNumber number value ⌝ }
-{
-    if value <= LARGEST_PAIR {
-        return narrow_u8(number, 0);
-    }
-    if number == 4 {
-        return 0;
-    }
-    if 7 <= number {
-        return 0;
-    }
-    narrow_u8(number, 0)
+    event_call(state, Event::RequestBd, unit, store, output, answer)
 }
 
 #[no_mangle]
@@ -142,14 +62,11 @@ pub extern "C" fn pondreszi_sender_directive(
     ensures output { λ r. ⌜ now (output .exit) ≡ directiveCall (now (state .entry)) number value (now (store .entry)) (now (output .entry)) (now (answer .entry)) .output ⌝ }
     ensures answer { λ r. ⌜ now (answer .exit) ≡ directiveCall (now (state .entry)) number value (now (store .entry)) (now (output .entry)) (now (answer .entry)) .answer ⌝ }
 {
-    let reached = reach(state, answer);
-    if reached.refusal != 0 {
-        return reached.refusal;
-    }
-    let sender = reached.sender;
-    let directive = narrow_number(number, value);
-    let told = sender.directive(directive, narrow_u16(value, 0), store, output);
-    tell(told, state, answer)
+    let directive = Event::Directive {
+        number: narrow_number(number, value),
+        value: narrow_u16(value, 0),
+    };
+    event_call(state, directive, b"", store, output, answer)
 }
 
 #[no_mangle]
@@ -165,35 +82,7 @@ pub extern "C" fn pondreszi_sender_tick(
     ensures output { λ r. ⌜ now (output .exit) ≡ tickCall (now (state .entry)) (now (store .entry)) (now (output .entry)) (now (answer .entry)) .output ⌝ }
     ensures answer { λ r. ⌜ now (answer .exit) ≡ tickCall (now (state .entry)) (now (store .entry)) (now (output .entry)) (now (answer .entry)) .answer ⌝ }
 {
-    let reached = reach(state, answer);
-    if reached.refusal != 0 {
-        return reached.refusal;
-    }
-    let sender = reached.sender;
-    let told = sender.tick(store, output);
-    tell(told, state, answer)
-}
-
-// An answer of the lower layer by its number.
-fn lower_numbered(number: u32) -> Lower
-    ensures { λ r. ⌜ r ≡ lowerNumbered number ⌝ }
-{
-    if number == 1 {
-        return Lower::AdAccept;
-    }
-    if number == 2 {
-        return Lower::AdReject;
-    }
-    if number == 3 {
-        return Lower::BcAccept;
-    }
-    if number == 4 {
-        return Lower::BcReject;
-    }
-    if number == 5 {
-        return Lower::BdAccept;
-    }
-    Lower::BdReject
+    event_call(state, Event::Tick, b"", store, output, answer)
 }
 
 #[no_mangle]
@@ -216,13 +105,8 @@ pub extern "C" fn pondreszi_sender_lower_layer(
     if LAST_LOWER < number {
         return 12;
     }
-    let reached = reach(state, answer);
-    if reached.refusal != 0 {
-        return reached.refusal;
-    }
-    let sender = reached.sender;
-    let told = sender.lower_layer(lower_numbered(number), store, output);
-    tell(told, state, answer)
+    let told = Event::LowerLayer(lower_numbered(number));
+    event_call(state, told, b"", store, output, answer)
 }
 
 #[no_mangle]
@@ -239,50 +123,7 @@ pub extern "C" fn pondreszi_sender_control_word(
     ensures output { λ r. ⌜ now (output .exit) ≡ wordCall (now (state .entry)) (now (word .entry)) (now (store .entry)) (now (output .entry)) (now (answer .entry)) .output ⌝ }
     ensures answer { λ r. ⌜ now (answer .exit) ≡ wordCall (now (state .entry)) (now (word .entry)) (now (store .entry)) (now (output .entry)) (now (answer .entry)) .answer ⌝ }
 {
-    let reached = reach(state, answer);
-    if reached.refusal != 0 {
-        return reached.refusal;
-    }
-    let sender = reached.sender;
-    let told = sender.control_word(word, store, output);
-    tell(told, state, answer)
-}
-
-// A sender by the numbers given.
-fn started(
-    k: u32,
-    t1_initial: u32,
-    transmission_limit: u32,
-    timeout_type: u32,
-    spacecraft: u32,
-    channel: u32,
-    vs: u32,
-    nnr: u32,
-    store: &[u8],
-) -> Start
-    ensures { λ r. ⌜ r ≡ startGiven k «t1_initial» «transmission_limit» «timeout_type» spacecraft channel vs nnr (length (now (store .entry))) ⌝ }
-{
-    if LARGEST_TIMER < t1_initial {
-        return refused_state();
-    }
-    if LARGEST_TRANSMISSION_LIMIT < transmission_limit {
-        return refused_state();
-    }
-    if LARGEST_NUMBER < vs {
-        return refused_state();
-    }
-    if LARGEST_NUMBER < nnr {
-        return refused_state();
-    }
-    let settings = Settings {
-        k: narrow_u8(k, BEYOND),
-        t1_initial: t1_initial as u16,
-        transmission_limit: transmission_limit as u8,
-        timeout_type: narrow_u8(timeout_type, BEYOND),
-        spacecraft: narrow_u16(spacecraft, NO_SPACECRAFT),
-        channel: narrow_u8(channel, NO_CHANNEL),
-    };
-    Sender::new(settings, vs as u8, nnr as u8, store)
+    event_call(state, Event::ControlWord, word, store, output, answer)
 }
 
 #[no_mangle]

@@ -1,4 +1,4 @@
--- A directive's number and value narrowed on the way to the sender (crate boundary, specs/Senders): the sender's step is the same. A directive that
+-- A directive's number and value narrowed on the way to the sender (crate boundary_sender): the sender's step is the same. A directive that
 -- is invalid stays invalid; and the rows of a directive that has no use for its value never look at it.
 use Prim.Native.Nat.{ℕ, _<_}
 use mathlib.Core.Path.{_≡_, refl, sym, ap, _∙_}
@@ -11,23 +11,24 @@ use lib.ListN.{length}
 use Rattle.base.specs.Choice.{pick, must}
 use Rattle.base.proofs.Tests.{yes}
 use Rattle.fop.specs.Limits.{largestK, largestTimer, largestTransmissionLimit, largestNumber}
+use Rattle.fop.specs.declared.State.{State}
+use Rattle.fop.specs.declared.State.the-variants as state
 use Rattle.fop.specs.Table as table
 use Rattle.fop.specs.Table.{table78, cell78, FopEvent, E23, E24, E25, E26, E29, E30, E31, E32, E33, E34}
 use Rattle.fop.specs.Events.{validDirective, directiveEvent}
-use Rattle.fop_actions.specs.declared.SenderState.{SenderState}
-use Rattle.fop_actions.specs.declared.Work.{Work}
-use Rattle.fop_actions.specs.Start.{begun}
-use Rattle.fop_actions.specs.View.{stateOf}
-use Rattle.fop_rows.specs.Rows.{done, doneAll, doneCell, rowOf}
+use Rattle.sender_values.specs.declared.SenderState.{SenderState}
+use Rattle.sender_values.specs.declared.Work.{Work}
+use Rattle.sender_values.specs.Start.{begun}
+use Rattle.sender_table.specs.Rows.{done, doneAll, doneCell, rowOf}
 use Rattle.fop_events.specs.Events.{eventNumber, directiveNumber}
 use Rattle.session.proofs.Choices.{by-pick, upto, _also_}
 use Rattle.sender.specs.Answers.{Step, refusedStep}
-use Rattle.sender.specs.Limits.{smallestStore}
+use Rattle.sender_frames.specs.Limits.{smallestStore}
 use Rattle.sender.specs.Events.{servedBy, served, directiveOf}
 use Rattle.ends.proofs.Numbers.{row-event}
 use Rattle.ends.proofs.Meets.{invalid-is-40}
-use Rattle.boundary.specs.Numbers.{largestOctet, largestPair, narrow}
-use Rattle.boundary.specs.Senders.{usesValue, narrowNumber, narrowValue}
+use Rattle.boundary_numbers.specs.Numbers.{largestOctet, largestPair, narrow}
+use Rattle.boundary_sender.specs.Senders.{usesValue, narrowNumber, narrowValue}
 
 -- a test that fails makes both fail
 and-false : (a b : Bool) → b ≡ false → (a && b) ≡ false
@@ -45,20 +46,20 @@ over : (v most : ℕ) → most < v → (leb 1 v && leb v most) ≡ false
 over v most h = and-false (leb 1 v) (leb v most) (lt-leb v most h)
 
 -- what holds in each state
-by-state : (P : table.State → Type 0) → P table.S1 → P table.S2 → P table.S3 → P table.S4 → P table.S5 → P table.S6 → (s : table.State) → P s
-by-state P a b c d e f table.S1 = a
-by-state P a b c d e f table.S2 = b
-by-state P a b c d e f table.S3 = c
-by-state P a b c d e f table.S4 = d
-by-state P a b c d e f table.S5 = e
-by-state P a b c d e f table.S6 = f
+by-state : (P : State → Type 0) → P state.S1 → P state.S2 → P state.S3 → P state.S4 → P state.S5 → P state.S6 → (s : State) → P s
+by-state P a b c d e f state.S1 = a
+by-state P a b c d e f state.S2 = b
+by-state P a b c d e f state.S3 = c
+by-state P a b c d e f state.S4 = d
+by-state P a b c d e f state.S5 = e
+by-state P a b c d e f state.S6 = f
 
 -- rows that look at no value
 module _ (v : ℕ) (w : Work) where
-  abbrev Alike : FopEvent → table.State → Type 0
-  Alike e s = doneCell (cell78 (table78 e) s) 0 0 w ≡ doneCell (cell78 (table78 e) s) v 0 w
+  abbrev Alike : FopEvent → State → Type 0
+  Alike e s = doneCell (cell78 (table78 e) s) 0 w ≡ doneCell (cell78 (table78 e) s) v w
 
-  cells : (s : table.State)
+  cells : (s : State)
       → Alike E23 s × Alike E24 s × Alike E25 s × Alike E26 s × Alike E29 s × Alike E30 s × Alike E31 s × Alike E32 s × Alike E33 s × Alike E34 s
   unfolding table78 doneCell doneAll done
   cells s = (
@@ -94,12 +95,12 @@ module _ (s : SenderState) (store output : List ℕ) where
     abbrev Unread : FopEvent → Type 0
     Unread e = stepAt e 0 ≡ stepAt e v
 
-    unread : (e : FopEvent) → Alike v (begun s) e (stateOf (begun s .state)) → Unread e
+    unread : (e : FopEvent) → Alike v (begun s) e (begun s .state) → Unread e
     unfolding served rowOf
     unread e h =
         ap (λ (w : Work). pick (eqb (eventNumber e) 40) (refusedStep 12 s store output)
         (must (leb smallestStore (length store)) (refusedStep 11 s store output) (servedBy (eventNumber e) s w store output)))
-        (row-event e 0 0 (begun s) ∙ h ∙ sym (row-event e v 0 (begun s)))
+        (row-event e 0 (begun s) ∙ h ∙ sym (row-event e v (begun s)))
 
     module _ (large : largestPair < v) where
       abbrev Narrowed : ℕ → Type 0
@@ -108,7 +109,7 @@ module _ (s : SenderState) (store output : List ℕ) where
       within-11 : (d : ℕ) → d < 12 → Narrowed d
       unfolding directiveOf directiveNumber directiveEvent begun
       within-11 =
-          let c = cells v (begun s) (stateOf (s .state)) in
+          let c = cells v (begun s) (s .state) in
           let ss : ℕ = s .variables .«suspend_state» in
           upto Narrowed 12
           (both-invalid 0 0 0 v refl refl

@@ -16,28 +16,28 @@ use Rattle.base.specs.Limits.{largestUnit, largestSpacecraft, largestChannel}
 use Rattle.base.specs.Octets.{Octets}
 use Rattle.base.specs.Outcome.{Outcome, Outcome.done, Outcome.refused}
 use Rattle.base.proofs.Fields.{length-digits, bits-digits, value-digits, digits-value}
-use Rattle.frame.specs.Header.{headerFields, headerOf}
+use Rattle.frame_header.specs.Header.{headerFields, headerOf}
 use Rattle.frame.specs.Frame.{bypassOf, controlOf, numberOf, dataOf, overhead, bodyOf, rawFrame, frameOf, rawWriting, writing}
 use Rattle.frame.specs.Answers.{readingOf, partOf}
 use Rattle.frame.specs.declared.Kind.{Kind}
 use Rattle.frame.specs.declared.Kind.the-variants as kind
 use Rattle.frame.specs.declared.FrameReading.{FrameReading}
-use Rattle.frame.proofs.Emitted.{length-frame}
+use Rattle.frame.proofs.Lengths.{length-frame}
 use Rattle.frame.proofs.Back.{Legal, frame-back}
 use Rattle.fecf.specs.Fecf.{fecfOf, fieldOctets}
 use Rattle.fop.specs.Units.{Own}
 use Rattle.fop.specs.Answers.{Answer}
-use Rattle.fop_actions.specs.declared.Handed.{Handed}
-use Rattle.fop_actions.specs.declared.Handed.the-variants as handed
-use Rattle.fop_actions.specs.declared.SenderState.{SenderState}
-use Rattle.fop_actions.specs.declared.Work.{Work}
+use Rattle.sender_values.specs.declared.Handed.{Handed}
+use Rattle.sender_values.specs.declared.Handed.the-variants as handed
+use Rattle.sender_values.specs.declared.SenderState.{SenderState}
+use Rattle.sender_values.specs.declared.Work.{Work}
 use Rattle.session.specs.Frames.{carried, byReading, read}
 use Rattle.session.proofs.Choices.{none-some}
 use Rattle.sender.specs.Answers.{kindHanded, answered, refusing, Step, stepBy, refusedStep}
-use Rattle.sender.specs.Events.{handedWriting}
+use Rattle.sender_frames.specs.Frames.{handedWriting}
 use Rattle.sender_octets.specs.Kept.{stateIn}
 use Rattle.sender_octets.specs.Answer.{kindNumber, Told}
-use Rattle.boundary.specs.Senders.{Called}
+use Rattle.boundary_sender.specs.Senders.{Called}
 use Rattle.ends.specs.Ours.{stepOf, handedDown}
 use Rattle.boundary_ends.specs.Called.{callOf, answerCalled, heldIn}
 use Rattle.boundary_ends.specs.Kind.{frameNumber, kindCalled, KindTold}
@@ -150,10 +150,10 @@ module _ (s : SenderState) (store output : List ℕ) where
   unfolding refusing
   refused-tells number = record { nothing = λ e. refl; some-down = λ o e h. absurd (none-some e) }
 
-  module _ (event : ℕ) (w : Work) (new : List ℕ) where
+  module _ (event : ℕ) (w : Work) (ls new : List ℕ) where
     -- a frame of this kind, by what writing it comes to
     frame-tells : (k : Kind) (u : List ℕ) → kindNumber (kindHanded (w .told .handed)) ≡ numberOfKind at u k
-        → Tells at (stepBy event s w (writing (at .spacecraft) (at .channel) k u (length output)) new store output)
+        → Tells at (stepBy event s w ls (writing (at .spacecraft) (at .channel) k u (length output)) new store output)
     unfolding rawWriting answered
     frame-tells k u p =
         by (leb 1 (length (dataOf k u))) refl (leb (length (dataOf k u)) largestUnit) refl (leb (at .spacecraft) largestSpacecraft) refl
@@ -163,12 +163,12 @@ module _ (s : SenderState) (store output : List ℕ) where
 
           step : Bool → Bool → Bool → Bool → Bool → Step
           step a b c d e =
-              stepBy event s w
+              stepBy event s w ls
               (must a (refused 10 0) (must b (refused 10 0) (must c (refused 12 0) (must d (refused 12 0) (must e (refused 11 0) on)))))
               new store output
 
           written : leb 1 (length (dataOf k u)) ≡ true → leb (length (dataOf k u)) largestUnit ≡ true → leb (at .spacecraft) largestSpacecraft ≡ true
-              → leb (at .channel) largestChannel ≡ true → Tells at (stepBy event s w on new store output)
+              → leb (at .channel) largestChannel ≡ true → Tells at (stepBy event s w ls on new store output)
           written a b c d =
               let low = leb-true 1 (length (dataOf k u)) a in
               let high = leb-true (length (dataOf k u)) largestUnit b in
@@ -195,7 +195,7 @@ module _ (s : SenderState) (store output : List ℕ) where
 
     -- by what the row hands down
     by-handed : (u : List ℕ) (h : Handed) → w .told .handed ≡ h
-        → Tells at (stepBy event s w (handedWriting (s .settings) h u (length output)) new store output)
+        → Tells at (stepBy event s w ls (handedWriting (s .settings) h u (length output)) new store output)
     unfolding handedWriting answered
     by-handed u handed.None p = record { nothing = λ e. ap (λ (x : Handed). kindNumber (kindHanded x)) p; some-down = λ o e h. absurd (none-some e) }
     by-handed u (handed.Ad n i) p = frame-tells (kind.Ad n) u (ap (λ (x : Handed). kindNumber (kindHanded x)) p)
@@ -205,7 +205,7 @@ module _ (s : SenderState) (store output : List ℕ) where
 
   step-tells : (y : Step) → Way s store output y → Tells at y
   step-tells y (refuses number) = refused-tells number
-  step-tells y (writes k w u new four) = by-handed k w new u (w .told .handed) refl
+  step-tells y (writes k w ls u new four) = by-handed k w ls new u (w .told .handed) refl
 
 -- so does the call
 pub kind-told : KindTold

@@ -28,26 +28,29 @@ use Rattle.frame.specs.declared.FrameReading.{FrameReading}
 use Rattle.frame.specs.declared.FrameReading.the-variants as reading
 use Rattle.frame.proofs.Written.{octets-frame}
 use Rattle.frame.proofs.Back.{Legal, legal-fits, frame-back}
-use Rattle.farm.specs.Kept.{octetsOf, receiverIn, isState, wellFormed}
-use Rattle.farm.specs.Table.{eventNumber, table, perform, performAll, stepOf}
-use Rattle.farm.specs.Receiver.{become, hasRoom, eventOf, starOf, unitOf, takes, answered, arrived, byReading, receiveOf, partFor, unitPart, releaseOf, wordOf}
+use Rattle.receiver.specs.State.{wellFormed}
+use Rattle.receiver_octets.specs.Kept.{octetsOf, receiverIn, isState}
+use Rattle.farm.specs.Table.{eventNumber, table, perform, performAll, stepOf, unitOf}
+use Rattle.receiver.specs.Channel.{eventOf, starOf, takes}
+use Rattle.receiver.specs.Channel as channel
+use Rattle.receiver.specs.Receiver.{become, hasRoom, answered, arrived, byReading, receiveOf, partFor, unitPart, releaseOf, wordOf}
 use Rattle.farm.specs.declared.State.{State}
 use Rattle.farm.specs.declared.Event.{Event}
 use Rattle.farm.specs.declared.Event.the-variants.{E1, E2, E3, E4, E5, E6, E7, E8, E9, E10, E11}
 use Rattle.farm.specs.declared.Variables.{Variables}
-use Rattle.farm.specs.declared.Receiver.{Receiver}
-use Rattle.farm.specs.declared.Received.{Received}
+use Rattle.receiver.specs.declared.Receiver.{Receiver}
+use Rattle.receiver.specs.declared.Received.{Received}
 use Rattle.farm.specs.declared.AcceptedUnit.{AcceptedUnit}
 use Rattle.farm.specs.declared.AcceptedUnit.the-variants.{None, AdUnit, BdUnit}
-use Rattle.farm.specs.declared.Released.{Released}
-use Rattle.farm.specs.declared.Released.the-variants.{Done, NoneTaken}
+use Rattle.receiver.specs.declared.Released.{Released}
+use Rattle.receiver.specs.declared.Released.the-variants.{Done, NoneTaken}
 use Rattle.farm.specs.Window.{adEvent}
 use Rattle.farm.proofs.Cells.{at, by-state, by-event, e9-keeps}
-use Rattle.farm.proofs.Kept.{WellFormed, receive-well, release-well, word-written}
-use Rattle.farm.proofs.Restored.{receiver-back, octets-back, restored-well}
+use Rattle.receiver.proofs.Kept.{WellFormed, receive-well, release-well, word-written}
+use Rattle.receiver_octets.proofs.Restored.{receiver-back, octets-back, restored-well}
 use Rattle.session.specs.Receiver.{ReceiverEvent, frameArrives, releaseBuffer, ReceiverAnswer, receiverNext, afterRelease, handedOut, releaseAnswer, receiverAnswer, wordLength, wordTold, receiverWord}
 use Rattle.session.specs.Ends.{Settings, Within, startReceiver}
-use Rattle.boundary.specs.Receivers.{unitNumber, unitPlace, Frame, received, frameCall, Release, releasedBy, releaseCall, wordCall}
+use Rattle.boundary_receiver.specs.Receivers.{unitNumber, unitPlace, Frame, received, frameCall, Release, releasedBy, releaseCall, wordCall}
 use Rattle.boundary_ends.specs.Called.{eventNumbered, unitCalled, receiverCalled, receiverAfter, wordWritten}
 
 -- V(R) set aside
@@ -58,7 +61,7 @@ unnumbered v = record { state = v .state; vr = 0; lockout = v .lockout; wait = v
 
 -- the receiver with V(R) 0
 abbrev aside : Receiver → Receiver
-aside r = become (r .taken) (unnumbered (r .variables)) r
+aside r = become (r .farm .channel .held) (unnumbered (r .farm .channel .variables)) r
 
 aside-well : (r : Receiver) → WellFormed r → WellFormed (aside r)
 aside-well r h = record {
@@ -100,23 +103,23 @@ module _ (star : ℕ) (v : Variables) where
 
 -- an event of the table, of a receiver and of it with V(R) 0
 answered-aside : (r : Receiver) (n m : ℕ) (e : Event) (star : ℕ) → aside (answered n e star r .next) ≡ aside (answered m e 0 (aside r) .next)
-unfolding answered
+unfolding answered channel.answered
 answered-aside r n m e star =
-    ap (λ (v : Variables). become (r .taken + takes (unitOf e (r .variables .state))) v r) (step-aside star (r .variables) e)
+    ap (λ (v : Variables). become (r .farm .channel .held + takes (unitOf e (r .farm .channel .variables .state))) v r) (step-aside star (r .farm .channel .variables) e)
 
 -- the frame of octets that does the same: N(S) by its distance from V(R), and any V*(R) as 0
 abbrev kindAside : Receiver → Kind → Kind
-kindAside r (Ad number) = Ad (offset number (r .variables .vr))
+kindAside r (Ad number) = Ad (offset number (r .farm .channel .variables .vr))
 kindAside r Bd = Bd
 kindAside r Unlock = Unlock
 kindAside r (SetVr value) = SetVr 0
 
 module _ (r : Receiver) (h : WellFormed (aside r)) where
-  event-aside : (k : Kind) → eventOf (aside r) (kindAside r k) ≡ eventOf r k
+  event-aside : (k : Kind) → eventOf (hasRoom r) (aside r .farm .channel) (kindAside r k) ≡ eventOf (hasRoom r) (r .farm .channel) k
   unfolding eventOf
   event-aside (Ad number) =
-      let e : offset (offset number (r .variables .vr)) 0 ≡ offset number (r .variables .vr) = omega arith in
-      ap (adEvent (r .window) (r .variables .state) (hasRoom r)) e
+      let e : offset (offset number (r .farm .channel .variables .vr)) 0 ≡ offset number (r .farm .channel .variables .vr) = omega arith in
+      ap (adEvent (r .farm .channel .window) (r .farm .channel .variables .state) (hasRoom r)) e
   event-aside Bd = refl
   event-aside Unlock = refl
   event-aside (SetVr value) = refl
@@ -140,8 +143,8 @@ module _ (r : Receiver) (h : WellFormed (aside r)) where
   arrived-aside : (k : Kind) → WellFormed (arrived (aside r) (kindAside r k) .next)
   unfolding receiveOf byReading
   arrived-aside k =
-      let sc = r .spacecraft in
-      let ch = r .channel in
+      let sc = r .farm .spacecraft in
+      let ch = r .farm .channel .number in
       let hs = h .settings .spacecraftFits in
       let hc = h .settings .channelFits in
       let kind : Kind = kindAside r k in
@@ -153,34 +156,34 @@ module _ (r : Receiver) (h : WellFormed (aside r)) where
       (receive-well (aside r) frame o h)
 
   by-reading : (x : FrameReading) → WellFormed (aside (byReading r x .next))
-  unfolding byReading arrived answered
+  unfolding byReading arrived answered channel.arrived channel.answered
   by-reading (reading.Frame fields) =
       let k : Kind = fields .kind in
       subst WellFormed
-      (sym (answered-aside r 0 0 (eventOf r k) (starOf k)))
+      (sym (answered-aside r 0 0 (eventOf (hasRoom r) (r .farm .channel) k) (starOf k)))
       (aside-well _ (subst (λ (e : Event). WellFormed (answered 0 e 0 (aside r) .next)) (event-aside k)
-      (subst (λ (star : ℕ). WellFormed (answered 0 (eventOf (aside r) (kindAside r k)) star (aside r) .next)) (star-aside k) (arrived-aside k))))
+      (subst (λ (star : ℕ). WellFormed (answered 0 (eventOf (hasRoom r) (aside r .farm .channel) (kindAside r k)) star (aside r) .next)) (star-aside k) (arrived-aside k))))
   by-reading (reading.Refused number) = subst WellFormed (sym kept) h where
     kept : aside (answered number E9 0 r .next) ≡ aside r
     kept =
-        ap (λ (n : ℕ). become n (unnumbered (stepOf E9 0 (r .variables))) r) (add-zero (r .taken))
-        ∙ ap (λ (v : Variables). become (r .taken) (unnumbered v) r) (e9-keeps 0 (r .variables))
+        ap (λ (n : ℕ). become n (unnumbered (stepOf E9 0 (r .farm .channel .variables))) r) (add-zero (r .farm .channel .held))
+        ∙ ap (λ (v : Variables). become (r .farm .channel .held) (unnumbered v) r) (e9-keeps 0 (r .farm .channel .variables))
 
   -- whatever list arrives
   arrives : (s : List ℕ) → WellFormed (aside (receiveOf r s .next))
   unfolding receiveOf
-  arrives s = by-reading (readingOf s (r .spacecraft) (r .channel))
+  arrives s = by-reading (readingOf s (r .farm .spacecraft) (r .farm .channel .number))
 
   -- and a release
   releases : WellFormed (aside (afterRelease (releaseOf r) r))
   unfolding releaseOf
-  releases = by (ltb 0 (r .taken)) refl where
-    by : (b : Bool) → ltb 0 (r .taken) ≡ b
-        → WellFormed (aside (afterRelease (must b NoneTaken (Done (answered 0 E10 0 (become (r .taken - 1) (r .variables) r)))) r))
+  releases = by (ltb 0 (r .farm .channel .held)) refl where
+    by : (b : Bool) → ltb 0 (r .farm .channel .held) ≡ b
+        → WellFormed (aside (afterRelease (must b NoneTaken (Done (answered 0 E10 0 (become (r .farm .channel .held - 1) (r .farm .channel .variables) r)))) r))
     by true e =
-        subst WellFormed (sym (answered-aside (become (r .taken - 1) (r .variables) r) 0 0 E10 0))
-        (aside-well _ (release-well (aside r) (answered 0 E10 0 (become (r .taken - 1) (unnumbered (r .variables)) r)) h
-        (ap (λ (x : Bool). must x NoneTaken (Done (answered 0 E10 0 (become (r .taken - 1) (unnumbered (r .variables)) r)))) e)))
+        subst WellFormed (sym (answered-aside (become (r .farm .channel .held - 1) (r .farm .channel .variables) r) 0 0 E10 0))
+        (aside-well _ (release-well (aside r) (answered 0 E10 0 (become (r .farm .channel .held - 1) (unnumbered (r .farm .channel .variables)) r)) h
+        (ap (λ (x : Bool). must x NoneTaken (Done (answered 0 E10 0 (become (r .farm .channel .held - 1) (unnumbered (r .farm .channel .variables)) r)))) e)))
     by false e = h
 
 -- the octets that a caller keeps: those of the receiver that they hold, which is well-formed but for V(R)
@@ -196,10 +199,10 @@ receiver-good r h = record {
 }
 
 -- they are a state
-well-aside : (r : Receiver) → WellFormed (aside r) → wellFormed r ≡ true
+well-aside : (r : Receiver) → WellFormed (aside r) → wellFormed (r .farm) ≡ true
 unfolding isState wellFormed
 well-aside r h =
-    ap wellFormed (sym (receiver-back (aside r)))
+    ap (λ (x : Receiver). wellFormed (x .farm)) (sym (receiver-back (aside r)))
     ∙ both-right (same (octetsOf (aside r)) (octetsOf (receiverIn (octetsOf (aside r))))) _ (octets-back (aside r) h .0)
 
 module _ (state : List ℕ) (good : GoodReceiver state) where
@@ -209,7 +212,7 @@ module _ (state : List ℕ) (good : GoodReceiver state) where
   pub good-state : isState state ≡ true
   unfolding isState
   good-state =
-      ap (λ (o : List ℕ). both (same state o) (wellFormed r)) (good .is) ∙ ap (λ (b : Bool). both b (wellFormed r)) (same-self state)
+      ap (λ (o : List ℕ). both (same state o) (wellFormed (r .farm))) (good .is) ∙ ap (λ (b : Bool). both b (wellFormed (r .farm))) (same-self state)
       ∙ well-aside r (good .well)
 
   frame-is : (s : List ℕ) → frameCall state s ≡ received (receiveOf r s) (unitPart r s)
@@ -277,10 +280,10 @@ abbrev answerOfRelease : Release → ReceiverAnswer
 answerOfRelease x = record { refusal = x .number; event = eventNumbered (x .event); unit = none }
 
 release-told : (r : Receiver) (state : List ℕ) → answerOfRelease (releasedBy (releaseOf r) state) ≡ receiverAnswer releaseBuffer r
-unfolding receiverAnswer releaseOf answered
-release-told r state = by (ltb 0 (r .taken)) where
-  by : (b : Bool) → answerOfRelease (releasedBy (must b NoneTaken (Done (answered 0 E10 0 (become (r .taken - 1) (r .variables) r)))) state)
-      ≡ releaseAnswer (must b NoneTaken (Done (answered 0 E10 0 (become (r .taken - 1) (r .variables) r))))
+unfolding receiverAnswer releaseOf answered channel.answered
+release-told r state = by (ltb 0 (r .farm .channel .held)) where
+  by : (b : Bool) → answerOfRelease (releasedBy (must b NoneTaken (Done (answered 0 E10 0 (become (r .farm .channel .held - 1) (r .farm .channel .variables) r)))) state)
+      ≡ releaseAnswer (must b NoneTaken (Done (answered 0 E10 0 (become (r .farm .channel .held - 1) (r .farm .channel .variables) r))))
   by true = refl
   by false = refl
 
@@ -293,7 +296,7 @@ module _ (state : List ℕ) (good : GoodReceiver state) where
       ap (λ (x : Frame). answerOfFrame x s) (frame-is state good s)
       ∙ ap (λ (x : Option Event). record { refusal = a .refusal; event = x; unit = unitCalled (received a (unitPart r s)) s }) (event-back (a .event))
       ∙ ap (λ (x : Option (List ℕ)). record { refusal = a .refusal; event = some (a .event); unit = x })
-      (unit-back (a .unit) s (partOf s (r .spacecraft) (r .channel)) (part-taken s (r .spacecraft) (r .channel)))
+      (unit-back (a .unit) s (partOf s (r .farm .spacecraft) (r .farm .channel .number)) (part-taken s (r .farm .spacecraft) (r .farm .channel .number)))
   answer-receiver releaseBuffer = ap answerOfRelease (release-is state good) ∙ release-told (receiverIn state) state
 
   -- the control word, whatever the output held: it is never refused with 0

@@ -16,28 +16,29 @@ use Rattle.memory.specs.Placed.{placed}
 use Rattle.frame.specs.Answers.{readingOf}
 use Rattle.frame.specs.declared.FrameReading.{FrameReading}
 use Rattle.frame.specs.declared.FrameReading.the-variants as reading
-use Rattle.farm.specs.Kept as farm
-use Rattle.farm.specs.Receiver.{become, answered, arrived, byReading, receiveOf, unitPart, releaseOf}
+use Rattle.receiver_octets.specs.Kept as farm
+use Rattle.receiver.specs.Channel as channel
+use Rattle.receiver.specs.Receiver.{become, answered, arrived, byReading, receiveOf, unitPart, releaseOf}
 use Rattle.farm.specs.declared.Event.the-variants.{E9}
-use Rattle.farm.specs.declared.Receiver.{Receiver}
-use Rattle.farm.specs.declared.Start.{Start as FarmStart}
-use Rattle.farm.specs.declared.Start.the-variants as start
-use Rattle.farm.specs.declared.Released.{Released}
-use Rattle.farm.specs.declared.Released.the-variants.{Done, NoneTaken}
+use Rattle.receiver.specs.declared.Receiver.{Receiver}
+use Rattle.receiver.specs.declared.Start.{Start as FarmStart}
+use Rattle.receiver.specs.declared.Start.the-variants as start
+use Rattle.receiver.specs.declared.Released.{Released}
+use Rattle.receiver.specs.declared.Released.the-variants.{Done, NoneTaken}
 use Rattle.farm.specs.declared.Variables.{Variables}
 use Rattle.farm.specs.Table.{stepOf}
 use Rattle.farm.proofs.Cells.{e9-keeps}
-use Rattle.farm.proofs.Restored as farm-restored
-use Rattle.fop_actions.specs.declared.SenderState.{SenderState}
+use Rattle.receiver_octets.proofs.Restored as farm-restored
+use Rattle.sender_values.specs.declared.SenderState.{SenderState}
 use Rattle.sender.specs.declared.Start.{Start}
 use Rattle.sender.specs.Answers.{Step}
 use Rattle.sender.specs.Events.{lowerLayerOf}
 use Rattle.sender_octets.specs.Kept.{stateOctets, octetsOf, stateIn, isState, senderIn}
 use Rattle.sender_octets.specs.Answer.{answerOctets}
 use Rattle.sender_octets.proofs.Back.{state-only, refused-no-state}
-use Rattle.boundary.specs.Receivers as receiver
-use Rattle.boundary.specs.Senders as sender
-use Rattle.boundary.specs.Senders.{Called, refusedCall, doneCall, calledBy, lowerNumbered, narrowNumber, narrowValue, startedCall, startGiven}
+use Rattle.boundary_receiver.specs.Receivers as receiver
+use Rattle.boundary_sender.specs.Senders as sender
+use Rattle.boundary_sender.specs.Senders.{Called, refusedCall, doneCall, calledBy, lowerNumbered, narrowNumber, narrowValue, startedCall, startGiven}
 use Rattle.boundary_ends.specs.Refused.{Unchanged, RefusedKeeps}
 use Rattle.boundary_ends.proofs.Ways.{Way, refused-same, asks-ad, asks-bd, directs, ticks, lowers, words}
 use Rattle.boundary_ends.proofs.Sender.{placed-whole, reached}
@@ -63,11 +64,11 @@ starts start.Setting state = λ h. refl
 
 -- a frame that is refused is E9, which changes nothing
 read-same : (r : Receiver) (x : FrameReading) → byReading r x .refusal ≢ 0 → byReading r x .next ≡ r
-unfolding byReading arrived answered
+unfolding byReading arrived answered channel.answered
 read-same r (reading.Frame fields) h = absurd (h refl)
 read-same r (reading.Refused number) h =
-    ap (λ (n : ℕ). become n (stepOf E9 0 (r .variables)) r) (add-zero (r .taken))
-    ∙ ap (λ (v : Variables). become (r .taken) v r) (e9-keeps 0 (r .variables))
+    ap (λ (n : ℕ). become n (stepOf E9 0 (r .farm .channel .variables)) r) (add-zero (r .farm .channel .held))
+    ∙ ap (λ (v : Variables). become (r .farm .channel .held) v r) (e9-keeps 0 (r .farm .channel .variables))
 
 frame-same : (state frame : List ℕ) → receiver.frameCall state frame .number ≢ 0 → receiver.frameCall state frame .state ≡ state
 unfolding receiver.frameCall receiveOf
@@ -82,7 +83,7 @@ frame-same state frame = by (farm.isState state) refl where
   new = receiver.received (receiveOf r frame) (unitPart r frame)
 
   by : (b : Bool) → farm.isState state ≡ b → must b old new .number ≢ 0 → must b old new .state ≡ state
-  by true e h = ap farm.octetsOf (read-same r (readingOf frame (r .spacecraft) (r .channel)) h) ∙ farm-restored.state-only state e
+  by true e h = ap farm.octetsOf (read-same r (readingOf frame (r .farm .spacecraft) (r .farm .channel .number)) h) ∙ farm-restored.state-only state e
   by false e h = refl
 
 released-same : (x : Released) (state : List ℕ) → receiver.releasedBy x state .number ≢ 0 → receiver.releasedBy x state .state ≡ state

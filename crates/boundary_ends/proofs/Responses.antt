@@ -11,21 +11,20 @@ use Rattle.fop.specs.Table.{Action, Cell, cell, ifNotSuspended, NotApplicable, 
 use Rattle.fop.specs.Table.{Ignore, Accept, Reject, Confirm, RejectAd, AcceptBd, RejectBd, AddToWaitQueue, LookForFdu, LookForDirective, RemoveAcknowledgedFrames}
 use Rattle.fop.specs.Table.{InitiateAdRetransmission, InitiateBcRetransmission, ReleaseBcFrame, CancelTimer, StartTimer, Alert, Initialise, TransmitUnlock, TransmitSetVr, TransmitBd}
 use Rattle.fop.specs.Table.{SetSuspendState, Suspend, Resume, SetVs, SetNnr, SetK, SetT1Initial, SetTransmissionLimit, SetTimeoutType, AdOutReady, BcOutReady, BdOutReady}
-use Rattle.fop_actions.specs.declared.Alert.{Alert as Reason}
-use Rattle.fop_actions.specs.declared.Control.{Control}
-use Rattle.fop_actions.specs.declared.Control.the-variants as control
-use Rattle.fop_actions.specs.declared.Handed.{Handed}
-use Rattle.fop_actions.specs.declared.Response.{Response}
-use Rattle.fop_actions.specs.declared.Response.the-variants as response
-use Rattle.fop_actions.specs.declared.Responses.{Responses}
-use Rattle.fop_actions.specs.declared.SenderState.{SenderState}
-use Rattle.fop_actions.specs.declared.Work.{Work}
-use Rattle.fop_actions.specs.Limits.{largestResponses}
-use Rattle.fop_actions.specs.Parts.{withSettings, withVariables, withQueues, withTold}
-use Rattle.fop_actions.specs.Actions as act
-use Rattle.fop_actions.specs.Start.{begun, noneTold}
-use Rattle.fop_actions.specs.View.{stateOf}
-use Rattle.fop_rows.specs.Rows.{declaredReason, octet, done, doneAll, doneCell, rowOf, eventOf, rowIf, rowNumbered}
+use Rattle.fop.specs.declared.Alert.{Alert as Reason}
+use Rattle.sender_values.specs.declared.Control.{Control}
+use Rattle.sender_values.specs.declared.Control.the-variants as control
+use Rattle.sender_values.specs.declared.Handed.{Handed}
+use Rattle.fop.specs.declared.Response.{Response}
+use Rattle.fop.specs.declared.Response.the-variants as response
+use Rattle.sender_values.specs.declared.Responses.{Responses}
+use Rattle.sender_values.specs.declared.SenderState.{SenderState}
+use Rattle.sender_values.specs.declared.Work.{Work}
+use Rattle.sender_values.specs.Limits.{largestResponses}
+use Rattle.sender_values.specs.Parts.{withSettings, withVariables, withQueues, withTold}
+use Rattle.sender_values.specs.Actions as act
+use Rattle.sender_values.specs.Start.{begun, noneTold}
+use Rattle.sender_table.specs.Rows.{octet, done, doneAll, doneCell, rowOf, eventOf, rowIf, rowNumbered}
 
 -- the numbers of four responses
 abbrev pub Four : Work → Type 0
@@ -45,9 +44,9 @@ module _ (w : Work) (h : Four w) where
   unfolding act.respond withTold
   responds r = with-four (act.responseNumber r) (w .told .responses) h
 
-  adds : (n : ℕ) → Four (act.addToWaitQueue n w)
+  adds : Four (act.addToWaitQueue w)
   unfolding act.addToWaitQueue withQueues
-  adds n = h
+  adds = h
 
   sends-marked : Four (act.sendMarked w)
   unfolding act.sendMarked act.handDown withVariables withQueues withTold
@@ -138,66 +137,66 @@ unfolding act.alert act.notify act.cancelTimer withVariables withTold
 alerts a w h = purges (act.cancelTimer w) h
 
 -- each action
-keeps : (a : Action) (n l : ℕ) (w : Work) → Four w → Four (done a n l w)
+keeps : (a : Action) (n : ℕ) (w : Work) → Four w → Four (done a n w)
 unfolding done act.releaseBcFrame act.holdControl act.cancelTimer act.startTimer act.transmitUnlock act.transmitSetVr act.setSuspendState act.suspend
     act.resumed act.setVs act.setNnr act.setK act.setT1Initial act.setTransmissionLimit act.setTimeoutType
     act.adOutReady act.bcOutReady act.bdOutReady
     withSettings withVariables withQueues withTold
-keeps Ignore n l w h = h
-keeps Accept n l w h = responds w h response.AcceptDirective
-keeps Reject n l w h = responds w h response.RejectDirective
-keeps Confirm n l w h = responds w h response.ConfirmDirective
-keeps RejectAd n l w h = responds w h response.RejectAdUnit
-keeps AcceptBd n l w h = responds w h response.AcceptBdUnit
-keeps RejectBd n l w h = responds w h response.RejectBdUnit
-keeps AddToWaitQueue n l w h = adds w h l
-keeps LookForFdu n l w h = looks-for-fdu w h
-keeps LookForDirective n l w h = looks-for-directive w h (w .queues .control)
-keeps RemoveAcknowledgedFrames n l w h = removes w h (octet n)
-keeps InitiateAdRetransmission n l w h = retransmits-ad w h
-keeps InitiateBcRetransmission n l w h = retransmits-bc w h
-keeps ReleaseBcFrame n l w h = h
-keeps CancelTimer n l w h = h
-keeps StartTimer n l w h = h
-keeps (Alert r) n l w h = alerts (declaredReason r) w h
-keeps Initialise n l w h = initialises w h
-keeps TransmitUnlock n l w h = transmits-bc w h _ _
-keeps TransmitSetVr n l w h = transmits-bc w h _ _
-keeps TransmitBd n l w h = transmits-bd w h
-keeps (SetSuspendState s) n l w h = h
-keeps Suspend n l w h = h
-keeps Resume n l w h = h
-keeps SetVs n l w h = h
-keeps SetNnr n l w h = h
-keeps SetK n l w h = h
-keeps SetT1Initial n l w h = h
-keeps SetTransmissionLimit n l w h = h
-keeps SetTimeoutType n l w h = h
-keeps AdOutReady n l w h = h
-keeps BcOutReady n l w h = h
-keeps BdOutReady n l w h = h
+keeps Ignore n w h = h
+keeps Accept n w h = responds w h response.AcceptDirective
+keeps Reject n w h = responds w h response.RejectDirective
+keeps Confirm n w h = responds w h response.ConfirmDirective
+keeps RejectAd n w h = responds w h response.RejectAdUnit
+keeps AcceptBd n w h = responds w h response.AcceptBdUnit
+keeps RejectBd n w h = responds w h response.RejectBdUnit
+keeps AddToWaitQueue n w h = adds w h
+keeps LookForFdu n w h = looks-for-fdu w h
+keeps LookForDirective n w h = looks-for-directive w h (w .queues .control)
+keeps RemoveAcknowledgedFrames n w h = removes w h (octet n)
+keeps InitiateAdRetransmission n w h = retransmits-ad w h
+keeps InitiateBcRetransmission n w h = retransmits-bc w h
+keeps ReleaseBcFrame n w h = h
+keeps CancelTimer n w h = h
+keeps StartTimer n w h = h
+keeps (Alert r) n w h = alerts r w h
+keeps Initialise n w h = initialises w h
+keeps TransmitUnlock n w h = transmits-bc w h _ _
+keeps TransmitSetVr n w h = transmits-bc w h _ _
+keeps TransmitBd n w h = transmits-bd w h
+keeps (SetSuspendState s) n w h = h
+keeps Suspend n w h = h
+keeps Resume n w h = h
+keeps SetVs n w h = h
+keeps SetNnr n w h = h
+keeps SetK n w h = h
+keeps SetT1Initial n w h = h
+keeps SetTransmissionLimit n w h = h
+keeps SetTimeoutType n w h = h
+keeps AdOutReady n w h = h
+keeps BcOutReady n w h = h
+keeps BdOutReady n w h = h
 
 -- actions in their order, a cell, a row
-all-keep : (acts : List Action) (n l : ℕ) (w : Work) → Four w → Four (doneAll acts n l w)
+all-keep : (acts : List Action) (n : ℕ) (w : Work) → Four w → Four (doneAll acts n w)
 unfolding doneAll
-all-keep [] n l w h = h
-all-keep (a ∷ more) n l w h = all-keep more n l (done a n l w) (keeps a n l w h)
+all-keep [] n w h = h
+all-keep (a ∷ more) n w h = all-keep more n (done a n w) (keeps a n w h)
 
-cell-keeps : (c : Cell) (n l : ℕ) (w : Work) → Four w → Four (doneCell c n l w)
+cell-keeps : (c : Cell) (n : ℕ) (w : Work) → Four w → Four (doneCell c n w)
 unfolding doneCell act.toState
-cell-keeps NotApplicable n l w h = h
-cell-keeps (cell acts s) n l w h = all-keep acts n l w h
-cell-keeps (ifNotSuspended acts others s) n l w h = by (eqb (w .variables .«suspend_state») 0) where
-  by : (b : Bool) → Four (pick b (doneAll acts n l w) (doneAll others n l w))
-  by true = all-keep acts n l w h
-  by false = all-keep others n l w h
+cell-keeps NotApplicable n w h = h
+cell-keeps (cell acts s) n w h = all-keep acts n w h
+cell-keeps (ifNotSuspended acts others s) n w h = by (eqb (w .variables .«suspend_state») 0) where
+  by : (b : Bool) → Four (pick b (doneAll acts n w) (doneAll others n w))
+  by true = all-keep acts n w h
+  by false = all-keep others n w h
 
-if-keeps : (e : Option FopEvent) (n l : ℕ) (w : Work) → Four w → Four (rowIf e n l w)
+if-keeps : (e : Option FopEvent) (n : ℕ) (w : Work) → Four w → Four (rowIf e n w)
 unfolding rowIf rowOf
-if-keeps none n l w h = h
-if-keeps (some e) n l w h = cell-keeps (cell78 (table78 e) (stateOf (w .state))) n l w h
+if-keeps none n w h = h
+if-keeps (some e) n w h = cell-keeps (cell78 (table78 e) (w .state)) n w h
 
 -- the row of any number, from the start of the work
-pub four : (k n l : ℕ) (s : SenderState) → Four (rowNumbered k n l (begun s))
+pub four : (k n : ℕ) (s : SenderState) → Four (rowNumbered k n (begun s))
 unfolding rowNumbered begun noneTold
-four k n l s = if-keeps (eventOf k) n l (begun s) (length-replicate {A = ℕ} largestResponses 0)
+four k n s = if-keeps (eventOf k) n (begun s) (length-replicate {A = ℕ} largestResponses 0)

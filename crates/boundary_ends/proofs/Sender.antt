@@ -18,16 +18,17 @@ use Rattle.fop.specs.Units.{Own, areOctets}
 use Rattle.fop.specs.Events.{SenderEvent, requestAd, requestBd, tick, lower, directive, wordArrives}
 use Rattle.fop.specs.Events as fop
 use Rattle.fop.specs.Answers.{senderAnswer, senderNext}
-use Rattle.fop_actions.specs.declared.SenderState.{SenderState}
-use Rattle.fop_actions.specs.Limits.{places}
-use Rattle.fop_actions.specs.Start.{begun}
-use Rattle.fop_actions.specs.View.{stateOf, reasonOf, responsesOf, runTold}
-use Rattle.fop_rows.specs.Rows.{eventOf}
-use Rattle.fop_events.specs.declared.Lower.{Lower}
+use Rattle.sender_values.specs.declared.SenderState.{SenderState}
+use Rattle.store.specs.Places.{places}
+use Rattle.sender_values.specs.Start.{begun}
+use Rattle.sender_view.specs.View.{responsesOf}
+use Rattle.sender_table.specs.Rows.{eventOf}
+use Rattle.fop.specs.declared.Lower.{Lower}
 use Rattle.fop_view.specs.State.{Good}
 use Rattle.sender.specs.declared.Answer.{Answer as SenderAnswer}
 use Rattle.sender.specs.declared.Start.{Start}
-use Rattle.sender.specs.State.{wellFormed, restoredOf}
+use Rattle.sender_state.specs.State.{wellFormed}
+use Rattle.sender.specs.Start.{restoredOf}
 use Rattle.sender.specs.Answers.{Step, refusedStep}
 use Rattle.sender.specs.Events.{requestAdOf, requestBdOf, directiveOf, tickOf, lowerLayerOf, controlWordOf}
 use Rattle.sender_octets.specs.Kept.{stateOctets, octetsOf, stateIn, isState, senderIn}
@@ -35,8 +36,8 @@ use Rattle.sender_octets.specs.Answer.{answerOctets, octetsOfAnswer, Told, told
 use Rattle.sender_octets.proofs.Judged.{length-octets}
 use Rattle.sender_octets.proofs.Back.{Sized, read-back, octets-back, state-only}
 use Rattle.sender_octets.proofs.Answered.{Fits, answer-back}
-use Rattle.boundary.specs.Senders.{Called, refusedCall, doneCall, calledBy, requestAdCall, requestBdCall, tickCall, wordCall, lowerCall, directiveCall, narrowNumber, narrowValue}
-use Rattle.ends.specs.Ours.{Held, stepOf, lowerAnswer, heldAfter, handedDown, answerBy, lentOutput, reads}
+use Rattle.boundary_sender.specs.Senders.{Called, refusedCall, doneCall, calledBy, requestAdCall, requestBdCall, tickCall, wordCall, lowerCall, directiveCall, narrowNumber, narrowValue}
+use Rattle.ends.specs.Ours.{Held, stepOf, heldAfter, handedDown, answerBy, lentOutput, reads}
 use Rattle.ends.specs.Does.{Does}
 use Rattle.ends.proofs.Events.{does}
 use Rattle.ends.proofs.Output.{output-content-free}
@@ -96,22 +97,22 @@ module _ (x : Kept) (is : isState (x .state) ≡ true) (output : List ℕ) where
     by true = p
     by false = called-by (λ t. refusedStep 10 t (x .store) output)
 
-  lowers-is : (l : fop.Lower) → lowerCall (x .state) (lowerCalled l) (x .store) output lentAnswer
-      ≡ calledBy (λ t. lowerLayerOf (lowerAnswer l) t (x .store) output) (x .state) (x .store) output lentAnswer
+  lowers-is : (l : Lower) → lowerCall (x .state) (lowerCalled l) (x .store) output lentAnswer
+      ≡ calledBy (λ t. lowerLayerOf l t (x .store) output) (x .state) (x .store) output lentAnswer
   unfolding lowerCall
-  lowers-is fop.adAccept = refl
-  lowers-is fop.adReject = refl
-  lowers-is fop.bcAccept = refl
-  lowers-is fop.bcReject = refl
-  lowers-is fop.bdAccept = refl
-  lowers-is fop.bdReject = refl
+  lowers-is Lower.AdAccept = refl
+  lowers-is Lower.AdReject = refl
+  lowers-is Lower.BcAccept = refl
+  lowers-is Lower.BcReject = refl
+  lowers-is Lower.BdAccept = refl
+  lowers-is Lower.BdReject = refl
 
   pub call-is : (e : SenderEvent) → callOf e output x ≡ doneCall (stepOf e output (heldIn x)) (x .state) lentAnswer
   unfolding callOf stepOf requestAdCall requestBdCall tickCall wordCall directiveCall
   call-is (requestAd o) = as-octets o _ (λ t. requestAdOf t o (x .store) output) (called-by (λ t. requestAdOf t o (x .store) output))
   call-is (requestBd o) = as-octets o _ (λ t. requestBdOf t o (x .store) output) (called-by (λ t. requestBdOf t o (x .store) output))
   call-is tick = called-by (λ t. tickOf t (x .store) output)
-  call-is (lower l) = lowers-is l ∙ called-by (λ t. lowerLayerOf (lowerAnswer l) t (x .store) output)
+  call-is (lower l) = lowers-is l ∙ called-by (λ t. lowerLayerOf l t (x .store) output)
   call-is (directive d v) =
       called-by (λ t. directiveOf (narrowNumber d v) (narrowValue v) t (x .store) output)
       ∙ ap (λ (y : Step). doneCall y (x .state) lentAnswer) (narrowed s (x .store) output d v)
@@ -130,7 +131,7 @@ module _ (x : Kept) (is : isState (x .state) ≡ true) (output : List ℕ) where
   way (requestAd o) = octets-way o _ (asks-ad s (x .store) output o)
   way (requestBd o) = octets-way o _ (asks-bd s (x .store) output o)
   way tick = ticks s (x .store) output
-  way (lower l) = lowers s (x .store) output (lowerAnswer l)
+  way (lower l) = lowers s (x .store) output l
   way (directive d v) = directs s (x .store) output d v
   way (wordArrives o) = octets-way o _ (words s (x .store) output o)
 
@@ -147,14 +148,14 @@ module _ (x : Kept) (is : isState (x .state) ≡ true) (output : List ℕ) where
       ∙ ap (λ (t : Told). record {
         refusal = y .answer .refusal;
         event = eventOf (t .event);
-        state = stateOf (t .state);
+        state = t .state;
         down = handedDown (t .down) (y .output);
         abort = t .abort;
         responses = responsesOf (t .responses);
-        alert = reasonOf (t .alert);
+        alert = t .alert;
         suspended = t .suspended;
-        confirmed = runTold (t .confirmed);
-        denied = runTold (t .denied);
+        confirmed = t .confirmed;
+        denied = t .denied;
       })
       (told-is (y .answer) (fits s (x .store) output y (way e)))
 
@@ -174,7 +175,7 @@ pub record GoodKept (own : Own) (x : Kept) : Type 0 where
   pub good : Good own (stateIn (x .state)) (x .store)
 
 -- every place has a length
-places-all : (own : Own) (s : SenderState) (store : List ℕ) → Good own s store → length (s .queues .lengths) ≡ places
+places-all : (own : Own) (s : SenderState) (store : List ℕ) → Good own s store → length (s .lengths) ≡ places
 unfolding begun
 places-all own s store g = g .formed .all-places
 

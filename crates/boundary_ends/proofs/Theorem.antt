@@ -6,33 +6,33 @@ use mathlib.Core.Path.{_≡_, refl, sym, ap, subst, _∙_}
 use mathlib.Core.Bool.{Bool}
 use mathlib.Core.List.{List, _++_, append-nil}
 use native.Mathlib.Omega.{arith}
-use borrow.Author.Tests.{le-leb}
+use borrow.Author.Tests.{le-leb, eq-eqb}
 use lib.ListN.{length, drop, drop-of-length-le}
 use Rattle.base.specs.Choice.{must}
 use Rattle.base.specs.Limits.{largestSpacecraft, largestChannel}
 use Rattle.memory.specs.Placed.{placed}
 use Rattle.fop.specs.Limits.{largestK, largestNumber, largestTimer, largestTransmissionLimit}
 use Rattle.fop.specs.Events.{directive}
-use Rattle.fop_actions.specs.declared.SenderState.{SenderState}
-use Rattle.fop_actions.specs.Start.{startOf}
+use Rattle.sender_values.specs.declared.SenderState.{SenderState}
+use Rattle.sender_values.specs.Start.{startOf}
 use Rattle.fop_view.specs.State.{Good}
-use Rattle.farm.specs.Kept as farm
-use Rattle.farm.specs.Receiver as farmStart
-use Rattle.farm.specs.declared.Start.{Start as FarmStart}
-use Rattle.farm.specs.declared.Start.the-variants.{Setting as FarmSetting}
-use Rattle.farm.proofs.Restored.{receiver-back}
+use Rattle.receiver_octets.specs.Kept as farm
+use Rattle.receiver.specs.Receiver as farmStart
+use Rattle.receiver.specs.declared.Start.{Start as FarmStart}
+use Rattle.receiver.specs.declared.Start.the-variants.{Setting as FarmSetting}
+use Rattle.receiver_octets.proofs.Restored.{receiver-back}
 use Rattle.session.specs.Ends.{Settings, Within, Tied, startReceiver, tables}
 use Rattle.session.specs.Session.{Event, begins, run}
 use Rattle.session.specs.Claims.{Claims}
 use Rattle.session.proofs.Theorem.{demand3}
 use Rattle.session.proofs.Strong.{stronger-claims}
 use Rattle.sender.specs.declared.Start.{Start}
-use Rattle.sender.specs.Limits.{smallestStore}
+use Rattle.sender_frames.specs.Limits.{smallestStore}
 use Rattle.sender.specs.Start.{startingOf}
 use Rattle.sender_octets.specs.Kept.{stateOctets, octetsOf, isState}
 use Rattle.sender_octets.proofs.Judged.{length-octets}
-use Rattle.boundary.specs.Senders as sender
-use Rattle.boundary.specs.Receivers as receiver
+use Rattle.boundary_sender.specs.Senders as sender
+use Rattle.boundary_receiver.specs.Receivers as receiver
 use Rattle.ends.specs.Ours.{Held, stepOf, heldAfter, lentOutput, senderSettings, freshHeld, startHeld, reads, Begins}
 use Rattle.ends.proofs.Theorem.{fresh-good, fresh-begins, receiver-starts}
 use Rattle.boundary_ends.specs.Called.{Kept, heldIn, BeginsKept, called}
@@ -82,12 +82,13 @@ module _ (set : Settings) (within : Within set) (store : List ℕ) (long : small
         le-leb (set .k) largestK (within .windowMost),
         le-leb 1 (set .t1) (within .timerLeast),
         le-leb 1 (set .limit) (within .limitLeast),
+        eq-eqb (set .timeoutType) 0 (omega (arith, within .timeoutMost)),
         le-leb (set .own .spacecraft) largestSpacecraft (within .spacecraft),
         le-leb (set .own .channel) largestChannel (within .channel),
         le-leb smallestStore (length store) long,
       )
 
-  given : sender.startGiven (set .k) (set .t1) (set .limit) 0 (set .own .spacecraft) (set .own .channel) (set .n) (set .n) (length store)
+  given : sender.startGiven (set .k) (set .t1) (set .limit) (set .timeoutType) (set .own .spacecraft) (set .own .channel) (set .n) (set .n) (length store)
       ≡ record { refusal = 0; sender = record { fop = first } }
   unfolding sender.startGiven
   given =

@@ -1,5 +1,5 @@
 -- Our two ends as callers in C and Rust have them: states as octets that the caller keeps, answers as octets and numbers. Each event of the
--- session is one call, by the definition that the exported function equals (crate boundary, specs/Senders and Receivers).
+-- session is one call, by the definition that the exported function equals (crates boundary_sender and boundary_receiver).
 use Prim.Native.Nat.{ℕ}
 use mathlib.Core.Path.{_≡_}
 use mathlib.Core.Bool.{true}
@@ -11,11 +11,11 @@ use Rattle.base.specs.Choice.{pick}
 use Rattle.base.specs.Outcome.{Outcome, answer, after, numberOf, countOf}
 use Rattle.fop.specs.Units.{areOctets}
 use Rattle.fop.specs.Events.{SenderEvent, requestAd, requestBd, tick, lower, directive, wordArrives}
-use Rattle.fop.specs.Events as fop
+use Rattle.fop.specs.declared.Lower.{Lower}
 use Rattle.fop.specs.Answers.{Answer}
-use Rattle.fop_actions.specs.View.{stateOf, reasonOf, responsesOf, runTold}
-use Rattle.fop_rows.specs.Rows.{eventOf}
-use Rattle.farm.specs.Kept.{octetsOf as receiverOctets}
+use Rattle.sender_view.specs.View.{responsesOf}
+use Rattle.sender_table.specs.Rows.{eventOf}
+use Rattle.receiver_octets.specs.Kept.{octetsOf as receiverOctets}
 use Rattle.farm.specs.declared.Event.{Event as FarmEvent}
 use Rattle.farm.specs.declared.Event.the-variants.{E1, E2, E3, E4, E5, E6, E7, E8, E9, E10, E11}
 use Rattle.session.specs.Receiver.{ReceiverEvent, frameArrives, releaseBuffer, ReceiverAnswer, WordAnswer}
@@ -23,8 +23,8 @@ use Rattle.session.specs.Ends.{Settings, Ends, startReceiver}
 use Rattle.sender.specs.Answers.{refusedStep}
 use Rattle.sender_octets.specs.Kept.{isState, stateIn}
 use Rattle.sender_octets.specs.Answer.{answerOctets, answerIn}
-use Rattle.boundary.specs.Senders.{Called, calledBy, requestAdCall, requestBdCall, tickCall, wordCall, lowerCall, directiveCall}
-use Rattle.boundary.specs.Receivers as receiver
+use Rattle.boundary_sender.specs.Senders.{Called, calledBy, requestAdCall, requestBdCall, tickCall, wordCall, lowerCall, directiveCall}
+use Rattle.boundary_receiver.specs.Receivers as receiver
 use Rattle.ends.specs.Ours.{Held, Begins, handedDown, lentOutput}
 
 -- what a caller keeps of a sender: the octets of its state, and its store
@@ -37,13 +37,13 @@ abbrev pub lentAnswer : List ℕ
 lentAnswer = replicate answerOctets 0
 
 -- the numbers of the lower layer's answers, 1 to 6
-abbrev pub lowerCalled : fop.Lower → ℕ
-lowerCalled fop.adAccept = 1
-lowerCalled fop.adReject = 2
-lowerCalled fop.bcAccept = 3
-lowerCalled fop.bcReject = 4
-lowerCalled fop.bdAccept = 5
-lowerCalled fop.bdReject = 6
+abbrev pub lowerCalled : Lower → ℕ
+lowerCalled Lower.AdAccept = 1
+lowerCalled Lower.AdReject = 2
+lowerCalled Lower.BcAccept = 3
+lowerCalled Lower.BcReject = 4
+lowerCalled Lower.BdAccept = 5
+lowerCalled Lower.BdReject = 6
 
 -- units and words are lent as octets; a list with a number above 255 cannot be lent, and counts as one of a wrong length (10), as it does in
 -- crate fop, specs/Units
@@ -69,14 +69,14 @@ unfoldable pub answerCalled : Called → Answer
 answerCalled called = record {
   refusal = called .number;
   event = eventOf (answerIn (called .answer) .event);
-  state = stateOf (answerIn (called .answer) .state);
+  state = answerIn (called .answer) .state;
   down = handedDown (answerIn (called .answer) .down) (called .output);
   abort = answerIn (called .answer) .abort;
   responses = responsesOf (answerIn (called .answer) .responses);
-  alert = reasonOf (answerIn (called .answer) .alert);
+  alert = answerIn (called .answer) .alert;
   suspended = answerIn (called .answer) .suspended;
-  confirmed = runTold (answerIn (called .answer) .confirmed);
-  denied = runTold (answerIn (called .answer) .denied);
+  confirmed = answerIn (called .answer) .confirmed;
+  denied = answerIn (called .answer) .denied;
 }
 
 -- the event of table 7-9 by the number told; 0 is none

@@ -4,19 +4,19 @@ use mathlib.Core.Path.{_≡_}
 use mathlib.Core.List.{List}
 use lib.ListN.{length}
 use Rattle.fop.specs.Events.{directive}
-use Rattle.farm.specs.Kept as farm
+use Rattle.receiver_octets.specs.Kept as farm
 use Rattle.session.specs.Ends.{Settings, Within, startReceiver}
-use Rattle.sender.specs.Limits.{smallestStore}
+use Rattle.sender_frames.specs.Limits.{smallestStore}
 use Rattle.sender_octets.specs.Kept.{stateOctets}
-use Rattle.boundary.specs.Senders as sender
-use Rattle.boundary.specs.Receivers as receiver
+use Rattle.boundary_sender.specs.Senders as sender
+use Rattle.boundary_receiver.specs.Receivers as receiver
 use Rattle.ends.specs.Ours.{lentOutput}
 use Rattle.boundary_ends.specs.Called.{Kept, callOf, keptAfter, BeginsKept}
 
 -- a new sender with the settings of a session, one number for V(S) and NN(R)
 abbrev pub newSender : Settings → List ℕ → List ℕ → sender.New
 newSender set store buffer =
-    sender.newCall (set .k) (set .t1) (set .limit) 0 (set .own .spacecraft) (set .own .channel) (set .n) (set .n) store buffer
+    sender.newCall (set .k) (set .t1) (set .limit) (set .timeoutType) (set .own .spacecraft) (set .own .channel) (set .n) (set .n) store buffer
 
 -- what its caller keeps
 abbrev pub newKept : Settings → List ℕ → List ℕ → Kept

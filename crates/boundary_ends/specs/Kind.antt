@@ -11,7 +11,7 @@ use Rattle.fop_view.specs.State.{Good}
 use Rattle.session.specs.Frames.{read}
 use Rattle.sender_octets.specs.Kept.{isState, stateIn}
 use Rattle.sender_octets.specs.Answer.{kindNumber, answerIn}
-use Rattle.boundary.specs.Senders.{Called}
+use Rattle.boundary_sender.specs.Senders.{Called}
 use Rattle.boundary_ends.specs.Called.{Kept, callOf, answerCalled}
 
 -- table 6-3 and clause 7.8: the kind of a frame by number: 1 AD, 2 BD, 3 Unlock, 4 Set V(R); 0 for octets that are refused

@@ -6,9 +6,9 @@ use mathlib.Core.Logic.{_≢_}
 use mathlib.Core.Path.{_≡_}
 use mathlib.Core.List.{List}
 use Rattle.base.specs.Outcome.{Outcome, answer, after, numberOf}
-use Rattle.boundary.specs.Senders.{Called, requestAdCall, requestBdCall, tickCall, wordCall, lowerCall, directiveCall}
-use Rattle.boundary.specs.Senders as sender
-use Rattle.boundary.specs.Receivers as receiver
+use Rattle.boundary_sender.specs.Senders.{Called, requestAdCall, requestBdCall, tickCall, wordCall, lowerCall, directiveCall}
+use Rattle.boundary_sender.specs.Senders as sender
+use Rattle.boundary_receiver.specs.Receivers as receiver
 
 -- a call that left what was lent as it was
 pub record Unchanged (call : Called) (oldState oldStore oldOutput : List ℕ) : Type 0 where

@@ -8,7 +8,9 @@ use Rattle.base.specs.Register.{shiftBit, shiftBits, register}
 use Rattle.base.specs.Limits.{largestFrame, largestInput}
 use Rattle.codeblock.specs.Codeblock.{parity, errorControl, codeblockOf, judged}
 use Rattle.randomizer.specs.Randomizer.{nextBit, later, octet, randomized}
-use Rattle.cltu.specs.Cltu.{filled, encoded, informationFor, cltuOf, need, writing, starts, startOf, goodRun, informationIn, correctedIn, readingRun, reading, startSequence}
+use Rattle.start_sequence.specs.StartSequence.{startSequence, starts, startOf}
+use Rattle.encoded_data.specs.EncodedData.{goodRun, informationIn, correctedIn}
+use Rattle.cltu.specs.Cltu.{filled, encoded, informationFor, cltuOf, need, writing, readingRun, readingBy, reading}
 
 -- a frame of eight octets
 abbrev pub frame : List ℕ
@@ -25,7 +27,7 @@ pub readings :
     × (readNumber startSequence 14 ≡ 3)
     × (readNumber (replicate (largestInput + 1) 0) 14 ≡ 10)
     × (readNumber (cltuOf frame) 13 ≡ 11)
-unfolding reading readingRun correctedIn informationIn goodRun startOf starts cltuOf informationFor encoded filled randomized octet later nextBit judged codeblockOf errorControl parity register shiftBits shiftBit
+unfolding readingBy readingRun correctedIn informationIn goodRun startOf starts cltuOf informationFor encoded filled randomized octet later nextBit judged codeblockOf errorControl parity register shiftBits shiftBit
 readings = (refl, refl, refl, refl, refl, refl)
 
 -- length; room

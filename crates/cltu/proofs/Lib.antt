@@ -1,5 +1,5 @@
 pub mod Places
-pub mod Scan
+pub mod Judge
 pub mod Outcomes
 pub mod RoundTrip
 pub mod Sound

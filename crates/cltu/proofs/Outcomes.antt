@@ -1,4 +1,4 @@
--- What writing and reading come to, a law for each of their checks.
+-- What writing and, by any judge of codeblocks, reading come to, a law for each of their checks.
 use mathlib.Core.Path.{_≡_, sym, ap, _∙_}
 use mathlib.Core.List.{List}
 use Prim.Native.Nat.{ℕ, _+_, _-_, _*_, _/_, _<_, _≤_}
@@ -8,9 +8,11 @@ use lib.ListN.{length, take, drop}
 use Rattle.base.specs.Outcome.{Outcome.done, Outcome.refused}
 use Rattle.base.specs.Limits.{largestFrame, largestInput, smallestFrame}
 use Rattle.base.proofs.Lists.{rest}
+use Rattle.codeblock.specs.declared.Judged.{Judged}
 use Rattle.randomizer.specs.Randomizer.{randomized}
-use Rattle.cltu.specs.Cltu.{need, cltuOf, writing, startOf, goodRun, informationIn, readingRun, readingAfter, reading}
-use Rattle.cltu.proofs.Scan.{corrected-none}
+use Rattle.start_sequence.specs.StartSequence.{startOf}
+use Rattle.encoded_data.specs.EncodedData.{goodRun, informationIn, correctedIn}
+use Rattle.cltu.specs.Cltu.{need, cltuOf, writing, readingRun, readingAfter, readingBy}
 
 module _ (frame : List ℕ) (room : ℕ) where
   pub writing-short : length frame < smallestFrame → writing frame room ≡ refused 10 0
@@ -30,46 +32,43 @@ module _ (frame : List ℕ) (room : ℕ) where
   unfolding writing
   writing-done l h r = simp (le-leb smallestFrame (length frame) l, le-leb (length frame) largestFrame h, le-leb (need (length frame)) room r)
 
-module _ (s : List ℕ) (room : ℕ) where
-  pub reading-long : largestInput < length s → reading s room ≡ refused 10 0
-  unfolding reading
+module _ (judge : List ℕ → Judged) (s : List ℕ) (room : ℕ) where
+  pub reading-long : largestInput < length s → readingBy judge s room ≡ refused 10 0
+  unfolding readingBy
   reading-long h = simp (lt-leb (length s) largestInput h)
 
-  pub reading-none : length s ≤ largestInput → length s ≤ startOf s → reading s room ≡ refused 1 (length s)
-  unfolding reading
+  pub reading-none : length s ≤ largestInput → length s ≤ startOf s → readingBy judge s room ≡ refused 1 (length s)
+  unfolding readingBy
   reading-none h l = simp (le-leb (length s) largestInput h, le-ltb (startOf s) (length s) l)
 
   -- past the start sequence, with its offset and the part as the code has them
   pub reading-found : (first : ℕ) → length s ≤ largestInput → first < length s → first ≡ startOf s
-      → reading s room ≡ readingAfter (first + 2) (take (length s - (first + 2)) (drop (first + 2) s)) room
-  unfolding reading
+      → readingBy judge s room ≡ readingAfter judge (first + 2) (take (length s - (first + 2)) (drop (first + 2) s)) room
+  unfolding readingBy
   reading-found first h l e =
       let b : startOf s < length s = omega arith in
       simp (le-leb (length s) largestInput h, lt-ltb (startOf s) (length s) b)
-      (ap (λ (k : ℕ). readingAfter (k + 2) (drop (k + 2) s) room) (sym e)
-      ∙ ap (λ (l : List ℕ). readingAfter (first + 2) l room) (sym (rest s (first + 2))))
+      (ap (λ (k : ℕ). readingAfter judge (k + 2) (drop (k + 2) s) room) (sym e)
+      ∙ ap (λ (l : List ℕ). readingAfter judge (first + 2) l room) (sym (rest s (first + 2))))
 
 -- after the start sequence, with the run of good codeblocks as the code has it
-module _ (offset : ℕ) (s : List ℕ) (room n : ℕ) (e : n ≡ goodRun (length s / 8) s) where
-  run-is : readingAfter offset s room ≡ readingRun offset s room n
-  run-is = ap (readingRun offset s room) (sym e)
+module _ (judge : List ℕ → Judged) (offset : ℕ) (s : List ℕ) (room n : ℕ) (e : n ≡ goodRun judge (length s / 8) s) where
+  run-is : readingAfter judge offset s room ≡ readingRun judge offset s room n
+  run-is = ap (readingRun judge offset s room) (sym e)
 
-  pub after-end : length s / 8 ≤ n → readingAfter offset s room ≡ refused 3 (offset + 8 * n)
+  pub after-end : length s / 8 ≤ n → readingAfter judge offset s room ≡ refused 3 (offset + 8 * n)
   unfolding readingRun
   after-end h = run-is ∙ simp (le-ltb n (length s / 8) h)
 
-  pub after-none : n < length s / 8 → n ≡ 0 → readingAfter offset s room ≡ refused 2 offset
+  pub after-none : n < length s / 8 → n ≡ 0 → readingAfter judge offset s room ≡ refused 2 offset
   unfolding readingRun
   after-none h z = run-is ∙ simp (lt-ltb n (length s / 8) h, le-ltb 0 n (omega arith))
 
-  pub after-room : n < length s / 8 → 0 < n → room < 7 * n → readingAfter offset s room ≡ refused 11 0
+  pub after-room : n < length s / 8 → 0 < n → room < 7 * n → readingAfter judge offset s room ≡ refused 11 0
   unfolding readingRun
   after-room h z r = run-is ∙ simp (lt-ltb n (length s / 8) h, lt-ltb 0 n z, lt-leb (7 * n) room r)
 
   pub after-done : n < length s / 8 → 0 < n → 7 * n ≤ room
-      → readingAfter offset s room ≡ done (randomized 0 (informationIn n s)) (record { place = offset + 8 * n; corrected = 0 })
+      → readingAfter judge offset s room ≡ done (randomized 0 (informationIn judge n s)) (record { place = offset + 8 * n; corrected = correctedIn judge n s })
   unfolding readingRun
-  after-done h z r =
-      run-is
-      ∙ simp (lt-ltb n (length s / 8) h, lt-ltb 0 n z, le-leb (7 * n) room r)
-      (ap (λ (c : ℕ). done (randomized 0 (informationIn n s)) (record { place = offset + 8 * n; corrected = c })) (corrected-none (length s / 8) n s (omega arith)))
+  after-done h z r = run-is ∙ simp (lt-ltb n (length s / 8) h, lt-ltb 0 n z, le-leb (7 * n) room r)

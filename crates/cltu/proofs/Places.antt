@@ -14,7 +14,8 @@ use Rattle.codeblock.specs.Codeblock.{codeblockOf, errorControl}
 use Rattle.codeblock.proofs.Codeblock.{length-codeblock}
 use Rattle.randomizer.specs.Randomizer.{octet, randomized}
 use Rattle.randomizer.proofs.Randomized.{randomized-at, length-randomized}
-use Rattle.cltu.specs.Cltu.{codeblocks, need, fillOctet, filled, encoded, informationFor, cltuOf, startSequence, tailSequence}
+use Rattle.start_sequence.specs.StartSequence.{startSequence}
+use Rattle.cltu.specs.Cltu.{codeblocks, need, fillOctet, filled, encoded, informationFor, cltuOf, tailSequence}
 
 pub length-filled : (frame : List ℕ) → length (filled frame) ≡ 7 * codeblocks (length frame)
 unfolding filled

@@ -10,7 +10,8 @@ use Rattle.base.proofs.Tests.{apart}
 use Rattle.base.proofs.Lists.{same-not}
 use Rattle.codeblock.specs.Codeblock.{parity, errorControl, codeblockOf, judged, isGood}
 use Rattle.randomizer.specs.Randomizer.{nextBit, later, octet, randomized}
-use Rattle.cltu.specs.Cltu.{codeblocks, filled, encoded, informationFor, cltuOf, startSequence, tailSequence, Found, reading}
+use Rattle.start_sequence.specs.StartSequence.{startSequence}
+use Rattle.cltu.specs.Cltu.{codeblocks, filled, encoded, informationFor, cltuOf, tailSequence, Found, reading}
 use Rattle.cltu.proofs.Examples.{frame, readings}
 
 -- a reader that refuses all

@@ -1,19 +1,16 @@
 -- Clauses 8.3, 8.6 and 8.7, and document 01, "Codeblock and CLTU": the CLTU of a frame, and the reading of a CLTU.
 use Prim.Native.Nat.{ℕ, zero, suc, _+_, _-_, _*_, _/_}
-use mathlib.Core.Bool.{Bool}
 use mathlib.Core.List.{List, [], _∷_, _++_}
 use lib.Dec.{ltb, leb}
 use lib.ListN.{length, take, drop, replicate}
-use Rattle.base.specs.Choice.{pick, must}
+use Rattle.base.specs.Choice.{must}
 use Rattle.base.specs.Limits.{smallestFrame, largestFrame, largestInput}
-use Rattle.base.specs.Octets.{same}
 use Rattle.base.specs.Outcome.{Outcome, Outcome.done, Outcome.refused}
-use Rattle.codeblock.specs.Codeblock.{codeblockOf, judged, isGood, informationOf, correctedOf}
+use Rattle.codeblock.specs.Codeblock.{codeblockOf, judged}
+use Rattle.codeblock.specs.declared.Judged.{Judged}
+use Rattle.encoded_data.specs.EncodedData.{goodRun, informationIn, correctedIn}
 use Rattle.randomizer.specs.Randomizer.{randomized}
-
--- clause 8.3, Start Sequence
-abbrev pub startSequence : List ℕ
-startSequence = 0xEB ∷ 0x90 ∷ []
+use Rattle.start_sequence.specs.StartSequence.{startSequence, startOf}
 
 -- clause 8.3, Tail Sequence
 abbrev pub tailSequence : List ℕ
@@ -56,51 +53,33 @@ writing frame room =
     (must (leb (need (length frame)) room) (refused 11 0)
     (done (cltuOf frame) tt)))
 
--- a start sequence stands at the front
-unfoldable pub starts : List ℕ → Bool
-starts input = same (take 2 input) startSequence
-
--- document 01: the offset of the first start sequence at an octet boundary, or the length where there is none
-unfoldable pub startOf : List ℕ → ℕ
-startOf [] = 0
-startOf (x ∷ xs) = pick (starts (x ∷ xs)) 0 (suc (startOf xs))
-
--- clause 8.7, state S3: how many of n codeblocks are good, from the front up to the first bad one
-unfoldable pub goodRun : ℕ → List ℕ → ℕ
-goodRun zero input = 0
-goodRun (suc n) input = pick (isGood (judged (take 8 input))) (suc (goodRun n (drop 8 input))) 0
-
--- the information of the first n codeblocks
-unfoldable pub informationIn : ℕ → List ℕ → List ℕ
-informationIn zero input = []
-informationIn (suc n) input = informationOf (judged (take 8 input)) ++ informationIn n (drop 8 input)
-
--- how many of the first n codeblocks were corrected, a bit in each
-unfoldable pub correctedIn : ℕ → List ℕ → ℕ
-correctedIn zero input = 0
-correctedIn (suc n) input = correctedOf (judged (take 8 input)) + correctedIn n (drop 8 input)
-
 -- what a reading tells besides the octets: the offset of the bad codeblock, and how many codeblocks were corrected
 pub record Found : Type 0 where
   pub place : ℕ
   pub corrected : ℕ
 
--- reading on after the start sequence, where the rest of the input stands at an offset and n of its codeblocks are good:
--- 3 where none of its whole codeblocks is bad, 2 where the first is, then 11
-unfoldable pub readingRun : ℕ → List ℕ → ℕ → ℕ → Outcome Found
-readingRun offset input room n =
-    must (ltb n (length input / 8)) (refused 3 (offset + 8 * n))
-    (must (ltb 0 n) (refused 2 offset)
-    (must (leb (7 * n) room) (refused 11 0)
-    (done (randomized 0 (informationIn n input)) (record { place = offset + 8 * n; corrected = correctedIn n input }))))
+-- clause 8.7, over any judge of codeblocks
+module _ (judge : List ℕ → Judged) where
+  -- reading on after the start sequence, where the rest of the input stands at an offset and n of its codeblocks are good:
+  -- 3 where none of its whole codeblocks is bad, 2 where the first is, then 11
+  unfoldable pub readingRun : ℕ → List ℕ → ℕ → ℕ → Outcome Found
+  readingRun offset input room n =
+      must (ltb n (length input / 8)) (refused 3 (offset + 8 * n))
+      (must (ltb 0 n) (refused 2 offset)
+      (must (leb (7 * n) room) (refused 11 0)
+      (done (randomized 0 (informationIn judge n input)) (record { place = offset + 8 * n; corrected = correctedIn judge n input }))))
 
--- reading on, with the count of good codeblocks that the rest has
-abbrev pub readingAfter : ℕ → List ℕ → ℕ → Outcome Found
-readingAfter offset input room = readingRun offset input room (goodRun (length input / 8) input)
+  -- reading on, with the count of good codeblocks that the rest has
+  abbrev pub readingAfter : ℕ → List ℕ → ℕ → Outcome Found
+  readingAfter offset input room = readingRun offset input room (goodRun judge (length input / 8) input)
 
--- document 01: reading a CLTU out of lent input into a room of so many octets: 10, 1, then 2 or 3, then 11
-unfoldable pub reading : List ℕ → ℕ → Outcome Found
-reading input room =
-    must (leb (length input) largestInput) (refused 10 0)
-    (must (ltb (startOf input) (length input)) (refused 1 (length input))
-    (readingAfter (startOf input + 2) (drop (startOf input + 2) input) room))
+  -- document 01: reading a CLTU out of lent input into a room of so many octets: 10, 1, then 2 or 3, then 11
+  unfoldable pub readingBy : List ℕ → ℕ → Outcome Found
+  readingBy input room =
+      must (leb (length input) largestInput) (refused 10 0)
+      (must (ltb (startOf input) (length input)) (refused 1 (length input))
+      (readingAfter (startOf input + 2) (drop (startOf input + 2) input) room))
+
+-- document 01: reading by the judge that detects errors and corrects none
+abbrev pub reading : List ℕ → ℕ → Outcome Found
+reading = readingBy judged

@@ -2,7 +2,7 @@
 use mathlib.Core.Path.{_≡_, refl, sym, ap, _∙_}
 use mathlib.Core.Bool.{Bool, true, false}
 use mathlib.Core.List.{List, [], _∷_, _++_}
-use Prim.Native.Nat.{ℕ, _+_, _/_, _%_}
+use Prim.Native.Nat.{ℕ, _+_, _/_, _%_, _≤_}
 use native.Mathlib.Omega.{arith}
 use borrow.Author.Tests.{eq-eqb, ne-eqb, eqb-true, eqb-false}
 use lib.Dec.{eqb}
@@ -11,8 +11,9 @@ use lib.Seq.{take-at, drop-cons}
 use Rattle.base.specs.Choice.{pick}
 use Rattle.base.specs.Octets.{same}
 use Rattle.base.proofs.Tests.{apart, not-so}
-use Rattle.base.proofs.Lists.{same-equal, same-self, same-last}
-use Rattle.codeblock.specs.Codeblock.{errorControl, codeblockOf, Judged.good, Judged.bad, judged, isGood}
+use Rattle.base.proofs.Lists.{same-equal, same-self, same-last, take-next}
+use Rattle.codeblock.specs.declared.Judged.{Judged}
+use Rattle.codeblock.specs.Codeblock.{errorControl, codeblockOf, good, bad, judged, isGood}
 
 pub length-codeblock : (information : List ℕ) → length (codeblockOf information) ≡ length information + 1
 unfolding codeblockOf
@@ -36,6 +37,14 @@ by-good : (b : Bool) (information : List ℕ) → isGood (pick b (good informati
 by-good true information e = refl
 by-good false information e = absurd (apart e)
 
+by-bad : (b : Bool) (information : List ℕ) → isGood (pick b (good information 0) bad) ≡ false → pick b (good information 0) bad ≡ bad
+by-bad true information e = absurd (apart (sym e))
+by-bad false information e = refl
+
+none-by : (b : Bool) (information : List ℕ) → pick b (good information 0) bad .corrected ≡ 0
+none-by true information = refl
+none-by false information = refl
+
 -- what is good is the encoding of its first seven octets
 pub good-is : (block : List ℕ) → isGood (judged block) ≡ true → block ≡ codeblockOf (take 7 block)
 unfolding judged
@@ -49,6 +58,36 @@ pub good-length : (block : List ℕ) → isGood (judged block) ≡ true → leng
 good-length block e =
     let l : length block ≡ length (take 7 block) + 1 = ap length (good-is block e) ∙ length-codeblock (take 7 block) in
     omega (arith, simp length-take at l)
+
+-- a judgement is of one of the two kinds
+pub bad-judged : (block : List ℕ) → isGood (judged block) ≡ false → judged block ≡ bad
+unfolding judged
+bad-judged block e = by-bad (same block (codeblockOf (take 7 block))) (take 7 block) e
+
+-- nothing is corrected
+pub corrects-none : (block : List ℕ) → judged block .corrected ≡ 0
+unfolding judged
+corrects-none block = none-by (same block (codeblockOf (take 7 block))) (take 7 block)
+
+-- at most one bit is corrected
+pub corrects-few : (block : List ℕ) → judged block .corrected ≤ 1
+corrects-few block = omega (arith, corrects-none block)
+
+-- the information of a good codeblock has seven octets
+pub good-seven : (block : List ℕ) → isGood (judged block) ≡ true → length (judged block .information) ≡ 7
+good-seven block e = ap (λ (j : Judged). length (j .information)) (good-judged block e) ∙ simp length-take (omega (arith, good-length block e))
+
+-- the first seven of eight octets
+pub first-seven : (block : List ℕ) → length block ≡ 8
+    → take 7 block ≡ getD block 0 0 ∷ getD block 1 0 ∷ getD block 2 0 ∷ getD block 3 0 ∷ getD block 4 0 ∷ getD block 5 0 ∷ getD block 6 0 ∷ []
+first-seven s l =
+    take-next s 6 0 (omega arith)
+    ∙ ap (λ (t : List ℕ). getD s 0 0 ∷ t) (take-next s 5 1 (omega arith)
+    ∙ ap (λ (t : List ℕ). getD s 1 0 ∷ t) (take-next s 4 2 (omega arith)
+    ∙ ap (λ (t : List ℕ). getD s 2 0 ∷ t) (take-next s 3 3 (omega arith)
+    ∙ ap (λ (t : List ℕ). getD s 3 0 ∷ t) (take-next s 2 4 (omega arith)
+    ∙ ap (λ (t : List ℕ). getD s 4 0 ∷ t) (take-next s 1 5 (omega arith)
+    ∙ ap (λ (t : List ℕ). getD s 5 0 ∷ t) (take-next s 0 6 (omega arith)))))))
 
 -- other lengths than eight are bad
 pub judged-length : (block : List ℕ) → (length block ≡ 8 → ⊥) → isGood (judged block) ≡ false

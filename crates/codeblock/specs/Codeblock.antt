@@ -3,10 +3,11 @@ use Prim.Native.Nat.{ℕ, _+_, _*_}
 use mathlib.Core.Bool.{Bool, true, false}
 use mathlib.Core.List.{List, [], _∷_, _++_}
 use lib.Bits.{bitXor}
-use lib.ListN.{take}
+use lib.ListN.{take, replicate}
 use Rattle.base.specs.Choice.{pick}
 use Rattle.base.specs.Octets.{same}
 use Rattle.base.specs.Register.{register}
+use Rattle.codeblock.specs.declared.Judged.{Judged}
 
 -- clause 8.5: g(x) = x^7 + x^6 + x^2 + 1, less its highest term
 abbrev pub generator : ℕ
@@ -29,10 +30,13 @@ errorControl information = bitXor (parity information) 0b111_1111 * 2 + fillerBi
 unfoldable pub codeblockOf : List ℕ → List ℕ
 codeblockOf information = information ++ (errorControl information ∷ [])
 
--- a received codeblock: good, with its information and how many of its bits were corrected (at most one), or bad
-pub data Judged : Type 0 where
-  good : List ℕ → ℕ → Judged
-  bad : Judged
+-- a received codeblock that is good, with its information and how many of its bits were corrected (at most one)
+abbrev pub good : List ℕ → ℕ → Judged
+good information corrected = record { good = true; information = information; corrected = corrected }
+
+-- and one that is bad: nothing of it is used
+abbrev pub bad : Judged
+bad = record { good = false; information = replicate 7 0; corrected = 0 }
 
 -- document 01, "Codeblock and CLTU": good exactly when all 64 bits equal the encoding of the first 56; nothing is corrected
 unfoldable pub judged : List ℕ → Judged
@@ -40,15 +44,4 @@ judged block = pick (same block (codeblockOf (take 7 block))) (good (take 7 bloc
 
 -- clause 8.7, state S3: a codeblock is good or bad
 abbrev pub isGood : Judged → Bool
-isGood (good information corrected) = true
-isGood bad = false
-
--- its information, none where it is bad
-abbrev pub informationOf : Judged → List ℕ
-informationOf (good information corrected) = information
-informationOf bad = []
-
--- how many of its bits were corrected
-abbrev pub correctedOf : Judged → ℕ
-correctedOf (good information corrected) = corrected
-correctedOf bad = 0
+isGood j = j .good

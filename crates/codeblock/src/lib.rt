@@ -1,4 +1,4 @@
-// Clauses 8.2 and 8.5: the BCH codeblock. Its error control octet, and the test of a received codeblock.
+// Clauses 8.2 and 8.5: the BCH codeblock. Its error control octet, and the judgement of a received codeblock.
 ghost use mathlib.Core.Path.{_≡_};
 ghost use Prim.Native.Nat.{_<_};
 ghost use Rattle.base.specs.Register.{shiftBit, shiftBits};
@@ -6,6 +6,13 @@ ghost use Rattle.codeblock.specs.Codeblock.{generator, errorControl, jud
 
 // The generator x^7 + x^6 + x^2 + 1, less its highest term.
 const GENERATOR: u8 = 0x45;
+
+// A received codeblock: whether it is good, its information, and how many of its bits were corrected (at most one).
+pub struct Judged {
+    pub good: bool,
+    pub information: [u8; 7],
+    pub corrected: u8,
+}
 
 // One bit into the register of seven bits.
 fn shift_bit(register: u8, bit: u8) -> u8
@@ -45,16 +52,46 @@ pub fn error_control(information: &[u8]) -> u8
     (r ^ 0x7F) * 2
 }
 
-// Whether the octets are a good codeblock: eight of them, the parity bits as the information gives them, the filler bit zero.
-pub fn is_good(block: &[u8]) -> bool
-    ensures { λ r. ⌜ r ≡ isGood (judged (now (block .entry))) ⌝ }
+// The judgement of a codeblock that is bad: nothing of it is used.
+const BAD: Judged = Judged {
+    good: false,
+    information: [0; 7],
+    corrected: 0,
+};
+
+// Judges octets as a codeblock: good where there are eight, the parity bits as the information gives them, the filler bit zero.
+pub fn judge(block: &[u8]) -> Judged
+    ensures { λ r. ⌜ r ≡ judged (now (block .entry)) ⌝ }
 {
     if block.len() != 8 {
-        return false;
+        return BAD;
     }
     let control = error_control(&block[..7]);
     if block[7] / 2 != control / 2 {
-        return false;
+        return BAD;
     }
-    block[7] % 2 == 0
+    if block[7] % 2 != 0 {
+        return BAD;
+    }
+    Judged {
+        good: true,
+        information: [
+            block[0],
+            block[1],
+            block[2],
+            block[3],
+            block[4],
+            block[5],
+            block[6],
+        ],
+        corrected: 0,
+    }
+}
+
+// Whether the octets are a good codeblock.
+pub fn is_good(block: &[u8]) -> bool
+    ensures { λ r. ⌜ r ≡ isGood (judged (now (block .entry))) ⌝ }
+{
+    let j = judge(block);
+    j.good
 }

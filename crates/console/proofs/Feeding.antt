@@ -12,11 +12,12 @@ use Rattle.base.specs.Outcome.{Outcome.done, Outcome.refused}
 use Rattle.memory.specs.Placed.{placed}
 use Rattle.memory.proofs.Laws.{placed-fits}
 use Rattle.text.specs.Fields.{newline}
-use Rattle.console.specs.declared.Turn.{Turn}
-use Rattle.console.specs.Console.{textOf}
-use Rattle.console.specs.Feed.{Progress, progress, keptWith, endOf, octetNext, octetText, chunkNext, chunkText, lastText, rowRoom, feeding, fedNext}
+use Rattle.program_turns.specs.declared.Turn.{Turn}
+use Rattle.program_rows.specs.Rows.{textOf}
+use Rattle.program_rows.specs.Rows.{rowRoom}
+use Rattle.console.specs.Feed.{Progress, progress, keptWith, endOf, octetNext, octetText, chunkNext, chunkText, lastText, feeding, fedNext}
 use Rattle.console.specs.Steps.{Stepped, Ran}
-use Rattle.console.proofs.Placing.{Front, behind, placed-front}
+use Rattle.program_rows.proofs.Placing.{Front, behind, placed-front}
 
 -- octets kept in an array of 64
 module _ (kept : List ℕ) (len octet : ℕ) (all : length kept ≡ 64) where

@@ -12,12 +12,14 @@ use lib.Seq.{take-all, take-append-le, length-take-le}
 use Rattle.text.specs.Fields.{newline, before, linesOf}
 use Rattle.text.proofs.Decimals.{order}
 use Rattle.base.specs.Choice.{pick}
-use Rattle.console.specs.declared.Line.{Line}
-use Rattle.console.specs.declared.Session.{Session}
-use Rattle.console.specs.Line.{lineOf}
-use Rattle.console.specs.Console.{turnOf, textOf, headerText, writtenFor, outputOf}
+use Rattle.program_lines.specs.declared.Line.{Line}
+use Rattle.program_turns.specs.declared.Session.{Session}
+use Rattle.program_lines.specs.Line.{lineOf}
+use Rattle.program_rows.specs.Rows.{textOf, headerText}
+use Rattle.program_turns.specs.Turns.{turnOf}
+use Rattle.console.specs.Console.{writtenFor, outputOf}
 use Rattle.console.specs.Feed.{Progress, progress, atStart, keptWith, endOf, octetNext, octetText, chunkNext, chunkText, lastText, fedText, joinedChunks, programText}
-use Rattle.console.proofs.Words.{line-long}
+use Rattle.program_lines.proofs.Words.{line-long}
 use Rattle.console.proofs.Feeding.{next-append, text-append, last-none, last-some}
 
 -- of a line 64 octets are enough

@@ -6,11 +6,12 @@ use lib.ListN.{length, take}
 use Rattle.base.specs.Choice.{pick, must}
 use Rattle.base.specs.Outcome.{Outcome, Outcome.done, Outcome.refused}
 use Rattle.text.specs.Fields.{newline}
-use Rattle.console.specs.Line.{lineOf}
-use Rattle.console.specs.Console.{turnOf, textOf, headerText}
-use Rattle.console.specs.declared.Session.{Session}
-use Rattle.console.specs.declared.Session.the-variants.{Fresh}
-use Rattle.console.specs.declared.Turn.{Turn}
+use Rattle.program_lines.specs.Line.{lineOf}
+use Rattle.program_rows.specs.Rows.{textOf, headerText, rowRoom}
+use Rattle.program_turns.specs.Turns.{turnOf}
+use Rattle.program_turns.specs.declared.Session.{Session}
+use Rattle.program_turns.specs.declared.Session.the-variants.{Fresh}
+use Rattle.program_turns.specs.declared.Turn.{Turn}
 use Rattle.console.specs.declared.Console.{Console}
 
 -- the session, and the octets of the line under way
@@ -64,11 +65,7 @@ chunkText p (octet ∷ chunk) = octetText p octet ++ chunkText (octetNext p octe
 unfoldable pub lastText : Progress → List ℕ
 lastText p = pick (eqb (length (p .line)) 0) [] (textOf (endOf p .output))
 
--- a row has 20 octets at the most, so 20 for each octet of a chunk are room enough; with less nothing is done
-abbrev pub rowRoom : ℕ
-rowRoom = 20
-
--- feeding a chunk: 11 where the room is short
+-- feeding a chunk: a row's room for each octet of it is room enough; 11 where the room is less
 unfoldable pub feeding : Progress → List ℕ → ℕ → Outcome (Unit {0})
 feeding p chunk room = must (leb (length chunk * rowRoom) room) (refused 11 0) (done (chunkText p chunk) tt)
 

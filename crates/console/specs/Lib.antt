@@ -1,4 +1,3 @@
-pub mod Line
 pub mod Console
 pub mod Feed
 pub mod Steps

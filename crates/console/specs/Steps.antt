@@ -4,7 +4,8 @@ use mathlib.Core.Path.{_≡_}
 use mathlib.Core.List.{List}
 use lib.ListN.{length}
 use Rattle.memory.specs.Placed.{placed}
-use Rattle.console.specs.Feed.{Progress, octetNext, octetText, chunkNext, chunkText, rowRoom}
+use Rattle.program_rows.specs.Rows.{rowRoom}
+use Rattle.console.specs.Feed.{Progress, octetNext, octetText, chunkNext, chunkText}
 
 -- one octet taken, its text at a place of the output
 pub record Stepped (p : Progress) (octet : ℕ) (old : List ℕ) (at : ℕ) (next : Progress) (out : List ℕ) (behind : ℕ) : Type 0 where

@@ -1,11 +1,9 @@
 // Document 01, "The program": lines of events read out of octets, and a row of octets written for each.
-pub mod lines;
-pub mod rows;
-pub mod turns;
-
-use farm::Event;
-use farm::Receiver;
-use farm::Variables;
+use program_lines::Line;
+use program_rows::Output;
+use program_rows::ROW_ROOM;
+use program_turns::Session;
+use program_turns::Turn;
 use text::NEWLINE;
 use text::NumberWritten;
 ghost use mathlib.Core.Path.{_≡_};
@@ -14,46 +12,12 @@ ghost use lib.ListN.{length};
 ghost use Rattle.base.specs.Outcome.{answer, after};
 ghost use Rattle.memory.specs.Placed.{placed};
 ghost use Rattle.text.specs.Answers.{written, writtenAnswer};
-ghost use Rattle.console.specs.Console.{textOf};
-ghost use Rattle.console.specs.Feed.{progress, progressOf, atStart, keptWith, endOf, lastText, rowRoom, feeding, fedNext};
+ghost use Rattle.program_rows.specs.Rows.{textOf, rowRoom};
+ghost use Rattle.console.specs.Feed.{progress, progressOf, atStart, keptWith, endOf, lastText, feeding, fedNext};
 ghost use Rattle.console.specs.Steps.{Stepped, Ran};
-
-// A row's octets at the most.
-pub const ROW_ROOM: usize = 20;
 
 // Octets of a line that are kept: one more than a line may have, so that a longer one still shows.
 const MOST_KEPT: usize = 64;
-
-// What a line says.
-pub enum Line {
-    Set(u8, u8, u8),
-    Ad(u8),
-    Bd,
-    Unlock,
-    SetVr(u8),
-    Bad,
-    Free,
-    Malformed,
-}
-
-// Before the first line, behind a good SET, or behind another first line.
-pub enum Session {
-    Fresh,
-    Running(Receiver),
-    Refusing,
-}
-
-// What is written for a line.
-pub enum Output {
-    Nothing,
-    Refused,
-    Row(Event, Variables),
-}
-
-pub struct Turn {
-    pub session: Session,
-    pub output: Output,
-}
 
 // The session, and the line under way, of which len octets are kept. No other crate can write one.
 pub struct Console {

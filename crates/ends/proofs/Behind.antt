@@ -1,20 +1,18 @@
--- What is lent behind the last place of the store is never touched: a step leaves the store as it was, moves its places down, or puts the unit
--- offered behind the units sent, of which there are no more than K.
-use Prim.Native.Nat.{ℕ, _*_}
+-- What is lent behind the last place of the store is never touched: a step leaves the store as it was, moves units down, or puts the unit offered
+-- behind the units sent, of which there are no more than K.
+use Prim.Native.Nat.{ℕ}
 use mathlib.Core.Path.{_≡_, refl, ap, _∙_}
-use mathlib.Core.List.{List}
+use mathlib.Core.List.{List, []}
 use native.Mathlib.Omega.{arith}
 use lib.ListN.{length, drop}
-use Rattle.base.specs.Limits.{largestUnit}
 use Rattle.base.specs.Outcome as outcome
-use Rattle.memory.proofs.Laws.{placed-rest}
-use Rattle.store.proofs.Within.{within-behind}
+use Rattle.store.proofs.Laws.{put-rest, without-behind}
 use Rattle.fop.specs.Units.{Own}
 use Rattle.fop.specs.Events.{SenderEvent}
-use Rattle.fop_actions.specs.Start.{begun}
+use Rattle.sender_values.specs.Start.{begun}
 use Rattle.fop_view.specs.State.{Good}
 use Rattle.sender.specs.Answers.{stored}
-use Rattle.sender.specs.Limits.{smallestStore}
+use Rattle.sender_frames.specs.Limits.{smallestStore}
 use Rattle.ends.specs.Ours.{Held, stepOf}
 use Rattle.ends.proofs.Steps.{Left, same, fewer, more, concluded}
 
@@ -22,9 +20,9 @@ module _ (own : Own) (x : Held) (good : Good own (x .sender .fop) (x .store)) wh
   left-behind : (new : List ℕ) → Left x new → drop smallestStore new ≡ drop smallestStore (x .store)
   unfolding begun
   left-behind new same = refl
-  left-behind new (fewer count) = within-behind smallestStore (largestUnit * count) (x .store) (good .formed .room)
-  left-behind new (more o m) =
-      placed-rest smallestStore (largestUnit * x .sender .fop .queues .sent) o (x .store) (omega (arith, m, good .formed .sent-most)) (good .formed .room)
+  left-behind new (fewer count staying few) =
+      without-behind (x .sender .fop .lengths) count (x .store) (good .formed .units) staying smallestStore (omega (arith, few, good .formed .sent-most))
+  left-behind new (more o m) = put-rest [] (x .store) o (x .sender .fop .queues .sent) smallestStore (omega (arith, m, good .formed .sent-most))
 
   by-writing : (a : outcome.Answer (Unit {0})) (new : List ℕ) → Left x new → drop smallestStore (stored a new (x .store)) ≡ drop smallestStore (x .store)
   by-writing (outcome.Answer.done count told) new left = left-behind new left

@@ -13,18 +13,17 @@ use Rattle.fop.specs.Table.{InitiateAdRetransmission, InitiateBcRetransmission,
 use Rattle.fop.specs.Table.{SetSuspendState, Suspend, Resume, SetVs, SetNnr, SetK, SetT1Initial, SetTransmissionLimit, SetTimeoutType, AdOutReady, BcOutReady, BdOutReady}
 use Rattle.fop.specs.Table.{E1, E2, E3, E4, E5, E6, E7, E8, E9, E10, E11, E12, E13, E14, E15, E16, E17, E18, E19, E20, E21, E22, E23, E24, E25, E26, E27, E28, E29, E30, E31, E32, E33, E34}
 use Rattle.fop.specs.Table.{E35, E36, E37, E38, E39, E40, E41, E42, E43, E44, E45, E46, E101, E102, E103, E104}
-use Rattle.fop_actions.specs.declared.Control.{Control}
-use Rattle.fop_actions.specs.declared.Control.the-variants as control
-use Rattle.fop_actions.specs.declared.Handed.{Handed}
-use Rattle.fop_actions.specs.declared.Handed.the-variants as handed
-use Rattle.fop_actions.specs.declared.Response.the-variants as response
-use Rattle.fop_actions.specs.declared.SenderState.{SenderState}
-use Rattle.fop_actions.specs.declared.Work.{Work}
-use Rattle.fop_actions.specs.Actions as act
-use Rattle.fop_actions.specs.Parts.{withSettings, withVariables, withQueues, withTold}
-use Rattle.fop_actions.specs.Start.{begun, noneTold}
-use Rattle.fop_actions.specs.View.{stateOf}
-use Rattle.fop_rows.specs.Rows.{done, doneAll, doneCell, rowOf}
+use Rattle.sender_values.specs.declared.Control.{Control}
+use Rattle.sender_values.specs.declared.Control.the-variants as control
+use Rattle.sender_values.specs.declared.Handed.{Handed}
+use Rattle.sender_values.specs.declared.Handed.the-variants as handed
+use Rattle.fop.specs.declared.Response.the-variants as response
+use Rattle.sender_values.specs.declared.SenderState.{SenderState}
+use Rattle.sender_values.specs.declared.Work.{Work}
+use Rattle.sender_values.specs.Actions as act
+use Rattle.sender_values.specs.Parts.{withSettings, withVariables, withQueues, withTold}
+use Rattle.sender_values.specs.Start.{begun, noneTold}
+use Rattle.sender_table.specs.Rows.{done, doneAll, doneCell, rowOf}
 use Rattle.fop_events.specs.Events.{eventNumber}
 use Rattle.fop_view.proofs.Allowed.{every, every-in}
 use Rattle.session.proofs.Choices.{by-pick}
@@ -87,41 +86,41 @@ purged : (w : Work) → Unbypassed w → Unbypassed (act.purgeWaitQueue (act.pur
 purged w h = wait-purged (act.purgeSentQueue w) (sent-purged w h)
 
 -- any action but Transmit type-BD frame, each with the proof that it hands no type-BD frame down
-unfoldable other : (a : Action) → Option ((n l : ℕ) (w : Work) → Unbypassed w → Unbypassed (done a n l w))
+unfoldable other : (a : Action) → Option ((n : ℕ) (w : Work) → Unbypassed w → Unbypassed (done a n w))
 unfolding done act.respond act.addToWaitQueue act.removeAcknowledgedFrames act.initiateAdRetransmission act.initiateBcRetransmission act.again act.abort act.releaseBcFrame act.holdControl act.cancelTimer act.startTimer act.alert act.notify act.initialise act.countOne act.transmitUnlock act.transmitSetVr act.transmitBcFrame act.handDown act.setSuspendState act.suspend act.resumed act.setVs act.setNnr act.setK act.setT1Initial act.setTransmissionLimit act.setTimeoutType act.adOutReady act.bcOutReady act.bdOutReady withSettings withVariables withQueues withTold
-other Ignore = some (λ n l w h. h)
-other Accept = some (λ n l w h. h)
-other Reject = some (λ n l w h. h)
-other Confirm = some (λ n l w h. h)
-other RejectAd = some (λ n l w h. h)
-other AcceptBd = some (λ n l w h. h)
-other RejectBd = some (λ n l w h. h)
-other AddToWaitQueue = some (λ n l w h. h)
-other LookForFdu = some (λ n l w h. looked w h)
-other LookForDirective = some (λ n l w h. directed w h (w .queues .control))
-other RemoveAcknowledgedFrames = some (λ n l w h. h)
-other InitiateAdRetransmission = some (λ n l w h. h)
-other InitiateBcRetransmission = some (λ n l w h. h)
-other ReleaseBcFrame = some (λ n l w h. h)
-other CancelTimer = some (λ n l w h. h)
-other StartTimer = some (λ n l w h. h)
-other (Alert r) = some (λ n l w h. purged (act.cancelTimer w) h)
-other Initialise = some (λ n l w h. purged w h)
-other TransmitUnlock = some (λ n l w h. refl)
-other TransmitSetVr = some (λ n l w h. refl)
+other Ignore = some (λ n w h. h)
+other Accept = some (λ n w h. h)
+other Reject = some (λ n w h. h)
+other Confirm = some (λ n w h. h)
+other RejectAd = some (λ n w h. h)
+other AcceptBd = some (λ n w h. h)
+other RejectBd = some (λ n w h. h)
+other AddToWaitQueue = some (λ n w h. h)
+other LookForFdu = some (λ n w h. looked w h)
+other LookForDirective = some (λ n w h. directed w h (w .queues .control))
+other RemoveAcknowledgedFrames = some (λ n w h. h)
+other InitiateAdRetransmission = some (λ n w h. h)
+other InitiateBcRetransmission = some (λ n w h. h)
+other ReleaseBcFrame = some (λ n w h. h)
+other CancelTimer = some (λ n w h. h)
+other StartTimer = some (λ n w h. h)
+other (Alert r) = some (λ n w h. purged (act.cancelTimer w) h)
+other Initialise = some (λ n w h. purged w h)
+other TransmitUnlock = some (λ n w h. refl)
+other TransmitSetVr = some (λ n w h. refl)
 other TransmitBd = none
-other (SetSuspendState k) = some (λ n l w h. h)
-other Suspend = some (λ n l w h. h)
-other Resume = some (λ n l w h. h)
-other SetVs = some (λ n l w h. h)
-other SetNnr = some (λ n l w h. h)
-other SetK = some (λ n l w h. h)
-other SetT1Initial = some (λ n l w h. h)
-other SetTransmissionLimit = some (λ n l w h. h)
-other SetTimeoutType = some (λ n l w h. h)
-other AdOutReady = some (λ n l w h. h)
-other BcOutReady = some (λ n l w h. h)
-other BdOutReady = some (λ n l w h. h)
+other (SetSuspendState k) = some (λ n w h. h)
+other Suspend = some (λ n w h. h)
+other Resume = some (λ n w h. h)
+other SetVs = some (λ n w h. h)
+other SetNnr = some (λ n w h. h)
+other SetK = some (λ n w h. h)
+other SetT1Initial = some (λ n w h. h)
+other SetTransmissionLimit = some (λ n w h. h)
+other SetTimeoutType = some (λ n w h. h)
+other AdOutReady = some (λ n w h. h)
+other BcOutReady = some (λ n w h. h)
+other BdOutReady = some (λ n w h. h)
 
 -- actions in their order
 abbrev others : List Action → Bool
@@ -133,26 +132,26 @@ otherCell NotApplicable = true
 otherCell (cell acts s) = others acts
 otherCell (ifNotSuspended acts more s) = both (others acts) (others more)
 
-all : (acts : List Action) (n l : ℕ) (w : Work) → others acts ≡ true → Unbypassed w → Unbypassed (doneAll acts n l w)
+all : (acts : List Action) (n : ℕ) (w : Work) → others acts ≡ true → Unbypassed w → Unbypassed (doneAll acts n w)
 unfolding doneAll
-all [] n l w t h = h
-all (a ∷ more) n l w t h =
-    all more n l (done a n l w) (both-right (isThere (other a)) (others more) t) (one (other a) (both-left (isThere (other a)) (others more) t))
+all [] n w t h = h
+all (a ∷ more) n w t h =
+    all more n (done a n w) (both-right (isThere (other a)) (others more) t) (one (other a) (both-left (isThere (other a)) (others more) t))
   where
-    one : (k : Option ((n l : ℕ) (w : Work) → Unbypassed w → Unbypassed (done a n l w))) → isThere k ≡ true → Unbypassed (done a n l w)
+    one : (k : Option ((n : ℕ) (w : Work) → Unbypassed w → Unbypassed (done a n w))) → isThere k ≡ true → Unbypassed (done a n w)
     one none t = absurd (apart t)
-    one (some k) t = k n l w h
+    one (some k) t = k n w h
 
-in-cell : (c : Cell) (n l : ℕ) (w : Work) → otherCell c ≡ true → Unbypassed w → Unbypassed (doneCell c n l w)
+in-cell : (c : Cell) (n : ℕ) (w : Work) → otherCell c ≡ true → Unbypassed w → Unbypassed (doneCell c n w)
 unfolding doneCell act.toState
-in-cell NotApplicable n l w t h = h
-in-cell (cell acts s) n l w t h = all acts n l w t h
-in-cell (ifNotSuspended acts more s) n l w t h =
-    by-pick Unbypassed (eqb (w .variables .«suspend_state») 0) (λ b. all acts n l w (both-left (others acts) (others more) t) h)
-    (λ b. all more n l w (both-right (others acts) (others more) t) h)
+in-cell NotApplicable n w t h = h
+in-cell (cell acts s) n w t h = all acts n w t h
+in-cell (ifNotSuspended acts more s) n w t h =
+    by-pick Unbypassed (eqb (w .variables .«suspend_state») 0) (λ b. all acts n w (both-left (others acts) (others more) t) h)
+    (λ b. all more n w (both-right (others acts) (others more) t) h)
 
 -- the rows
-rows : (e : FopEvent) → eqb (eventNumber e) 21 ≡ false → every (λ x. otherCell (cell78 (table78 e) (stateOf x))) ≡ true
+rows : (e : FopEvent) → eqb (eventNumber e) 21 ≡ false → every (λ x. otherCell (cell78 (table78 e) x)) ≡ true
 unfolding table78 other
 rows E1 t = refl
 rows E2 t = refl
@@ -205,6 +204,6 @@ rows E102 t = refl
 rows E103 t = refl
 rows E104 t = refl
 
-pub no-bypass : (e : FopEvent) (n l : ℕ) (s : SenderState) → eqb (eventNumber e) 21 ≡ false → Unbypassed (rowOf e n l (begun s))
+pub no-bypass : (e : FopEvent) (n : ℕ) (s : SenderState) → eqb (eventNumber e) 21 ≡ false → Unbypassed (rowOf e n (begun s))
 unfolding rowOf begun noneTold
-no-bypass e n l s t = in-cell (cell78 (table78 e) (stateOf (s .state))) n l (begun s) (every-in (λ x. otherCell (cell78 (table78 e) (stateOf x))) (rows e t) (s .state)) refl
+no-bypass e n s t = in-cell (cell78 (table78 e) (s .state)) n (begun s) (every-in (λ x. otherCell (cell78 (table78 e) x)) (rows e t) (s .state)) refl

@@ -17,13 +17,14 @@ use Rattle.fop.specs.Units.{Own, Frame}
 use Rattle.fop.specs.Table.{FopEvent}
 use Rattle.fop.specs.Variables as machine
 use Rattle.fop.specs.Variables.{Fop}
-use Rattle.fop.specs.Answers.{Answer, Run, runOf, octetsDown, room, answered, refused}
-use Rattle.fop_actions.specs.declared.SenderState.{SenderState}
-use Rattle.fop_actions.specs.declared.Work.{Work}
-use Rattle.fop_actions.specs.Actions.{responsesWith}
-use Rattle.fop_actions.specs.Start.{begun, senderOf}
-use Rattle.fop_actions.specs.View.{stateOf, reasonOf, responsesOf, runTold, fopOf, view}
-use Rattle.fop_rows.specs.Rows.{eventOf}
+use Rattle.fop.specs.declared.Run.{Run}
+use Rattle.fop.specs.Answers.{Answer, runOf, octetsDown, room, answered, refused}
+use Rattle.sender_values.specs.declared.SenderState.{SenderState}
+use Rattle.sender_values.specs.declared.Work.{Work}
+use Rattle.sender_values.specs.Actions.{responsesWith}
+use Rattle.sender_values.specs.Start.{begun, senderOf}
+use Rattle.sender_view.specs.View.{responsesOf, fopOf, view}
+use Rattle.sender_table.specs.Rows.{eventOf}
 use Rattle.fop_view.specs.State.{Good}
 use Rattle.sender.specs.Answers as sender
 use Rattle.sender.specs.Answers.{Step, stepBy, refusedStep}
@@ -33,7 +34,7 @@ use Rattle.ends.proofs.Writing.{octetsIn, fitting}
 -- what a step of our sender is to the table machine: f is the machine's state before it, and m its work on the event
 pub record Agrees (own : Own) (lent : ℕ) (f : Fop) (m : machine.Work) (x : Step) : Type 0 where
   pub answer : answerBy x ≡ pick (leb (room (octetsDown own (m .frames))) lent) (answered own m) (refused 11 f)
-  pub next : fopOf (begun (x .answer .next .fop)) (x .store) ≡ pick (leb (room (octetsDown own (m .frames))) lent) (m .fop) f
+  pub next : fopOf (begun (x .answer .next .fop)) (x .answer .next .fop .lengths) (x .store) ≡ pick (leb (room (octetsDown own (m .frames))) lent) (m .fop) f
   pub good : Good own (x .answer .next .fop) (x .store)
 
 -- a frame has octets
@@ -52,7 +53,7 @@ down-is (some y) old h =
 -- the refusals, by their numbers
 module _ (s : SenderState) (store output : List ℕ) where
   abbrev Refuses : ℕ → Type 0
-  Refuses number = answerBy (refusedStep number s store output) ≡ refused number (fopOf (begun s) store)
+  Refuses number = answerBy (refusedStep number s store output) ≡ refused number (fopOf (begun s) (s .lengths) store)
 
   pub refuses-7 : Refuses 7
   unfolding sender.refusing eventOf begun
@@ -70,9 +71,9 @@ module _ (s : SenderState) (store output : List ℕ) where
   unfolding sender.refusing eventOf begun responsesWith
   refuses-12 = refl
 
-module _ (own : Own) (event : Option FopEvent) (k : ℕ) (numbered : eventOf k ≡ event) (o : List ℕ) (n : ℕ) (s : SenderState) (store new : List ℕ) (w : Work)
-    (m : machine.Work) (lent : ℕ) (is : m ≡ view event o n (m .confirmed) (m .denied) w new) (c : runOf (m .confirmed) ≡ runTold (w .told .confirmed))
-    (d : runOf (m .denied) ≡ runTold (w .told .denied)) (after : Good own (senderOf w) new) (before : Good own s store)
+module _ (own : Own) (event : Option FopEvent) (k : ℕ) (numbered : eventOf k ≡ event) (o : List ℕ) (n : ℕ) (s : SenderState) (store lengths new : List ℕ) (w : Work)
+    (m : machine.Work) (lent : ℕ) (is : m ≡ view event o n (m .confirmed) (m .denied) w lengths new) (c : runOf (m .confirmed) ≡ (w .told .confirmed))
+    (d : runOf (m .denied) ≡ (w .told .denied)) (after : Good own (senderOf w lengths) new) (before : Good own s store)
     (some-octets : SomeOctets (octetsDown own (m .frames))) where
   abbrev down : Option (List ℕ)
   down = octetsDown own (m .frames)
@@ -82,41 +83,41 @@ module _ (own : Own) (event : Option FopEvent) (k : ℕ) (numbered : eventOf k �
   whole e x p q = record {
     refusal = 0;
     event = e;
-    state = stateOf (w .state);
+    state = w .state;
     down = x;
     abort = w .told .abort;
     responses = responsesOf (w .told .responses);
-    alert = reasonOf (w .told .alert);
+    alert = (w .told .alert);
     suspended = w .told .suspended;
     confirmed = p;
     denied = q;
   }
 
   abbrev doneStep : Step
-  doneStep = stepBy k s w (done (octetsIn down) tt) new store (lentOutput lent)
+  doneStep = stepBy k s w lengths (done (octetsIn down) tt) new store (lentOutput lent)
 
   done-answer : answerBy doneStep ≡ answered own m
   unfolding sender.answered
   done-answer =
-      ap (λ (e : Option FopEvent). whole e (handedDown (length (octetsIn down)) (octetsIn down ++ drop (length (octetsIn down)) (lentOutput lent))) (runTold (w .told .confirmed)) (runTold (w .told .denied))) numbered
-      ∙ ap (λ (x : Option (List ℕ)). whole event x (runTold (w .told .confirmed)) (runTold (w .told .denied))) (down-is down (lentOutput lent) some-octets)
-      ∙ ap (λ (p : Run). whole event down p (runTold (w .told .denied))) (sym c)
+      ap (λ (e : Option FopEvent). whole e (handedDown (length (octetsIn down)) (octetsIn down ++ drop (length (octetsIn down)) (lentOutput lent))) (w .told .confirmed) (w .told .denied)) numbered
+      ∙ ap (λ (x : Option (List ℕ)). whole event x (w .told .confirmed) (w .told .denied)) (down-is down (lentOutput lent) some-octets)
+      ∙ ap (λ (p : Run). whole event down p (w .told .denied)) (sym c)
       ∙ ap (λ (q : Run). whole event down (runOf (m .confirmed)) q) (sym d)
       ∙ ap (λ (x : List Frame). whole event (octetsDown own x) (runOf (m .confirmed)) (runOf (m .denied))) (ap (λ (y : machine.Work). y .frames) is)
       ∙ sym (ap (answered own) is)
 
-  done-next : fopOf (begun (doneStep .answer .next .fop)) (doneStep .store) ≡ m .fop
+  done-next : fopOf (begun (doneStep .answer .next .fop)) (doneStep .answer .next .fop .lengths) (doneStep .store) ≡ m .fop
   unfolding sender.answered begun senderOf
   done-next = sym (ap (λ (y : machine.Work). y .fop) is)
 
   -- by whether it fits
   abbrev stepIf : Bool → Step
-  stepIf b = stepBy k s w (pick b (done (octetsIn down) tt) (outcome.Outcome.refused 11 0)) new store (lentOutput lent)
+  stepIf b = stepBy k s w lengths (pick b (done (octetsIn down) tt) (outcome.Outcome.refused 11 0)) new store (lentOutput lent)
 
   abbrev AgreesIf : Bool → Type 0
   AgreesIf b =
-      (answerBy (stepIf b) ≡ pick b (answered own m) (refused 11 (fopOf (begun s) store)))
-      × (fopOf (begun (stepIf b .answer .next .fop)) (stepIf b .store) ≡ pick b (m .fop) (fopOf (begun s) store))
+      (answerBy (stepIf b) ≡ pick b (answered own m) (refused 11 (fopOf (begun s) (s .lengths) store)))
+      × (fopOf (begun (stepIf b .answer .next .fop)) (stepIf b .answer .next .fop .lengths) (stepIf b .store) ≡ pick b (m .fop) (fopOf (begun s) (s .lengths) store))
       × Good own (stepIf b .answer .next .fop) (stepIf b .store)
 
   agrees-if : (b : Bool) → AgreesIf b
@@ -124,7 +125,7 @@ module _ (own : Own) (event : Option FopEvent) (k : ℕ) (numbered : eventOf k �
   agrees-if true = (done-answer, done-next, after)
   agrees-if false = (refuses-11 s store (lentOutput lent), refl, before)
 
-  pub concludes : Agrees own lent (fopOf (begun s) store) m (stepBy k s w (fitting down lent) new store (lentOutput lent))
+  pub concludes : Agrees own lent (fopOf (begun s) (s .lengths) store) m (stepBy k s w lengths (fitting down lent) new store (lentOutput lent))
   concludes =
       let a = agrees-if (leb (room down) lent) in
       record { answer = a .0; next = a .1; good = a .2 }

@@ -1,5 +1,5 @@
 -- Every event of the session: our sender's step does what the table machine does on what the sender's state and store read as.
-use Prim.Native.Nat.{ℕ, _<_}
+use Prim.Native.Nat.{ℕ, _-_, _<_}
 use mathlib.Core.Path.{_≡_, refl, sym, ap, subst, _∙_}
 use mathlib.Core.Bool.{Bool, true, false, not, _&&_}
 use mathlib.Core.List.{List, [], _∷_}
@@ -16,7 +16,10 @@ use Rattle.base.specs.Outcome as outcome
 use Rattle.base.proofs.Tests.{both-left, both-right, yes, no}
 use Rattle.base.proofs.Computed.{is-true}
 use Rattle.base.proofs.Lists.{octets-at}
-use Rattle.fop_actions.proofs.SentQueue.{without-none}
+use Rattle.store.specs.Places.{unitAt, without}
+use Rattle.store.specs.Slid.{slid}
+use Rattle.store.proofs.Parts.{slid-none}
+use Rattle.store.proofs.Moving.{without-none}
 use Rattle.clcw.specs.Clcw.{virtualChannel, isValid, wordOf}
 use Rattle.clcw.specs.Answers.{readingOf, receivedOf}
 use Rattle.clcw.specs.declared.Clcw.{Clcw}
@@ -28,30 +31,33 @@ use Rattle.fop.specs.Table.{FopEvent, E15, E18, E19, E20, E21, E22, E39, E103}
 use Rattle.fop.specs.Variables as machine
 use Rattle.fop.specs.Variables.{Fop}
 use Rattle.fop.specs.Machine.{fopDo}
+use Rattle.fop.specs.declared.Lower.{Lower}
 use Rattle.fop.specs.Events.{when, first, SenderEvent, requestAd, requestBd, tick, lower, directive, wordArrives, isEmpty, seen, wordLines, wordEvent, expiryLines, validDirective, directiveLines, directiveEvent, work, fopAd, fopBd, fopTick, fopExpiry, fopLower, fopDirective, fopReceived, fopWord}
 use Rattle.fop.specs.Events as fop
 use Rattle.fop.specs.Answers.{judged, otherRefusal, refused}
-use Rattle.fop_actions.specs.declared.SenderState.{SenderState}
-use Rattle.fop_actions.specs.declared.Work.{Work}
-use Rattle.fop_actions.specs.Start.{begun, noneTold, senderOf}
-use Rattle.fop_actions.specs.View.{unitAt, fopOf, without}
-use Rattle.fop_rows.specs.Rows.{eventOf, rowIf, rowOf, rowNumbered}
+use Rattle.sender_values.specs.declared.SenderState.{SenderState}
+use Rattle.sender_values.specs.declared.Work.{Work}
+use Rattle.sender_values.specs.Start.{begun, noneTold, senderOf}
+use Rattle.sender_view.specs.View.{fopOf}
+use Rattle.sender_values.specs.Actions.{unitsHeld}
+use Rattle.sender_table.specs.Rows.{eventOf, rowIf, rowOf, rowNumbered}
 use Rattle.fop_events.specs.Events.{eventNumber, variablesOf, expiryNumber, adNumber, bdNumber, lowerNumber, directiveNumber, wordNumber, told}
 use Rattle.fop_view.specs.State.{Good}
 use Rattle.fop_view.specs.Rows.{brings, Meets, isOffering}
 use Rattle.session.proofs.Test.{first-all}
 use Rattle.session.proofs.Octets.{octets-are}
 use Rattle.sender.specs.Answers.{Step, stepBy, refusedStep}
-use Rattle.sender.specs.Limits.{smallestStore}
-use Rattle.sender.specs.Events.{handedWriting, servedBy, served, offeredBy, bypassedBy, requestAdOf, requestBdOf, directiveOf, ticked, tickOf, lowerLayerOf, wordBy, controlWordOf}
-use Rattle.ends.specs.Ours.{Held, stepOf, lowerAnswer, answerBy, lentOutput, reads}
+use Rattle.sender_frames.specs.Limits.{smallestStore}
+use Rattle.sender_frames.specs.Frames.{handedWriting}
+use Rattle.sender.specs.Events.{servedBy, served, offeredBy, bypassedBy, requestAdOf, requestBdOf, directiveOf, ticked, tickOf, lowerLayerOf, wordBy, controlWordOf}
+use Rattle.ends.specs.Ours.{Held, stepOf, answerBy, lentOutput, reads}
 use Rattle.ends.specs.Does.{Does}
 use Rattle.ends.proofs.Numbers.{row-event}
 use Rattle.ends.proofs.Writing.{Fits, fitting}
 use Rattle.ends.proofs.Concluding.{Agrees, concludes, refuses-7, refuses-10, refuses-12}
 use Rattle.ends.proofs.Judged.{agreed, refuses, refused-keeps, refused-good}
 use Rattle.ends.proofs.Served.{serves}
-use Rattle.ends.proofs.Requested.{offers, rejects-ad, rejects-bd, bypasses-down, lengthless}
+use Rattle.ends.proofs.Requested.{offers, rejects-ad, rejects-bd, bypasses-down}
 use Rattle.ends.proofs.Meets.{word-meets, directive-meets, expiry-meets, valid-not-40, invalid-is-40}
 
 -- an event that neither offers a unit nor is E21
@@ -76,41 +82,41 @@ yes-received own octets t r q = ap (λ (b : Bool). wordReceived (pick b (reading
 
 module _ (own : Own) (s : SenderState) (store : List ℕ) (lent : ℕ) (good : Good own s store) where
   abbrev f : Fop
-  f = fopOf (begun s) store
+  f = fopOf (begun s) (s .lengths) store
 
   abbrev output : List ℕ
   output = lentOutput lent
 
   -- an event of the table that is served, of the state g
-  by-row : (e : FopEvent) (n : ℕ) (g : SenderState) → Good own g store → Meets e [] n g → g .queues ≡ s .queues → plain e ≡ true
-      → Agrees own lent f (fopDo e [] n (fopOf (begun g) store)) (served (eventNumber e) n s g store output)
+  by-row : (e : FopEvent) (n : ℕ) (g : SenderState) → Good own g store → Meets e [] n g → g .queues ≡ s .queues → g .lengths ≡ s .lengths → plain e ≡ true
+      → Agrees own lent f (fopDo e [] n (fopOf (begun g) (g .lengths) store)) (served (eventNumber e) n s g store output)
   unfolding served
-  by-row e n g by-good meets q p =
-      subst (λ (x : Step). Agrees own lent f (fopDo e [] n (fopOf (begun g) store)) x)
-      (sym (ap (λ (t : Bool). must t (refusedStep 11 s store output) (servedBy (eventNumber e) s (rowNumbered (eventNumber e) n 0 (begun g)) store output)) (stored own s store good)
-      ∙ ap (λ (w : Work). servedBy (eventNumber e) s w store output) (row-event e n 0 (begun g))))
-      (serves own e n s g store lent good by-good meets q (plain-not-offering e p) (plain-unbypassed e p))
+  by-row e n g by-good meets q l p =
+      subst (λ (x : Step). Agrees own lent f (fopDo e [] n (fopOf (begun g) (g .lengths) store)) x)
+      (sym (ap (λ (t : Bool). must t (refusedStep 11 s store output) (servedBy (eventNumber e) s (rowNumbered (eventNumber e) n (begun g)) store output)) (stored own s store good)
+      ∙ ap (λ (w : Work). servedBy (eventNumber e) s w store output) (row-event e n (begun g))))
+      (serves own e n s g store lent good by-good meets q l (plain-not-offering e p) (plain-unbypassed e p))
 
   refused-by : (e : SenderEvent) (j : ℕ) → judged own e ≡ j → eqb j 0 ≡ false → answerBy (refusedStep j s store output) ≡ refused j f
       → Does own lent e f (refusedStep j s store output)
   refused-by e j q h a = refuses own lent e f (refusedStep j s store output) j q h a (refused-keeps own s store output j) (refused-good own s store output j good)
 
   -- Answers of the lower layer.
-  lower-row : (l : fop.Lower) → (plain (fop.lowerEvent l) ≡ true) × Meets (fop.lowerEvent l) [] 0 s × (lowerNumber (lowerAnswer l) ≡ eventNumber (fop.lowerEvent l))
+  lower-row : (l : Lower) → (plain (fop.lowerEvent l) ≡ true) × Meets (fop.lowerEvent l) [] 0 s × (lowerNumber l ≡ eventNumber (fop.lowerEvent l))
   unfolding lowerNumber
-  lower-row fop.adAccept = (refl, tt, refl)
-  lower-row fop.adReject = (refl, tt, refl)
-  lower-row fop.bcAccept = (refl, tt, refl)
-  lower-row fop.bcReject = (refl, tt, refl)
-  lower-row fop.bdAccept = (refl, tt, refl)
-  lower-row fop.bdReject = (refl, tt, refl)
+  lower-row Lower.AdAccept = (refl, tt, refl)
+  lower-row Lower.AdReject = (refl, tt, refl)
+  lower-row Lower.BcAccept = (refl, tt, refl)
+  lower-row Lower.BcReject = (refl, tt, refl)
+  lower-row Lower.BdAccept = (refl, tt, refl)
+  lower-row Lower.BdReject = (refl, tt, refl)
 
-  pub lower-does : (l : fop.Lower) → Does own lent (lower l) f (lowerLayerOf (lowerAnswer l) s store output)
+  pub lower-does : (l : Lower) → Does own lent (lower l) f (lowerLayerOf l s store output)
   unfolding lowerLayerOf work fopLower judged
   lower-does l =
-      agreed own lent (lower l) f (lowerLayerOf (lowerAnswer l) s store output) refl
+      agreed own lent (lower l) f (lowerLayerOf l s store output) refl
       (subst (λ (k : ℕ). Agrees own lent f (fopDo (fop.lowerEvent l) [] 0 f) (served k 0 s s store output)) (sym (lower-row l .2))
-      (by-row (fop.lowerEvent l) 0 s good (lower-row l .1) refl (lower-row l .0)))
+      (by-row (fop.lowerEvent l) 0 s good (lower-row l .1) refl refl (lower-row l .0)))
 
   -- Directives.
   directive-plain : (d v : ℕ) → plain (directiveEvent d v (variablesOf s)) ≡ true
@@ -122,7 +128,7 @@ module _ (own : Own) (s : SenderState) (store : List ℕ) (lent : ℕ) (good : G
   directive-valid d v t =
       agreed own lent (directive d v) f (directiveOf d v s store output) (yes _ _ _ t)
       (subst (λ (x : Step). Agrees own lent f (fopDo (directiveEvent d v (variablesOf s)) [] v f) x) (sym (no _ _ _ (valid-not-40 d v s t)))
-      (by-row (directiveEvent d v (variablesOf s)) v s good (directive-meets d v s t (good .serving)) refl (directive-plain d v)))
+      (by-row (directiveEvent d v (variablesOf s)) v s good (directive-meets d v s t (good .suspend-most)) refl refl (directive-plain d v)))
 
   directive-invalid : (d v : ℕ) → validDirective d v ≡ false → Does own lent (directive d v) f (directiveOf d v s store output)
   unfolding directiveOf directiveNumber judged
@@ -156,7 +162,9 @@ module _ (own : Own) (s : SenderState) (store : List ℕ) (lent : ℕ) (good : G
     limit = good .limit;
     count-least = good .count-least;
     count-most = good .count-most;
-    alerting = good .alerting;
+    type-most = good .type-most;
+    suspend-most = good .suspend-most;
+    suspend-initial = good .suspend-initial;
     serving = good .serving;
     sent-main = good .sent-main;
     waiting-main = good .waiting-main;
@@ -170,32 +178,35 @@ module _ (own : Own) (s : SenderState) (store : List ℕ) (lent : ℕ) (good : G
   }
 
   abbrev lowered : Fop
-  lowered = fopOf (begun (ticked s)) store
+  lowered = fopOf (begun (ticked s)) (s .lengths) store
 
   -- the tick that makes the timer zero
-  expires : Agrees own lent f (fopDo expired [] 0 lowered) (served (expiryNumber (ticked s)) 0 s (ticked s) store output)
+  expires : s .variables .timer ≡ 1 → Agrees own lent f (fopDo expired [] 0 lowered) (served (expiryNumber (ticked s)) 0 s (ticked s) store output)
   unfolding expiryNumber
-  expires = by-row expired 0 (ticked s) ticked-good (expiry-meets (ticked s) (good .alerting)) refl expiry-plain
+  expires one = by-row expired 0 (ticked s) ticked-good (expiry-meets (ticked s) (good .type-most) (omega (arith, one))) refl refl expiry-plain
 
   -- any other
   passes : Agrees own lent f (machine.begin none [] 0 lowered) (served 0 0 s (ticked s) store output)
   unfolding served servedBy rowNumbered rowIf eventOf handedWriting begun noneTold senderOf
   passes =
       let w : Work = begun (ticked s) in
+      let staying = unitsHeld (s .queues .sent) (s .queues .waiting) - 0 in
       let nothing-down : done [] tt ≡ fitting none lent = ap (λ (b : Bool). pick {A = Outcome (Unit {0})} b (done [] tt) (outcome.Outcome.refused 11 0)) (sym (le-leb 0 lent (omega arith))) in
       subst (λ (x : Step). Agrees own lent f (machine.begin none [] 0 lowered) x)
-      (sym (ap (λ (t : Bool). must t (refusedStep 11 s store output) (stepBy 0 s w (done [] tt) (without 0 store) store output)) (stored own s store good)
-      ∙ ap (λ (x : List ℕ). stepBy 0 s w (done [] tt) x store output) (without-none store) ∙ ap (λ (x : Outcome (Unit {0})). stepBy 0 s w x store store output) nothing-down))
-      (concludes own none 0 refl [] 0 s store store w (machine.begin none [] 0 lowered) lent refl refl refl ticked-good good tt)
+      (sym (ap (λ (t : Bool). must t (refusedStep 11 s store output) (stepBy 0 s w (slid 0 (s .lengths)) (done [] tt) (without (s .lengths) 0 staying store) store output)) (stored own s store good)
+      ∙ ap (λ (x : List ℕ). stepBy 0 s w (slid 0 (s .lengths)) (done [] tt) x store output) (without-none (s .lengths) staying store)
+      ∙ ap (λ (ls : List ℕ). stepBy 0 s w ls (done [] tt) store store output) (slid-none (s .lengths))
+      ∙ ap (λ (x : Outcome (Unit {0})). stepBy 0 s w (s .lengths) x store store output) nothing-down))
+      (concludes own none 0 refl [] 0 s store (s .lengths) store w (machine.begin none [] 0 lowered) lent refl refl refl ticked-good good tt)
 
   pub tick-does : Does own lent tick f (tickOf s store output)
   unfolding tickOf work fopTick fopExpiry judged begun
   tick-does =
-      agreed own lent tick f (tickOf s store output) refl (by (eqb (s .variables .timer) 1)) where
-        by : (b : Bool) → Agrees own lent f (pick b (fopDo expired [] 0 lowered) (machine.begin none [] 0 lowered))
+      agreed own lent tick f (tickOf s store output) refl (by (eqb (s .variables .timer) 1) refl) where
+        by : (b : Bool) → eqb (s .variables .timer) 1 ≡ b → Agrees own lent f (pick b (fopDo expired [] 0 lowered) (machine.begin none [] 0 lowered))
             (served (pick b (expiryNumber (ticked s)) 0) 0 s (ticked s) store output)
-        by true = expires
-        by false = passes
+        by true t = expires (eqb-true (s .variables .timer) 1 t)
+        by false t = passes
 
   -- Control words.
   abbrev reportIn : WordReading → ℕ
@@ -231,11 +242,11 @@ module _ (own : Own) (s : SenderState) (store : List ℕ) (lent : ℕ) (good : G
       let h : readWord own octets ≡ wordReceived (reading.Word r) = yes-received own octets t (reading.Word r) q in
       agreed own lent (wordArrives octets) f (wordBy (reading.Word r) s store output) (ap otherRefusal h)
       (subst (λ (x : WordReceived). Agrees own lent f (fopReceived x f) (wordBy (reading.Word r) s store output)) (sym h)
-      (by-row (wordEvent (seen (told (r .word)) (variablesOf s))) (r .word .report) s good (word-meets (told (r .word)) s o) refl (word-plain (told (r .word)))))
+      (by-row (wordEvent (seen (told (r .word)) (variablesOf s))) (r .word .report) s good (word-meets (told (r .word)) s o) refl refl (word-plain (told (r .word)))))
   received-does octets t reading.Invalid q o =
       let h : readWord own octets ≡ invalid = yes-received own octets t reading.Invalid q in
       agreed own lent (wordArrives octets) f (wordBy reading.Invalid s store output) (ap otherRefusal h)
-      (subst (λ (x : WordReceived). Agrees own lent f (fopReceived x f) (wordBy reading.Invalid s store output)) (sym h) (by-row E15 0 s good tt refl refl))
+      (subst (λ (x : WordReceived). Agrees own lent f (fopReceived x f) (wordBy reading.Invalid s store output)) (sym h) (by-row E15 0 s good tt refl refl refl))
   received-does octets t reading.Address q o =
       refused-by (wordArrives octets) 7 (ap otherRefusal (yes-received own octets t reading.Address q)) refl (refuses-7 s store output)
   received-does octets t reading.Length q o =
@@ -255,14 +266,14 @@ module _ (own : Own) (s : SenderState) (store : List ℕ) (lent : ℕ) (good : G
   abbrev byWaiting : List ℕ → Bool → FopEvent
   byWaiting unit b = first (when (isEmpty (pick b (some unit) none)) E19 ∷ []) E20
 
-  by-number : (o : List ℕ) (e : FopEvent) → Agrees own lent f (fopDo e o 0 f) (offeredBy (eventNumber e) s (rowOf e 0 (length o) (begun s)) o store output)
-      → Agrees own lent f (fopDo e o 0 f) (offeredBy (eventNumber e) s (rowNumbered (eventNumber e) 0 (length o) (begun s)) o store output)
+  by-number : (o : List ℕ) (e : FopEvent) → Agrees own lent f (fopDo e o 0 f) (offeredBy (eventNumber e) s (rowOf e 0 (begun s)) o store output)
+      → Agrees own lent f (fopDo e o 0 f) (offeredBy (eventNumber e) s (rowNumbered (eventNumber e) 0 (begun s)) o store output)
   by-number o e h =
-      subst (λ (w : Work). Agrees own lent f (fopDo e o 0 f) (offeredBy (eventNumber e) s w o store output)) (sym (row-event e 0 (length o) (begun s))) h
+      subst (λ (w : Work). Agrees own lent f (fopDo e o 0 f) (offeredBy (eventNumber e) s w o store output)) (sym (row-event e 0 (begun s))) h
 
   ad-event : (o : List ℕ) → Fits o → (b : Bool)
       → Agrees own lent f (fopDo (byWaiting [] b) o 0 f)
-      (offeredBy (eventNumber (byWaiting [] b)) s (rowNumbered (eventNumber (byWaiting [] b)) 0 (length o) (begun s)) o store output)
+      (offeredBy (eventNumber (byWaiting [] b)) s (rowNumbered (eventNumber (byWaiting [] b)) 0 (begun s)) o store output)
   ad-event o legal true = by-number o E20 (rejects-ad own o s store lent good)
   ad-event o legal false = by-number o E19 (offers own o s store lent good legal)
 
@@ -270,29 +281,29 @@ module _ (own : Own) (s : SenderState) (store : List ℕ) (lent : ℕ) (good : G
   unit-aside u v true = refl
   unit-aside u v false = refl
 
-  ad-row : (o : List ℕ) → Fits o → Agrees own lent f (fopAd o f) (offeredBy (adNumber s) s (rowNumbered (adNumber s) 0 (length o) (begun s)) o store output)
+  ad-row : (o : List ℕ) → Fits o → Agrees own lent f (fopAd o f) (offeredBy (adNumber s) s (rowNumbered (adNumber s) 0 (begun s)) o store output)
   unfolding fopAd adNumber begun
   ad-row o legal =
-      let u : List ℕ = unitAt (s .queues .lengths) (s .queues .sent) store in
-      let v : List ℕ = unitAt (s .queues .lengths) (s .queues .sent) [] in
-      subst (λ (e : FopEvent). Agrees own lent f (fopDo e o 0 f) (offeredBy (adNumber s) s (rowNumbered (adNumber s) 0 (length o) (begun s)) o store output))
+      let u : List ℕ = unitAt (s .lengths) (s .queues .sent) store in
+      let v : List ℕ = unitAt (s .lengths) (s .queues .sent) [] in
+      subst (λ (e : FopEvent). Agrees own lent f (fopDo e o 0 f) (offeredBy (adNumber s) s (rowNumbered (adNumber s) 0 (begun s)) o store output))
       (unit-aside [] u (s .queues .waiting))
       (subst (λ (e : FopEvent). Agrees own lent f (fopDo (byWaiting [] (s .queues .waiting)) o 0 f)
-      (offeredBy (eventNumber e) s (rowNumbered (eventNumber e) 0 (length o) (begun s)) o store output))
+      (offeredBy (eventNumber e) s (rowNumbered (eventNumber e) 0 (begun s)) o store output))
       (unit-aside [] v (s .queues .waiting)) (ad-event o legal (s .queues .waiting)))
 
   -- a BD request, by the BD_Out_Flag
   bd-event : (o : List ℕ) → Fits o → (b : Bool)
       → Agrees own lent f (fopDo (first (when b E21 ∷ []) E22) o 0 f)
-      (bypassedBy (eventNumber (first (when b E21 ∷ []) E22)) s (rowNumbered (eventNumber (first (when b E21 ∷ []) E22)) 0 0 (begun s)) o store output)
+      (bypassedBy (eventNumber (first (when b E21 ∷ []) E22)) s (rowNumbered (eventNumber (first (when b E21 ∷ []) E22)) 0 (begun s)) o store output)
   bd-event o legal true =
       subst (λ (w : Work). Agrees own lent f (fopDo E21 o 0 f) (bypassedBy 21 s w o store output))
-      (sym (row-event E21 0 0 (begun s) ∙ lengthless true 0 0 (length o) s)) (bypasses-down own o s store lent good legal)
+      (sym (row-event E21 0 (begun s))) (bypasses-down own o s store lent good legal)
   bd-event o legal false =
       subst (λ (w : Work). Agrees own lent f (fopDo E22 o 0 f) (bypassedBy 22 s w o store output))
-      (sym (row-event E22 0 0 (begun s) ∙ lengthless false 0 0 (length o) s)) (rejects-bd own o s store lent good)
+      (sym (row-event E22 0 (begun s))) (rejects-bd own o s store lent good)
 
-  bd-row : (o : List ℕ) → Fits o → Agrees own lent f (fopBd o f) (bypassedBy (bdNumber s) s (rowNumbered (bdNumber s) 0 0 (begun s)) o store output)
+  bd-row : (o : List ℕ) → Fits o → Agrees own lent f (fopBd o f) (bypassedBy (bdNumber s) s (rowNumbered (bdNumber s) 0 (begun s)) o store output)
   unfolding fopBd bdNumber begun
   bd-row o legal = bd-event o legal (s .variables .«bd_out»)
 
@@ -327,11 +338,11 @@ module _ (own : Own) (s : SenderState) (store : List ℕ) (lent : ℕ) (good : G
   pub ad-does : (o : List ℕ) → Does own lent (requestAd o) f (pick (areOctets o) (requestAdOf s o store output) (refusedStep 10 s store output))
   unfolding requestAdOf work judged
   ad-does o =
-      request-does (requestAd o) o (offeredBy (adNumber s) s (rowNumbered (adNumber s) 0 (length o) (begun s)) o store output) refl (ad-row o)
+      request-does (requestAd o) o (offeredBy (adNumber s) s (rowNumbered (adNumber s) 0 (begun s)) o store output) refl (ad-row o)
 
   pub bd-does : (o : List ℕ) → Does own lent (requestBd o) f (pick (areOctets o) (requestBdOf s o store output) (refusedStep 10 s store output))
   unfolding requestBdOf work judged
-  bd-does o = request-does (requestBd o) o (bypassedBy (bdNumber s) s (rowNumbered (bdNumber s) 0 0 (begun s)) o store output) refl (bd-row o)
+  bd-does o = request-does (requestBd o) o (bypassedBy (bdNumber s) s (rowNumbered (bdNumber s) 0 (begun s)) o store output) refl (bd-row o)
 
   -- a word that is no octets is refused as one not of four
   word-octets : (octets : List ℕ) (b : Bool) → areOctets octets ≡ b

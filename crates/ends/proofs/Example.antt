@@ -10,24 +10,27 @@ use Prim.Native.Nat.{ℕ, _≤_}
 use lib.Dec.{leb→le}
 use lib.ListN.{length, replicate}
 use Rattle.fop.specs.Units.{Fdu, SetVR, written}
-use Rattle.fop.specs.Events.{SenderEvent, requestAd, tick, lower, directive, wordArrives, adAccept, bcAccept}
-use Rattle.farm.specs.Receiver.{atStart}
-use Rattle.farm.specs.declared.Receiver.{Receiver}
+use Rattle.fop.specs.declared.Lower.the-variants.{AdAccept, BcAccept}
+use Rattle.fop.specs.Events.{SenderEvent, requestAd, tick, lower, directive, wordArrives}
+use Rattle.receiver.specs.Receiver.{atStart}
+use Rattle.receiver.specs.declared.Receiver.{Receiver}
 use Rattle.session.specs.Receiver.{frameArrives, wordLength, receiverNext, receiverWord}
 use Rattle.session.specs.Ends.{Settings, Within, startSender, startReceiver}
 use Rattle.session.specs.Session.{Event, adRequest, ticks, lowerSays, wordMade, wordIn, frameIn, frameLost}
 use Rattle.session.proofs.Trace.{computing, settings, after}
 use Rattle.frame.specs.Frame.{rawWriting}
+use Rattle.store.specs.Places as stored
 use Rattle.store.specs.Slid as slide
 use Rattle.memory.specs.Placed as place
-use Rattle.fop_actions.specs.Actions as act
-use Rattle.fop_actions.specs.Parts as parts
-use Rattle.fop_actions.specs.Start as start
-use Rattle.fop_rows.specs.Rows as rows
+use Rattle.sender_values.specs.Actions as act
+use Rattle.sender_values.specs.Parts as parts
+use Rattle.sender_values.specs.Start as start
+use Rattle.sender_table.specs.Rows as rows
 use Rattle.fop_events.specs.Events as number
-use Rattle.sender.specs.Limits.{smallestStore}
+use Rattle.sender_frames.specs.Limits.{smallestStore}
 use Rattle.sender.specs.Answers as answers
 use Rattle.sender.specs.Start as starting
+use Rattle.sender_frames.specs.Frames as frames
 use Rattle.sender.specs.Events as sender
 use Rattle.ends.specs.Ours.{Held, senderSettings, lentOutput, stepOf, heldAfter, freshHeld, heldAfterAll, startHeld, reads, Begins, ours}
 use Rattle.ends.proofs.Theorem.{nextAll, begins-after, fresh-good, fresh-reads}
@@ -40,7 +43,7 @@ store = replicate smallestStore 0
 
 abbrev events : List Event
 events =
-    adRequest (17 ∷ []) 256 ∷ frameLost ∷ lowerSays adAccept 256 ∷ ticks 256 ∷ adRequest (34 ∷ 35 ∷ []) 256 ∷ lowerSays adAccept 256 ∷ frameIn ∷ frameIn
+    adRequest (17 ∷ []) 256 ∷ frameLost ∷ lowerSays AdAccept 256 ∷ ticks 256 ∷ adRequest (34 ∷ 35 ∷ []) 256 ∷ lowerSays AdAccept 256 ∷ frameIn ∷ frameIn
     ∷ wordMade 4 ∷ wordIn 256 ∷ []
 
 abbrev units : List Fdu
@@ -48,14 +51,14 @@ units = record { ns = 254; octets = 17 ∷ [] } ∷ record { ns = 255; octets = 
 
 -- to unfold this is to unfold every definition that our two ends compute with
 unfoldable pub computingOurs : Unit {0}
-unfolding computing rawWriting freshHeld stepOf starting.startingOf start.startOf start.noneTold start.begun start.senderOf sender.handedWriting sender.servedBy
+unfolding computing rawWriting freshHeld stepOf starting.startingOf start.startOf start.noneTold start.begun start.senderOf frames.handedWriting sender.servedBy
     sender.served sender.offeredBy sender.requestAdOf sender.directiveOf sender.tickOf sender.lowerLayerOf sender.controlWordOf answers.answered
     answers.refusing number.wordNumber number.directiveNumber number.expiryNumber number.adNumber number.lowerNumber rows.done rows.doneAll rows.doneCell
     rows.rowOf rows.eventOf rows.rowIf rows.rowNumbered parts.withSettings parts.withVariables parts.withQueues parts.withTold act.toState act.startTimer
     act.cancelTimer act.countOne act.adOutReady act.setSuspendState act.responsesWith act.respond act.handDown act.abort act.addToWaitQueue
     act.holdControl act.releaseBcFrame act.transmitAdFrame act.sendMarked act.inWindow act.lookForFdu act.again act.initiateAdRetransmission
     act.setVs act.setNnr act.notify act.alert act.removeAcknowledgedFrames act.emptied act.denyControl act.purgeSentQueue act.notWaiting
-    act.purgeWaitQueue act.initialise slide.slid slide.slidWithin place.placed
+    act.purgeWaitQueue act.initialise slide.slid stored.without place.placed
 computingOurs = tt
 
 pub our-session : (after set (ours set (startHeld set store)) events) .history
@@ -66,7 +69,7 @@ our-session = refl
 -- The sender starts at 0. The lower layer takes the frame of Set V(R), the timer expires, and the lower layer takes it again; then a control
 -- word reports V(R).
 abbrev twice : Settings
-twice = record { n = 254; k = 3; w = 10; buffers = 2; t1 = 1; limit = 3; own = set .own; count = 2; counter = 2 }
+twice = record { n = 254; k = 3; w = 10; buffers = 2; t1 = 1; limit = 3; timeoutType = 0; own = set .own; count = 2; counter = 2 }
 
 abbrev receiver-twice : Receiver
 receiver-twice =
@@ -78,7 +81,7 @@ word-twice = 1 ∷ 36 ∷ 4 ∷ 254 ∷ []
 
 abbrev initiating : List (SenderEvent × ℕ)
 initiating =
-    (directive 4 254, 256) ∷ (lower bcAccept, 256) ∷ (tick, 256) ∷ (lower bcAccept, 256) ∷ (wordArrives word-twice, 256) ∷ []
+    (directive 4 254, 256) ∷ (lower BcAccept, 256) ∷ (tick, 256) ∷ (lower BcAccept, 256) ∷ (wordArrives word-twice, 256) ∷ []
 
 pub twice-received : (receiver-twice ≡ startReceiver twice) × (receiverWord wordLength receiver-twice ≡ record { refusal = 0; word = some word-twice })
 unfolding computing
@@ -99,6 +102,7 @@ twice-within = record {
   timerMost = leb→le _ _ tt;
   limitLeast = leb→le _ _ tt;
   limitMost = leb→le _ _ tt;
+  timeoutMost = leb→le _ _ tt;
   spacecraft = leb→le _ _ tt;
   channel = leb→le _ _ tt;
   countLeast = leb→le _ _ tt;

@@ -11,9 +11,9 @@ use Rattle.fop.specs.Variables as machine
 use Rattle.fop.specs.Variables.{Fop}
 use Rattle.fop.specs.Events.{SenderEvent, work}
 use Rattle.fop.specs.Answers.{Answer, octetsDown, room, needed, judged, senderRefusal, senderAnswer, senderNext, answered, refused}
-use Rattle.fop_actions.specs.declared.SenderState.{SenderState}
-use Rattle.fop_actions.specs.Start.{begun}
-use Rattle.fop_actions.specs.View.{fopOf}
+use Rattle.sender_values.specs.declared.SenderState.{SenderState}
+use Rattle.sender_values.specs.Start.{begun}
+use Rattle.sender_view.specs.View.{fopOf}
 use Rattle.fop_view.specs.State.{Good}
 use Rattle.sender.specs.Answers as sender
 use Rattle.sender.specs.Answers.{Step, refusedStep}
@@ -58,7 +58,7 @@ module _ (own : Own) (lent : ℕ) (e : SenderEvent) (f : Fop) where
       }
 
   -- refused by one of them
-  pub refuses : (x : Step) (j : ℕ) → judged own e ≡ j → eqb j 0 ≡ false → answerBy x ≡ refused j f → fopOf (begun (x .answer .next .fop)) (x .store) ≡ f
+  pub refuses : (x : Step) (j : ℕ) → judged own e ≡ j → eqb j 0 ≡ false → answerBy x ≡ refused j f → fopOf (begun (x .answer .next .fop)) (x .answer .next .fop .lengths) (x .store) ≡ f
       → Good own (x .answer .next .fop) (x .store) → Does own lent e f x
   unfolding senderAnswer senderNext senderRefusal needed
   refuses x j q h a n g =
@@ -71,7 +71,7 @@ module _ (own : Own) (lent : ℕ) (e : SenderEvent) (f : Fop) where
 
 -- a refused step keeps sender and store
 module _ (own : Own) (s : SenderState) (store output : List ℕ) (number : ℕ) where
-  pub refused-keeps : fopOf (begun (refusedStep number s store output .answer .next .fop)) (refusedStep number s store output .store) ≡ fopOf (begun s) store
+  pub refused-keeps : fopOf (begun (refusedStep number s store output .answer .next .fop)) (refusedStep number s store output .answer .next .fop .lengths) (refusedStep number s store output .store) ≡ fopOf (begun s) (s .lengths) store
   unfolding sender.refusing
   refused-keeps = refl
 

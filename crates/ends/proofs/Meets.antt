@@ -6,17 +6,17 @@ use mathlib.Core.Path.{_≡_, refl, sym, ap, subst, _∙_}
 use mathlib.Core.Bool.{Bool, true, false, not, _&&_}
 use mathlib.Core.List.{List, [], _∷_}
 use native.Mathlib.Omega.{arith}
-use borrow.Author.Tests.{ltb-true, ltb-false, eqb-false, eq-eqb, not-true}
+use borrow.Author.Tests.{ltb-true, ltb-false, eqb-true, eqb-false, not-true}
 use lib.Dec.{T, leb, ltb, eqb, leb→le, eqb→eq}
 use Rattle.base.specs.Modulo.{offset}
 use Rattle.base.proofs.Tests.{apart, yes, no}
 use Rattle.base.proofs.Computed.{is-true}
-use Rattle.fop.specs.Limits.{largestK, largestTransmissionLimit, largestTimer, largestNumber}
+use Rattle.fop.specs.Limits.{largestK, largestTransmissionLimit, largestTimer, largestNumber, largestTimeoutType, largestSuspendState}
 use Rattle.fop.specs.Units.{Word}
 use Rattle.fop.specs.Table.{FopEvent, E18, E25, E26, E27, E28, E39, E40, E103}
 use Rattle.fop.specs.Events.{Line, when, first, seen, wordLines, wordEvent, expiryLines, validDirective, directiveLines, directiveEvent}
-use Rattle.fop_actions.specs.declared.SenderState.{SenderState}
-use Rattle.fop_actions.specs.Start.{begun}
+use Rattle.sender_values.specs.declared.SenderState.{SenderState}
+use Rattle.sender_values.specs.Start.{begun}
 use Rattle.fop_events.specs.Events.{eventNumber, variablesOf}
 use Rattle.fop_view.specs.Rows.{acknowledging, Needed, Meets}
 use Rattle.session.proofs.Choices.{by-pick, and-l, and-r, upto, _also_}
@@ -98,7 +98,7 @@ octet-below v h = omega (arith, leb→le v largestNumber h)
 within-limits : (v most : ℕ) → T (leb 1 v && leb v most) → (1 ≤ v) × (v ≤ most)
 within-limits v most h = (leb→le 1 v (and-l (leb 1 v) (leb v most) h), leb→le v most (and-r (leb 1 v) (leb v most) h))
 
-module _ (v : ℕ) (s : SenderState) (serving : s .variables .«suspend_state» ≡ 0) where
+module _ (v : ℕ) (s : SenderState) (most : s .variables .«suspend_state» ≤ largestSuspendState) where
   abbrev DirectiveMeets : FopEvent → Type 0
   DirectiveMeets e = Meets e [] v s
 
@@ -107,7 +107,12 @@ module _ (v : ℕ) (s : SenderState) (serving : s .variables .«suspend_state» 
 
   resumes : ValidMeets 6
   unfolding begun
-  resumes h = by-pick DirectiveMeets (eqb (s .variables .«suspend_state») 0) (λ t. tt) (λ t. absurd (eqb-false _ _ t serving))
+  resumes h =
+      let n = s .variables .«suspend_state» in
+      by-pick DirectiveMeets (eqb n 0) (λ t. tt)
+      (λ a. by-pick DirectiveMeets (eqb n 1) (eqb-true n 1)
+      (λ b. by-pick DirectiveMeets (eqb n 2) (eqb-true n 2)
+      (λ c. by-pick DirectiveMeets (eqb n 3) (eqb-true n 3) (λ d. omega (arith, most, eqb-false n 0 a, eqb-false n 1 b, eqb-false n 2 c, eqb-false n 3 d)))))
 
   valid-meets : (d : ℕ) → d < 12 → ValidMeets d
   unfolding begun
@@ -125,21 +130,22 @@ module _ (v : ℕ) (s : SenderState) (serving : s .variables .«suspend_state» 
       also within-limits v largestK
       also (λ h. within-limits v largestTimer h .0)
       also within-limits v largestTransmissionLimit
-      also eqb→eq v 0
+      also (λ h. omega (arith, eqb→eq v 0 h))
       also tt)
 
-pub directive-meets : (d v : ℕ) (s : SenderState) → validDirective d v ≡ true → s .variables .«suspend_state» ≡ 0
+pub directive-meets : (d v : ℕ) (s : SenderState) → validDirective d v ≡ true → s .variables .«suspend_state» ≤ largestSuspendState
     → Meets (directiveEvent d v (variablesOf s)) [] v s
-directive-meets d v s valid serving =
+directive-meets d v s valid most =
     let h : T (validDirective d v) = subst T (sym valid) tt in
-    subst (λ (e : FopEvent). Meets e [] v s) (sym (valid-event d v s valid)) (valid-meets v s serving d (number-below d v h) h)
+    subst (λ (e : FopEvent). Meets e [] v s) (sym (valid-event d v s valid)) (valid-meets v s most d (number-below d v h) h)
 
--- The expiry of the timer, with Timeout_Type 0.
-pub expiry-meets : (s : SenderState) → s .settings .«timeout_type» ≡ 0
+-- The expiry of the timer: E16 or E17 with Timeout_Type 0, else E104 or E18.
+pub expiry-meets : (s : SenderState) → s .settings .«timeout_type» ≤ largestTimeoutType → s .variables .timer ≡ 0
     → Meets (first (expiryLines (ltb (s .variables .«transmission_count») (s .settings .«transmission_limit»)) (eqb (s .settings .«timeout_type») 0)) E18) [] 0 s
-expiry-meets s alerting = by _ _ (eq-eqb _ 0 alerting) (ltb-true _ _) where
-  by : (a b : Bool) → b ≡ true → (a ≡ true → s .variables .«transmission_count» < s .settings .«transmission_limit») → Meets (first (expiryLines a b) E18) [] 0 s
-  by true true t short = short refl
-  by false true t short = tt
-  by true false t short = absurd (apart t)
-  by false false t short = absurd (apart t)
+expiry-meets s most stopped = by _ _ (λ t. omega (arith, most, eqb-false (s .settings .«timeout_type») 0 t)) (ltb-true _ _) where
+  by : (a b : Bool) → (b ≡ false → s .settings .«timeout_type» ≡ 1) → (a ≡ true → s .variables .«transmission_count» < s .settings .«transmission_limit»)
+      → Meets (first (expiryLines a b) E18) [] 0 s
+  by true true one short = short refl
+  by false true one short = tt
+  by true false one short = (short refl, one refl, stopped)
+  by false false one short = (one refl, stopped)

@@ -4,8 +4,8 @@ use mathlib.Core.Path.{_≡_, refl, ap}
 use mathlib.Core.Option.{Option, some}
 use Rattle.fop.specs.Table.{FopEvent, E1, E2, E3, E4, E5, E6, E7, E8, E9, E10, E11, E12, E13, E14, E15, E16, E17, E18, E19, E20, E21, E22, E23, E24, E25, E26, E27, E28, E29, E30, E31, E32, E33, E34}
 use Rattle.fop.specs.Table.{E35, E36, E37, E38, E39, E40, E41, E42, E43, E44, E45, E46, E101, E102, E103, E104}
-use Rattle.fop_actions.specs.declared.Work.{Work}
-use Rattle.fop_rows.specs.Rows.{eventOf, rowIf, rowOf, rowNumbered}
+use Rattle.sender_values.specs.declared.Work.{Work}
+use Rattle.sender_table.specs.Rows.{eventOf, rowIf, rowOf, rowNumbered}
 use Rattle.fop_events.specs.Events.{eventNumber}
 
 pub number-event : (e : FopEvent) → eventOf (eventNumber e) ≡ some e
@@ -61,6 +61,6 @@ number-event E102 = refl
 number-event E103 = refl
 number-event E104 = refl
 
-pub row-event : (e : FopEvent) (n l : ℕ) (w : Work) → rowNumbered (eventNumber e) n l w ≡ rowOf e n l w
+pub row-event : (e : FopEvent) (n : ℕ) (w : Work) → rowNumbered (eventNumber e) n w ≡ rowOf e n w
 unfolding rowNumbered rowIf
-row-event e n l w = ap (λ (x : Option FopEvent). rowIf x n l w) (number-event e)
+row-event e n w = ap (λ (x : Option FopEvent). rowIf x n w) (number-event e)

@@ -7,7 +7,7 @@ use lib.ListN.{length, take, drop}
 use lib.Seq.{take-append-seam}
 use Rattle.base.specs.Outcome.{Outcome, Outcome.done, Outcome.refused}
 use Rattle.fop.specs.Events.{SenderEvent}
-use Rattle.fop_actions.specs.declared.Work.{Work}
+use Rattle.sender_values.specs.declared.Work.{Work}
 use Rattle.sender.specs.Answers.{answered, refusing, stepBy}
 use Rattle.ends.specs.Ours.{Held, stepOf, heldAfter, answerBy}
 use Rattle.ends.proofs.Steps.{concluded}
@@ -17,11 +17,11 @@ same-front : (y a b : List ℕ) → take (length y) (y ++ drop (length y) a) ≡
 same-front y a b = take-append-seam y (drop (length y) a) ∙ sym (take-append-seam y (drop (length y) b))
 
 module _ (x : Held) (a b : List ℕ) where
-  same-by : (k : ℕ) (w : Work) (o : Outcome (Unit {0})) (new : List ℕ)
-      → answerBy (stepBy k (x .sender .fop) w o new (x .store) a) ≡ answerBy (stepBy k (x .sender .fop) w o new (x .store) b)
+  same-by : (k : ℕ) (w : Work) (ls : List ℕ) (o : Outcome (Unit {0})) (new : List ℕ)
+      → answerBy (stepBy k (x .sender .fop) w ls o new (x .store) a) ≡ answerBy (stepBy k (x .sender .fop) w ls o new (x .store) b)
   unfolding answered refusing
-  same-by k w (done y more) new = rw (same-front y a b)
-  same-by k w (refused number place) new = refl
+  same-by k w ls (done y more) new = rw (same-front y a b)
+  same-by k w ls (refused number place) new = refl
 
 -- the sender and its store after an event, and the answer, by the length of the output lent
 pub output-content-free : (e : SenderEvent) (x : Held) (a b : List ℕ) → length a ≡ length b
@@ -29,5 +29,5 @@ pub output-content-free : (e : SenderEvent) (x : Held) (a b : List ℕ) → leng
 output-content-free e x a b same =
     let c = concluded x (length b) e in (
       ap heldAfter (c .is a same) ∙ sym (ap heldAfter (c .is b refl)),
-      ap answerBy (c .is a same) ∙ same-by x a b (c .event) (c .work) (c .writing) (c .new) ∙ sym (ap answerBy (c .is b refl)),
+      ap answerBy (c .is a same) ∙ same-by x a b (c .event) (c .work) (c .lengths) (c .writing) (c .new) ∙ sym (ap answerBy (c .is b refl)),
     )

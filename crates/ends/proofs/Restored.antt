@@ -1,7 +1,7 @@
--- The test by which a kept state is restored (crate sender, specs/State) holds of every state that a sender can reach, and a state of which it
+-- The test by which a kept state is restored (crate sender_state) holds of every state that a sender can reach, and a state of which it
 -- holds is well-formed: the test is the conjunction of what every event keeps. A start with any two numbers is well-formed.
 use Prim.Native.Nat.{ℕ, zero, suc, _≤_, _<_}
-use mathlib.Core.Path.{_≡_, refl, sym, ap, subst}
+use mathlib.Core.Path.{_≡_, refl, sym, ap, subst, _∙_}
 use mathlib.Core.Bool.{Bool, true, false, not, true≢false}
 use mathlib.Core.List.{List, [], _∷_}
 use native.Mathlib.Omega.{arith}
@@ -14,28 +14,25 @@ use Rattle.base.specs.Modulo.{offset}
 use Rattle.base.proofs.Tests.{both-left as left, both-right as right}
 use Rattle.fop.specs.Limits.{largestK, largestTransmissionLimit}
 use Rattle.fop.specs.Units.{Own}
-use Rattle.fop_actions.specs.declared.Queues.{Queues}
-use Rattle.fop_actions.specs.declared.SenderState.{SenderState}
-use Rattle.fop_actions.specs.declared.Settings.{Settings}
-use Rattle.fop_actions.specs.declared.State.{State}
-use Rattle.fop_actions.specs.declared.State.the-variants as state
-use Rattle.fop_actions.specs.declared.Variables.{Variables}
-use Rattle.fop_actions.specs.Limits.{places}
-use Rattle.fop_actions.specs.Start.{startOf, begun}
-use Rattle.fop_rows.specs.Rows.{inMain, isFrame}
-use Rattle.fop_view.specs.State.{Good, held, withFrame}
-use Rattle.sender.specs.Limits.{smallestStore}
-use Rattle.sender.specs.Start.{settingsHold}
-use Rattle.sender.specs.State.{unitsHeld, numbersHold, isEmpty, stateHolds, lengthsHold, wellFormed}
+use Rattle.sender_values.specs.declared.Queues.{Queues}
+use Rattle.sender_values.specs.declared.SenderState.{SenderState}
+use Rattle.sender_values.specs.declared.Settings.{Settings}
+use Rattle.fop.specs.declared.State.{State}
+use Rattle.fop.specs.declared.State.the-variants as state
+use Rattle.sender_values.specs.declared.Variables.{Variables}
+use Rattle.store.specs.Places.{places}
+use Rattle.sender_values.specs.Start.{startOf, begun}
+use Rattle.sender_table.specs.Rows.{inMain, isFrame}
+use Rattle.sender_values.specs.Actions.{unitsHeld}
+use Rattle.fop_view.specs.State.{Good, withFrame, effective}
+use Rattle.fop_view.proofs.Theorem.{effective-state}
+use Rattle.sender_frames.specs.Limits.{smallestStore}
+use Rattle.sender_state.specs.State.{settingsHold, numbersHold, isEmpty, stateHolds, lengthsHold, wellFormed}
 
 -- two tests that hold
 joined : (a b : Bool) → a ≡ true → b ≡ true → both a b ≡ true
 joined true b p q = q
 joined false b p q = p
-
-held-is : (sent : ℕ) (waiting : Bool) → unitsHeld sent waiting ≡ held sent waiting
-held-is sent true = refl
-held-is sent false = refl
 
 -- The lengths.
 lengths-test : (n : ℕ) (ls : List ℕ) → ((i : ℕ) → getD ls i 0 ≤ largestUnit) → ((i : ℕ) → i < n → i < length ls → 1 ≤ getD ls i 0) → lengthsHold n ls ≡ true
@@ -105,7 +102,7 @@ good-passes own s store g =
     (joined _ _ (le-leb (s .settings .k) largestK (g .window))
     (joined _ _ (le-leb 1 (s .settings .«t1_initial») (g .clock-least))
     (joined _ _ (le-leb 1 (s .settings .«transmission_limit») (g .limit-least))
-    (joined _ _ (eq-eqb (s .settings .«timeout_type») 0 (g .alerting))
+    (joined _ _ (eq-eqb (s .settings .«timeout_type») 0 (omega (arith, g .type-most)))
     (joined _ _ (le-leb (s .settings .spacecraft) largestSpacecraft (omega (arith, g .spacecraft, g .spacecraft-most)))
     (le-leb (s .settings .channel) largestChannel (omega (arith, g .channel, g .channel-most)))))))))
     (joined _ _
@@ -114,9 +111,11 @@ good-passes own s store g =
     (joined _ _ (le-leb (s .queues .marked) (s .queues .sent) (g .formed .last))
     (joined _ _ (le-leb 1 (s .variables .«transmission_count») (g .count-least)) (eq-eqb (s .variables .«suspend_state») 0 (g .serving))))))
     (joined _ _
-    (state-test (s .variables) (s .queues) (s .state) (λ m. (g .sent-main m, g .waiting-main m)) (g .stopped) (g .control-s5))
-    (subst (λ (n : ℕ). lengthsHold n (s .queues .lengths) ≡ true) (sym (held-is (s .queues .sent) (s .queues .waiting)))
-    (lengths-test (held (s .queues .sent) (s .queues .waiting)) (s .queues .lengths) (g .formed .units) (λ i h k. g .filled i h)))))
+    (state-test (s .variables) (s .queues) (s .state) (λ m. (g .sent-main (outside-is m), g .waiting-main (outside-is m))) (g .stopped) (g .control-s5))
+    (lengths-test (unitsHeld (s .queues .sent) (s .queues .waiting)) (s .lengths) (g .formed .units) (λ i h k. g .filled i h))))
+  where
+    outside-is : inMain (s .state) ≡ false → inMain (effective s) ≡ false
+    outside-is m = ap inMain (effective-state s (g .serving)) ∙ m
 
 -- what the types of the struct's fields see to
 pub record Sized (s : SenderState) : Type 0 where
@@ -124,7 +123,7 @@ pub record Sized (s : SenderState) : Type 0 where
   pub nnr : s .variables .nnr < 256
   pub limit : s .settings .«transmission_limit» ≤ largestTransmissionLimit
   pub count : s .variables .«transmission_count» ≤ largestTransmissionLimit
-  pub lengths : length (s .queues .lengths) ≡ places
+  pub lengths : length (s .lengths) ≡ places
 
 -- A state that passes is well-formed, with a store that is long enough.
 pub passes-good : (s : SenderState) (store : List ℕ) → Sized s → smallestStore ≤ length store → wellFormed s ≡ true
@@ -139,7 +138,7 @@ passes-good s store z long t =
     let numbers : numbersHold v q ≡ true = left _ _ rest in
     let rest2 = right (numbersHold v q) _ rest in
     let states : stateHolds (s .state) v q ≡ true = left _ _ rest2 in
-    let units : lengthsHold (unitsHeld (q .sent) (q .waiting)) (q .lengths) ≡ true = right (stateHolds (s .state) v q) _ rest2 in
+    let units : lengthsHold (unitsHeld (q .sent) (q .waiting)) (s .lengths) ≡ true = right (stateHolds (s .state) v q) _ rest2 in
     let a = right (leb 1 (g .k)) _ settings in
     let b = right (leb (g .k) largestK) _ a in
     let c = right (leb 1 (g .«t1_initial»)) _ b in
@@ -151,6 +150,8 @@ passes-good s store z long t =
     let i = right (leb (q .sent) x) _ h in
     let j = right (leb (q .marked) (q .sent)) _ i in
     let k = right (leb 1 (v .«transmission_count»)) _ j in
+    let zero-suspend : v .«suspend_state» ≡ 0 = eqb-true (v .«suspend_state») 0 k in
+    let outside-is : inMain (effective s) ≡ false → inMain (s .state) ≡ false = λ m. ap inMain (sym (effective-state s zero-suspend)) ∙ m in
     record {
       formed = record {
         vs-octet = z .vs;
@@ -159,7 +160,7 @@ passes-good s store z long t =
         outstanding = leb-true (q .sent) x (left _ _ h);
         last = leb-true (q .marked) (q .sent) (left _ _ i);
         all-places = z .lengths;
-        units = lengths-most (unitsHeld (q .sent) (q .waiting)) (q .lengths) units;
+        units = lengths-most (unitsHeld (q .sent) (q .waiting)) (s .lengths) units;
         room = long;
       };
       window-least = leb-true 1 (g .k) (left _ _ settings);
@@ -169,22 +170,24 @@ passes-good s store z long t =
       limit = z .limit;
       count-least = leb-true 1 (v .«transmission_count») (left _ _ j);
       count-most = z .count;
-      alerting = eqb-true (g .«timeout_type») 0 (left _ _ d);
-      serving = eqb-true (v .«suspend_state») 0 k;
-      sent-main = λ m. outside v q (s .state) states m .0;
-      waiting-main = λ m. outside v q (s .state) states m .1;
+      type-most = omega (arith, eqb-true (g .«timeout_type») 0 (left _ _ d));
+      suspend-most = omega (arith, zero-suspend);
+      suspend-initial = λ m. zero-suspend;
+      serving = zero-suspend;
+      sent-main = λ m. outside v q (s .state) states (outside-is m) .0;
+      waiting-main = λ m. outside v q (s .state) states (outside-is m) .1;
       stopped = λ p. timed v q (subst (λ (y : State). stateHolds y v q ≡ true) p states);
       control-s5 = framed v q (s .state) states;
-      filled = λ n p. lengths-least (unitsHeld (q .sent) (q .waiting)) (q .lengths) units n
-          (subst (λ (y : ℕ). n < y) (sym (held-is (q .sent) (q .waiting))) p)
+      filled = λ n p. lengths-least (unitsHeld (q .sent) (q .waiting)) (s .lengths) units n
+          p
           (places-enough (q .sent) (q .waiting) n p (leb-true (q .sent) largestK (left _ _ numbers)) (z .lengths));
       spacecraft = refl;
       channel = refl;
       spacecraft-most = leb-true (g .spacecraft) largestSpacecraft (left _ _ e);
       channel-most = leb-true (g .channel) largestChannel f;
     } where
-      places-enough : (sent : ℕ) (waiting : Bool) (n : ℕ) → n < held sent waiting → sent ≤ largestK → length (s .queues .lengths) ≡ places
-          → n < length (s .queues .lengths)
+      places-enough : (sent : ℕ) (waiting : Bool) (n : ℕ) → n < unitsHeld sent waiting → sent ≤ largestK → length (s .lengths) ≡ places
+          → n < length (s .lengths)
       places-enough sent true n p m l = omega (arith, p, m, l)
       places-enough sent false n p m l = omega (arith, p, m, l)
 

@@ -1,46 +1,49 @@
 -- Every step of our sender is concluded by what writing the frame handed down comes to (crate sender, specs/Answers), and that looks at the
 -- length of the output lent and at none of its octets. A refused event is a writing that is refused.
-use Prim.Native.Nat.{ℕ, _*_, _≤_}
+use Prim.Native.Nat.{ℕ, suc, _≤_}
 use mathlib.Core.Path.{_≡_, refl, ap}
 use mathlib.Core.Bool.{Bool, true, false}
-use mathlib.Core.List.{List}
+use mathlib.Core.List.{List, []}
+use native.Mathlib.Omega.{arith}
 use borrow.Author.Tests.{leb-true}
 use lib.Dec.{leb, eqb}
 use lib.ListN.{length}
 use Rattle.base.specs.Choice.{pick, must}
 use Rattle.base.specs.Limits.{largestUnit}
 use Rattle.base.specs.Outcome.{Outcome, Outcome.refused}
-use Rattle.memory.specs.Placed.{placed}
+use Rattle.store.specs.Places.{unitPut, without}
 use Rattle.clcw.specs.Answers.{readingOf}
 use Rattle.clcw.specs.declared.WordReading.{WordReading}
 use Rattle.clcw.specs.declared.WordReading.the-variants as reading
 use Rattle.fop.specs.Units.{areOctets}
 use Rattle.fop.specs.Events.{SenderEvent, requestAd, requestBd, tick, lower, directive, wordArrives}
-use Rattle.fop_actions.specs.declared.SenderState.{SenderState}
-use Rattle.fop_actions.specs.declared.Work.{Work}
-use Rattle.fop_actions.specs.Start.{begun}
-use Rattle.fop_actions.specs.View.{without}
-use Rattle.fop_rows.specs.Rows.{rowNumbered}
+use Rattle.sender_values.specs.declared.SenderState.{SenderState}
+use Rattle.sender_values.specs.declared.Work.{Work}
+use Rattle.sender_values.specs.Start.{begun}
+use Rattle.sender_view.proofs.SentQueue.{held-most}
+use Rattle.sender_table.specs.Rows.{rowNumbered}
 use Rattle.fop_events.specs.Events.{wordNumber, directiveNumber, adNumber, bdNumber, lowerNumber}
 use Rattle.sender.specs.Answers.{Step, stepBy, refusedStep}
-use Rattle.sender.specs.Limits.{smallestStore}
-use Rattle.sender.specs.Events.{handedWriting, unitBefore, unitOffered, added, servedBy, served, offeredBy, bypassedBy, mustBeUnit, requestAdOf, requestBdOf, directiveOf, ticked, tickNumber, tickOf, lowerLayerOf, wordBy, controlWordOf}
-use Rattle.ends.specs.Ours.{Held, stepOf, lowerAnswer}
+use Rattle.sender_frames.specs.Limits.{smallestStore}
+use Rattle.sender_frames.specs.Frames.{handedWriting, unitBefore, unitOffered, mustBeUnit}
+use Rattle.sender.specs.Events.{added, servedBy, served, offeredBy, bypassedBy, requestAdOf, requestBdOf, directiveOf, ticked, tickNumber, tickOf, lowerLayerOf, wordBy, controlWordOf}
+use Rattle.ends.specs.Ours.{Held, stepOf}
 
 -- the store that is left where the step is done: as it was, without its oldest units, or with the unit offered
 pub data Left (x : Held) : List ℕ → Type 0 where
   same : Left x (x .store)
-  fewer : (count : ℕ) → Left x (without count (x .store))
-  more : (o : List ℕ) → length o ≤ largestUnit → Left x (placed (x .store) (largestUnit * x .sender .fop .queues .sent) o)
+  fewer : (count staying : ℕ) → staying ≤ suc (x .sender .fop .queues .sent) → Left x (without (x .sender .fop .lengths) count staying (x .store))
+  more : (o : List ℕ) → length o ≤ largestUnit → Left x (unitPut (x .sender .fop .queues .sent) o (x .store))
 
 -- a step, by the output lent: its event, its work, what writing comes to and the store after it are the same for all outputs of this length
 pub record Concluded (x : Held) (lent : ℕ) (step : List ℕ → Step) : Type 0 where
   pub event : ℕ
   pub work : Work
+  pub lengths : List ℕ
   pub writing : Outcome (Unit {0})
   pub new : List ℕ
   pub left : Left x new
-  pub is : (output : List ℕ) → length output ≡ lent → step output ≡ stepBy event (x .sender .fop) work writing new (x .store) output
+  pub is : (output : List ℕ) → length output ≡ lent → step output ≡ stepBy event (x .sender .fop) work lengths writing new (x .store) output
 
 module _ (x : Held) (lent : ℕ) where
   abbrev s : SenderState
@@ -53,7 +56,7 @@ module _ (x : Held) (lent : ℕ) where
   C step = Concluded x lent step
 
   refused-with : (number : ℕ) → C (λ output. refusedStep number s store output)
-  refused-with number = record { event = 0; work = begun s; writing = refused number 0; new = store; left = same; is = λ output l. refl }
+  refused-with number = record { event = 0; work = begun s; lengths = []; writing = refused number 0; new = store; left = same; is = λ output l. refl }
 
   either : (b : Bool) (y z : List ℕ → Step) → C y → C z → C (λ output. pick b (y output) (z output))
   either true y z p q = p
@@ -64,31 +67,32 @@ module _ (x : Held) (lent : ℕ) where
   judged false y z p q = p
 
   -- the frame handed down is written with the unit u
-  written : (k : ℕ) (w : Work) (u new : List ℕ) → Left x new → C (λ output. stepBy k s w (handedWriting (s .settings) (w .told .handed) u (length output)) new store output)
-  written k w u new left = record {
+  written : (k : ℕ) (w : Work) (ls u new : List ℕ) → Left x new → C (λ output. stepBy k s w ls (handedWriting (s .settings) (w .told .handed) u (length output)) new store output)
+  written k w ls u new left = record {
     event = k;
     work = w;
+    lengths = ls;
     writing = handedWriting (s .settings) (w .told .handed) u lent;
     new = new;
     left = left;
-    is = λ output l. ap (λ (n : ℕ). stepBy k s w (handedWriting (s .settings) (w .told .handed) u n) new store output) l;
+    is = λ output l. ap (λ (n : ℕ). stepBy k s w ls (handedWriting (s .settings) (w .told .handed) u n) new store output) l;
   }
 
   served-by : (k : ℕ) (w : Work) → C (λ output. servedBy k s w store output)
   unfolding servedBy
-  served-by k w = written k w (unitBefore s w store) _ (fewer (w .told .confirmed .count))
+  served-by k w = written k w _ (unitBefore s w store) _ (fewer (w .told .confirmed .count) _ (omega (arith, held-most (s .queues .sent) (s .queues .waiting))))
 
-  left-offered : (b : Bool) (o : List ℕ) → length o ≤ largestUnit → Left x (pick b (placed store (largestUnit * s .queues .sent) o) store)
+  left-offered : (b : Bool) (o : List ℕ) → length o ≤ largestUnit → Left x (pick b (unitPut (s .queues .sent) o store) store)
   left-offered true o m = more o m
   left-offered false o m = same
 
   offered-by : (k : ℕ) (w : Work) (o : List ℕ) → length o ≤ largestUnit → C (λ output. offeredBy k s w o store output)
   unfolding offeredBy
-  offered-by k w o m = written k w (unitOffered s w o store) _ (left-offered (added k s) o m)
+  offered-by k w o m = written k w _ (unitOffered s w o store) _ (left-offered (added k s) o m)
 
   bypassed-by : (k : ℕ) (w : Work) (o : List ℕ) → C (λ output. bypassedBy k s w o store output)
   unfolding bypassedBy
-  bypassed-by k w o = written k w o store same
+  bypassed-by k w o = written k w _ o store same
 
   -- where the store is long enough
   stored : (y : List ℕ → Step) → C y → C (λ output. must (leb smallestStore (length store)) (refusedStep 11 s store output) (y output))
@@ -96,7 +100,7 @@ module _ (x : Held) (lent : ℕ) where
 
   serves : (k n : ℕ) (g : SenderState) → C (λ output. served k n s g store output)
   unfolding served
-  serves k n g = stored _ (served-by k (rowNumbered k n 0 (begun g)))
+  serves k n g = stored _ (served-by k (rowNumbered k n (begun g)))
 
   -- a request, by its length
   asks : (o : List ℕ) (y : List ℕ → Step) → (length o ≤ largestUnit → C y)
@@ -111,11 +115,11 @@ module _ (x : Held) (lent : ℕ) where
 
   asks-ad : (o : List ℕ) → C (λ output. requestAdOf s o store output)
   unfolding requestAdOf
-  asks-ad o = asks o _ (offered-by (adNumber s) (rowNumbered (adNumber s) 0 (length o) (begun s)) o)
+  asks-ad o = asks o _ (offered-by (adNumber s) (rowNumbered (adNumber s) 0 (begun s)) o)
 
   asks-bd : (o : List ℕ) → C (λ output. requestBdOf s o store output)
   unfolding requestBdOf
-  asks-bd o = asks o _ (λ m. bypassed-by (bdNumber s) (rowNumbered (bdNumber s) 0 0 (begun s)) o)
+  asks-bd o = asks o _ (λ m. bypassed-by (bdNumber s) (rowNumbered (bdNumber s) 0 (begun s)) o)
 
   directs : (d v : ℕ) → C (λ output. directiveOf d v s store output)
   unfolding directiveOf
@@ -140,6 +144,6 @@ module _ (x : Held) (lent : ℕ) where
   concluded (requestAd o) = as-octets o _ (asks-ad o)
   concluded (requestBd o) = as-octets o _ (asks-bd o)
   concluded tick = serves (tickNumber s) 0 (ticked s)
-  concluded (lower l) = serves (lowerNumber (lowerAnswer l)) 0 s
+  concluded (lower l) = serves (lowerNumber l) 0 s
   concluded (directive d v) = directs d v
   concluded (wordArrives octets) = as-octets octets _ (word-read octets)

@@ -19,19 +19,20 @@ use Rattle.fop.specs.Events as events
 use Rattle.fop.specs.Events.{SenderEvent, directive}
 use Rattle.fop.specs.Answers as answers
 use Rattle.fop.specs.Answers.{senderNext}
-use Rattle.fop_actions.specs.declared.SenderState.{SenderState}
-use Rattle.fop_actions.specs.Start.{startOf, begun}
-use Rattle.fop_actions.specs.View.{fopOf}
+use Rattle.sender_values.specs.declared.SenderState.{SenderState}
+use Rattle.sender_values.specs.Start.{startOf, begun}
+use Rattle.sender_view.specs.View.{fopOf}
 use Rattle.fop_view.specs.State.{Good}
-use Rattle.farm.specs.Receiver as farm
-use Rattle.farm.specs.declared.Start.the-variants.{Ready}
+use Rattle.receiver.specs.Receiver as farm
+use Rattle.receiver.specs.declared.Start.the-variants.{Ready}
 use Rattle.session.specs.Ends.{Settings, Within, Tied, startSender, startReceiver, tables}
 use Rattle.session.specs.Session.{Event, begins, run}
 use Rattle.session.specs.Claims.{Claims}
 use Rattle.session.proofs.Theorem.{demand3}
 use Rattle.session.proofs.Strong.{stronger-claims}
-use Rattle.sender.specs.Limits.{smallestStore}
-use Rattle.sender.specs.Start.{startingOf, settingsHold}
+use Rattle.sender_frames.specs.Limits.{smallestStore}
+use Rattle.sender_state.specs.State.{settingsHold}
+use Rattle.sender.specs.Start.{startingOf}
 use Rattle.ends.specs.Ours.{Held, lentOutput, senderSettings, freshHeld, heldAfterAll, startHeld, reads, Begins, ours}
 use Rattle.ends.specs.Demand.{Demand3, StrongerOurs}
 use Rattle.ends.specs.Does.{Demand2}
@@ -86,6 +87,7 @@ module _ (set : Settings) (within : Within set) (v : ℕ) (octet : v ≤ largest
         le-leb (set .k) largestK (within .windowMost),
         le-leb 1 (set .t1) (within .timerLeast),
         le-leb 1 (set .limit) (within .limitLeast),
+        eq-eqb (set .timeoutType) 0 (omega (arith, within .timeoutMost)),
         le-leb (set .own .spacecraft) largestSpacecraft (within .spacecraft),
         le-leb (set .own .channel) largestChannel (within .channel),
       )
@@ -101,13 +103,13 @@ module _ (set : Settings) (within : Within set) (v : ℕ) (octet : v ≤ largest
   unfolding freshHeld
   fresh-good = subst (λ (s : SenderState). Good (set .own) s store) (sym starts) first-good
 
-  pub fresh-reads : reads (freshHeld set v store) ≡ fopOf (begun first) store
+  pub fresh-reads : reads (freshHeld set v store) ≡ fopOf (begun first) (first .lengths) store
   unfolding freshHeld
-  fresh-reads = ap (λ (s : SenderState). fopOf (begun s) store) starts
+  fresh-reads = ap (λ (s : SenderState). fopOf (begun s) (s .lengths) store) starts
 
 -- told to initiate without check, with V(S) = NN(R) = V(R), a fresh sender begins a session at Transmission_Count 1
 module _ (set : Settings) (within : Within set) (one : set .count ≡ 1) (store : List ℕ) (long : smallestStore ≤ length store) where
-  active : senderNext (set .own) (directive 1 0) 0 (fopOf (begun (first set within (set .n) (within .number) store long)) store) ≡ setClock 0 1 (startSender set)
+  active : senderNext (set .own) (directive 1 0) 0 (fopOf (begun (first set within (set .n) (within .number) store long)) (first set within (set .n) (within .number) store long .lengths) store) ≡ setClock 0 1 (startSender set)
   unfolding startSender answers.senderNext answers.senderRefusal answers.judged answers.needed events.work events.fopDirective events.directiveEvent
       table.table78 action.fopDo action.performCell action.performAll action.perform action.purge action.denyBc action.rejectWaiting startOf begun
   active = refl

@@ -15,16 +15,18 @@ use Rattle.base.specs.Outcome.{Outcome, Outcome.done, Outcome.refused}
 use Rattle.frame.specs.Frame.{bypassOf, controlOf, numberOf, dataOf, frameOf, writing}
 use Rattle.frame.specs.declared.Kind.{Kind}
 use Rattle.frame.specs.declared.Kind.the-variants as kind
-use Rattle.frame.proofs.Emitted.{length-frame, writing-room, writing-done}
+use Rattle.frame.proofs.Lengths.{length-frame}
+use Rattle.frame_writer.proofs.Emitted.{writing-room, writing-done}
 use Rattle.fop.specs.Limits.{largestK}
 use Rattle.fop.specs.Units.{Own, written}
 use Rattle.fop.specs.Answers.{octetsDown, room}
-use Rattle.fop_actions.specs.declared.Settings.{Settings}
-use Rattle.fop_actions.specs.declared.Handed.{Handed}
-use Rattle.fop_actions.specs.declared.Handed.the-variants as handed
-use Rattle.fop_actions.specs.View.{unitAt, framesOf}
-use Rattle.sender.specs.Events.{handedWriting}
-use Rattle.sender.specs.Limits.{smallestStore}
+use Rattle.sender_values.specs.declared.Settings.{Settings}
+use Rattle.sender_values.specs.declared.Handed.{Handed}
+use Rattle.sender_values.specs.declared.Handed.the-variants as handed
+use Rattle.store.specs.Places.{unitAt}
+use Rattle.sender_view.specs.View.{framesOf}
+use Rattle.sender_frames.specs.Frames.{handedWriting}
+use Rattle.sender_frames.specs.Limits.{smallestStore}
 
 -- the octets of a frame, none where there is none
 abbrev pub octetsIn : Option (List ℕ) → List ℕ

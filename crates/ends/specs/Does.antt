@@ -8,8 +8,8 @@ use Rattle.fop.specs.Units.{Own}
 use Rattle.fop.specs.Variables.{Fop}
 use Rattle.fop.specs.Events.{SenderEvent}
 use Rattle.fop.specs.Answers.{senderAnswer, senderNext}
-use Rattle.fop_actions.specs.Start.{begun}
-use Rattle.fop_actions.specs.View.{fopOf}
+use Rattle.sender_values.specs.Start.{begun}
+use Rattle.sender_view.specs.View.{fopOf}
 use Rattle.fop_view.specs.State.{Good}
 use Rattle.sender.specs.Answers.{Step}
 use Rattle.ends.specs.Ours.{Held, stepOf, answerBy, reads}
@@ -17,7 +17,7 @@ use Rattle.ends.specs.Ours.{Held, stepOf, answerBy, reads}
 -- a step of our sender is what the table machine does at the event, and leaves it well-formed; the answer has the frame's octets
 pub record Does (own : Own) (lent : ℕ) (e : SenderEvent) (f : Fop) (x : Step) : Type 0 where
   pub answer : answerBy x ≡ senderAnswer own e lent f
-  pub next : fopOf (begun (x .answer .next .fop)) (x .store) ≡ senderNext own e lent f
+  pub next : fopOf (begun (x .answer .next .fop)) (x .answer .next .fop .lengths) (x .store) ≡ senderNext own e lent f
   pub good : Good own (x .answer .next .fop) (x .store)
 
 -- for both ends' address, every event, any output lent and every well-formed sender with its store

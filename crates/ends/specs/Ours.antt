@@ -1,5 +1,5 @@
 -- Our own two ends in document 01's session: the sender by the definitions that its public functions equal (crate sender), the receiver by
--- crate farm's.
+-- crate receiver's.
 use Prim.Native.Nat.{ℕ}
 use mathlib.Core.Path.{_≡_}
 use mathlib.Core.List.{List, [], _∷_}
@@ -9,17 +9,14 @@ use lib.ListN.{length, take, replicate}
 use Rattle.base.specs.Choice.{pick}
 use Rattle.fop.specs.Units.{areOctets}
 use Rattle.fop.specs.Events.{SenderEvent, requestAd, requestBd, tick, lower, directive, wordArrives}
-use Rattle.fop.specs.Events as fop
 use Rattle.fop.specs.Variables.{Fop}
 use Rattle.fop.specs.Answers.{Answer}
-use Rattle.fop_actions.specs.declared.Settings.{Settings as SenderSettings}
-use Rattle.fop_actions.specs.Start.{begun}
-use Rattle.fop_actions.specs.View.{stateOf, reasonOf, responsesOf, runTold, fopOf}
-use Rattle.fop_rows.specs.Rows.{eventOf}
-use Rattle.fop_events.specs.declared.Lower.{Lower}
-use Rattle.fop_events.specs.declared.Lower.the-variants as answer
+use Rattle.sender_values.specs.declared.Settings.{Settings as SenderSettings}
+use Rattle.sender_values.specs.Start.{begun}
+use Rattle.sender_view.specs.View.{responsesOf, fopOf}
+use Rattle.sender_table.specs.Rows.{eventOf}
 use Rattle.fop_view.specs.State.{Good}
-use Rattle.farm.specs.declared.Receiver.{Receiver}
+use Rattle.receiver.specs.declared.Receiver.{Receiver}
 use Rattle.session.specs.Ends.{Settings, Ends, startSender, startReceiver}
 use Rattle.session.specs.Receiver.{receiverNext, receiverAnswer, receiverWord}
 use Rattle.sender.specs.declared.Sender.{Sender}
@@ -33,15 +30,6 @@ pub record Held : Type 0 where
   pub sender : Sender
   pub store : List ℕ
 
--- an answer of the lower layer, as the sender takes it
-abbrev pub lowerAnswer : fop.Lower → Lower
-lowerAnswer fop.adAccept = answer.AdAccept
-lowerAnswer fop.adReject = answer.AdReject
-lowerAnswer fop.bcAccept = answer.BcAccept
-lowerAnswer fop.bcReject = answer.BcReject
-lowerAnswer fop.bdAccept = answer.BdAccept
-lowerAnswer fop.bdReject = answer.BdReject
-
 -- units and words are lent as octets; a list with a number above 255 cannot be lent, and counts as one of a wrong length (10), as it does
 -- in crate fop, specs/Units
 abbrev pub ifOctets : List ℕ → Held → List ℕ → Step → Step
@@ -52,7 +40,7 @@ unfoldable pub stepOf : SenderEvent → List ℕ → Held → Step
 stepOf (requestAd o) output x = ifOctets o x output (requestAdOf (x .sender .fop) o (x .store) output)
 stepOf (requestBd o) output x = ifOctets o x output (requestBdOf (x .sender .fop) o (x .store) output)
 stepOf tick output x = tickOf (x .sender .fop) (x .store) output
-stepOf (lower l) output x = lowerLayerOf (lowerAnswer l) (x .sender .fop) (x .store) output
+stepOf (lower l) output x = lowerLayerOf l (x .sender .fop) (x .store) output
 stepOf (directive d v) output x = directiveOf d v (x .sender .fop) (x .store) output
 stepOf (wordArrives s) output x = ifOctets s x output (controlWordOf s (x .sender .fop) (x .store) output)
 
@@ -69,14 +57,14 @@ abbrev pub answerOf : SenderAnswer → List ℕ → Answer
 answerOf a output = record {
   refusal = a .refusal;
   event = eventOf (a .event);
-  state = stateOf (a .state);
+  state = a .state;
   down = handedDown (a .down) output;
   abort = a .abort;
   responses = responsesOf (a .responses);
-  alert = reasonOf (a .alert);
+  alert = a .alert;
   suspended = a .suspended;
-  confirmed = runTold (a .confirmed);
-  denied = runTold (a .denied);
+  confirmed = a .confirmed;
+  denied = a .denied;
 }
 
 -- the answer of a step
@@ -93,7 +81,7 @@ senderSettings set = record {
   k = set .k;
   «t1_initial» = set .t1;
   «transmission_limit» = set .limit;
-  «timeout_type» = 0;
+  «timeout_type» = set .timeoutType;
   spacecraft = set .own .spacecraft;
   channel = set .own .channel;
 }
@@ -113,7 +101,7 @@ startHeld set store = heldAfterAll ((directive 1 0, 0) ∷ []) (freshHeld set (s
 
 -- what the sender with its store reads as: the variables of table 7-8
 abbrev pub reads : Held → Fop
-reads x = fopOf (begun (x .sender .fop)) (x .store)
+reads x = fopOf (begun (x .sender .fop)) (x .sender .fop .lengths) (x .store)
 
 -- "It starts synchronised and active": a well-formed sender, however it came there, whose variables are those of the session's start
 pub record Begins (set : Settings) (x : Held) : Type 0 where

@@ -6,7 +6,7 @@ use Rattle.base.specs.Register.{shiftBit, shiftBits, register}
 use Rattle.clcw.specs.Clcw.{wordFields, clcwOf}
 use Rattle.codeblock.specs.Codeblock.{parity, errorControl}
 use Rattle.frame.specs.Frame.{bodyOf}
-use Rattle.frame.specs.Header.{headerFields, headerOf}
+use Rattle.frame_header.specs.Header.{headerFields, headerOf}
 use Rattle.randomizer.specs.Randomizer.{nextBit, later, octet}
 use Rattle.examples.specs.Worked.{Example, worked}
 

@@ -8,14 +8,15 @@ use lib.ListN.{length, replicate, length-replicate}
 use Rattle.base.specs.Octets.{Octets}
 use Rattle.base.specs.Outcome.{Outcome.done}
 use Rattle.base.specs.Limits.{largestInput, largestSpacecraft, largestChannel}
-use Rattle.cltu.specs.Cltu.{codeblocks, fillOctet, filled, cltuOf, startOf, reading}
+use Rattle.start_sequence.specs.StartSequence.{startOf}
+use Rattle.cltu.specs.Cltu.{codeblocks, fillOctet, filled, cltuOf, reading}
 use Rattle.cltu.proofs.RoundTrip.{round-trip}
 use Rattle.frame.specs.Frame.{bypassOf, controlOf, numberOf, dataOf, frameOf}
 use Rattle.frame.specs.Answers.{readingOf, partOf}
 use Rattle.frame.specs.declared.Kind.{Kind}
 use Rattle.frame.specs.declared.FrameReading.the-variants.{Frame}
 use Rattle.frame.proofs.Back.{Legal, frame-back, data-back}
-use Rattle.frame.proofs.Emitted.{length-frame}
+use Rattle.frame.proofs.Lengths.{length-frame}
 
 octets-fill : (n : ℕ) → Octets (replicate n fillOctet)
 octets-fill zero = tt

@@ -1,6 +1,6 @@
 -- What a match told of the state and of the event picks the cell of the table.
 use mathlib.Core.Path.{_≡_, refl, sym, ap, _∙_}
-use mathlib.Core.Bool.{false}
+use mathlib.Core.Bool.{Bool, false}
 use Prim.Native.Nat.{ℕ}
 use borrow.Author.Tests.{eqb-false}
 use lib.Dec.{eqb}
@@ -74,3 +74,7 @@ pub row : (e e′ : Event) (star : ℕ) (v x : Variables) → e ≡ e′ → x �
     → x ≡ stepOf e star v
 row e e′ star v x p h a b d =
     of-event e e′ star v x p (h ∙ by-state (λ (s : State). stepOf e′ 0 (at s v) ≡ stepOf e′ star (at s v)) a b d (v .state))
+
+-- a test of the state, by the state that was told
+pub test-told : (test : State → Bool) (s s′ : State) (x : Bool) → s ≡ s′ → x ≡ test s′ → x ≡ test s
+test-told test s s′ x p h = h ∙ ap test (sym p)

@@ -1,64 +1,17 @@
--- Theorems on the definitions: every answer is the table's; what the FARM-B counter and V(R) count over any list of events; and which
--- rows leave Lockout and touch the retransmit flag.
+-- Theorems on the table: what the FARM-B counter and V(R) count over any list of events; and which rows leave Lockout and touch the
+-- retransmit flag.
 use mathlib.Core.Path.{_≡_, refl, ap, _∙_}
 use mathlib.Core.List.{List, [], _∷_}
-use Prim.Native.Nat.{ℕ, _+_, _-_, _%_, _<_}
+use Prim.Native.Nat.{ℕ, _+_, _%_, _<_}
 use native.Mathlib.Omega.{arith}
-use native.Mathlib.Nat.{add-zero}
-use borrow.Author.Tests.{ne-eqb, lt-ltb}
 use Rattle.base.specs.Modulo.{advanced}
-use Rattle.frame.specs.Frame.{refusalOf}
-use Rattle.frame.specs.Answers.{readingOf}
-use Rattle.frame.specs.declared.FrameReading.{FrameReading}
-use Rattle.frame.specs.declared.FrameReading.the-variants.{Frame, Refused}
 use Rattle.farm.specs.declared.State.{State}
 use Rattle.farm.specs.declared.State.the-variants.{Open, Wait, Lockout}
 use Rattle.farm.specs.declared.Event.{Event}
 use Rattle.farm.specs.declared.Event.the-variants.{E1, E2, E3, E4, E5, E6, E7, E8, E9, E10, E11}
 use Rattle.farm.specs.declared.Variables.{Variables}
-use Rattle.farm.specs.declared.Receiver.{Receiver}
-use Rattle.farm.specs.declared.AcceptedUnit.the-variants.{None}
-use Rattle.farm.specs.declared.Received.{Received}
-use Rattle.farm.specs.declared.Released.the-variants.{Done, NoneTaken}
 use Rattle.farm.specs.Table.{table, perform, performAll, stepOf}
-use Rattle.farm.specs.Receiver.{become, starOf, unitOf, takes, answered, arrived, byReading, receiveOf, releaseOf}
-use Rattle.farm.proofs.Cells.{at, by-state, by-event, e9-keeps}
-
--- the value V*(R) of a reading
-abbrev pub starFor : FrameReading → ℕ
-starFor (Frame fields) = starOf (fields .kind)
-starFor (Refused number) = 0
-
--- every answer is the table's: the variables, the unit, and of the rest only the buffers taken
-pub record ByTable (r : Receiver) (star : ℕ) (x : Received) : Type 0 where
-  pub variables : x .next .variables ≡ stepOf (x .event) star (r .variables)
-  pub unit : x .unit ≡ unitOf (x .event) (r .variables .state)
-  pub next : x .next ≡ become (r .taken + takes (x .unit)) (x .next .variables) r
-
-pub by-table : (r : Receiver) (octets : List ℕ) → ByTable r (starFor (readingOf octets (r .spacecraft) (r .channel))) (receiveOf r octets)
-unfolding receiveOf byReading arrived answered
-by-table r octets = go (readingOf octets (r .spacecraft) (r .channel))
-  where
-    go : (reading : FrameReading) → ByTable r (starFor reading) (byReading r reading)
-    go (Frame fields) = record { variables = refl; unit = refl; next = refl }
-    go (Refused number) = record { variables = refl; unit = refl; next = refl }
-
--- a refused frame is E9, with its number, and changes nothing
-pub refused-changes-nothing : (r : Receiver) (octets : List ℕ) (number : ℕ) → refusalOf octets (r .spacecraft) (r .channel) ≡ number → (number ≡ 0 → ⊥)
-    → receiveOf r octets ≡ record { refusal = number; event = E9; unit = None; next = r }
-unfolding receiveOf byReading readingOf answered
-refused-changes-nothing r octets number e d =
-    rw (e, ne-eqb number 0 d, e9-keeps 0 (r .variables), add-zero (r .taken))
-
--- a release is E10 with one buffer given back, and is refused only where none is taken
-pub release-by-table : (r : Receiver) → 0 < r .taken
-    → releaseOf r ≡ Done (record { refusal = 0; event = E10; unit = None; next = become (r .taken - 1) (stepOf E10 0 (r .variables)) r })
-unfolding releaseOf answered
-release-by-table r h = rw (lt-ltb 0 (r .taken) h, add-zero (r .taken - 1))
-
-pub release-refused : (r : Receiver) → r .taken ≡ 0 → releaseOf r ≡ NoneTaken
-unfolding releaseOf
-release-refused r e = rw e
+use Rattle.farm.proofs.Cells.{at, by-state, by-event}
 
 -- a run of events, each with its V*(R)
 abbrev pub run : List (Event × ℕ) → Variables → Variables

@@ -2,10 +2,6 @@ pub mod Cells
 pub mod Windows
 pub mod Words
 pub mod Units
-pub mod Told
-pub mod Kept
-pub mod Judged
-pub mod Restored
+pub mod Sound
 pub mod Facts
-pub mod Examples
 pub mod Refuted

@@ -1,49 +1,22 @@
--- Refuted by name: wrong receivers, each with a witness on which it differs from the definitions.
+-- Refuted by name: wrong windows, steps and counts, each with a witness on which it differs from the definitions.
 use mathlib.Core.Path.{_≡_, refl, sym, ap, _∙_}
 use mathlib.Core.Bool.{Bool, true, false}
-use mathlib.Core.List.{List, [], _∷_}
+use mathlib.Core.List.{List}
 use Prim.Native.Nat.{ℕ, _+_, _-_, _/_, _%_, _<_}
 use native.Mathlib.Omega.{arith}
 use lib.Dec.{leb, ltb, eqb}
 use Rattle.base.specs.Choice.{pick, both}
-use Rattle.base.specs.Fields.{valueOf, fieldAt}
 use Rattle.base.specs.Modulo.{offset}
-use Rattle.base.specs.Octets.{bitsOf, octetBits}
-use Rattle.base.specs.Register.{shiftBit, shiftBits, register}
 use Rattle.base.proofs.Tests.{apart}
-use Rattle.clcw.specs.declared.Clcw.{Clcw}
-use Rattle.fecf.specs.Fecf.{syndromeOf}
-use Rattle.frame.specs.Frame.{totalOf, dataField, commandHeld, headerRefusal, contentRefusal, refusalOf, kindOf}
-use Rattle.frame.specs.Answers.{fieldsOf, readingOf}
-use Rattle.frame.specs.declared.Kind.the-variants.{Ad}
-use Rattle.frame.specs.declared.Fields.{Fields}
-use Rattle.frame.specs.declared.FrameReading.the-variants.{Frame}
 use Rattle.farm.specs.declared.State.{State}
 use Rattle.farm.specs.declared.State.the-variants.{Open, Wait, Lockout}
 use Rattle.farm.specs.declared.Event.{Event}
 use Rattle.farm.specs.declared.Event.the-variants.{E1, E2, E3, E4, E5, E6, E7, E8, E10}
 use Rattle.farm.specs.declared.Variables.{Variables}
-use Rattle.farm.specs.declared.Receiver.{Receiver}
-use Rattle.farm.specs.declared.Received.{Received}
 use Rattle.farm.specs.Table.{table, perform, performAll, stepOf}
 use Rattle.farm.specs.Window.{notWait, adEvent}
-use Rattle.farm.specs.Receiver.{atStart, eventOf, answered, arrived, byReading, receiveOf, wordOf}
 use Rattle.farm.proofs.Cells.{differ}
 use Rattle.farm.proofs.Facts.{run, counted, counter-counts, lockout-left}
-
--- an AD frame with N(S) = 0 to spacecraft 0, channel 0
-abbrev frame : List ℕ
-frame = 0x00 ∷ 0x00 ∷ 0x00 ∷ 0x07 ∷ 0x00 ∷ 0x00 ∷ 0x8B ∷ 0x80 ∷ []
-
--- a receiver that answers E4 to every AD frame
-pub always-e4 : (receiver : Receiver → List ℕ → Received)
-    → ((r : Receiver) (octets : List ℕ) (fields : Fields) (number : ℕ) → readingOf octets (r .spacecraft) (r .channel) ≡ Frame fields → fields .kind ≡ Ad number
-    → receiver r octets .event ≡ E4)
-    → ((r : Receiver) (octets : List ℕ) → receiver r octets ≡ receiveOf r octets) → ⊥
-unfolding receiveOf byReading arrived answered eventOf adEvent readingOf fieldsOf kindOf refusalOf contentRefusal headerRefusal commandHeld dataField totalOf fieldAt valueOf octetBits bitsOf syndromeOf register shiftBits shiftBit
-always-e4 receiver always agrees =
-    let r = atStart 0 0 20 0 1 in
-    differ E1 E4 refl (sym (ap (λ (x : Received). x .event) (agrees r frame)) ∙ always r frame (fieldsOf frame) 0 refl refl)
 
 -- N(S) and V(R) compared as plain numbers
 abbrev plainEvent : ℕ → State → Bool → ℕ → ℕ → Event
@@ -97,8 +70,3 @@ module _ (step : Event → ℕ → Variables → Variables) (agrees : (e : Event
 pub made-up-count : (count : List (Event × ℕ) → Variables → ℕ) (l : List (Event × ℕ)) (v : Variables) → v .counter < 4
     → (count l v ≡ (v .counter + counted l) % 4 → ⊥) → ((m : List (Event × ℕ)) (w : Variables) → count m w ≡ run m w .counter) → ⊥
 made-up-count count l v h other agrees = other (agrees l v ∙ counter-counts l v h)
-
--- a control word whose count is not the counter
-pub made-up-word : (word : Receiver → Clcw) (r : Receiver) → (word r .counter ≡ r .variables .counter → ⊥) → ((q : Receiver) → word q ≡ wordOf q) → ⊥
-unfolding wordOf
-made-up-word word r other agrees = other (ap (λ (w : Clcw). w .counter) (agrees r))

@@ -1,6 +1,6 @@
 -- The units that table 7-9 accepts: an AD frame's at E1 in Open, a BD frame's at E6 in every state, and no other. The cells are computed, one by
 -- one; the rest follows by cases.
-use mathlib.Core.Path.{_≡_, refl, sym, _∙_}
+use mathlib.Core.Path.{_≡_, refl, sym, ap, ap₂, _∙_}
 use mathlib.Core.Bool.{false}
 use mathlib.Core.Logic.{_⊎_, inl, inr, ⊎-elim}
 use Prim.Native.Nat.{ℕ}
@@ -10,9 +10,9 @@ use Rattle.farm.specs.declared.State.{State}
 use Rattle.farm.specs.declared.State.the-variants.{Open, Wait, Lockout}
 use Rattle.farm.specs.declared.Event.{Event}
 use Rattle.farm.specs.declared.Event.the-variants.{E1, E2, E3, E4, E5, E6, E7, E8, E9, E10, E11}
+use Rattle.farm.specs.declared.AcceptedUnit.{AcceptedUnit}
 use Rattle.farm.specs.declared.AcceptedUnit.the-variants.{None, AdUnit, BdUnit}
-use Rattle.farm.specs.Table.{eventNumber, table, accepts}
-use Rattle.farm.specs.Receiver.{unitOf}
+use Rattle.farm.specs.Table.{eventNumber, table, accepts, unitOf}
 use Rattle.farm.proofs.Cells.{by-state, by-event, differ}
 
 abbrev Cases : Event → State → Type 0
@@ -54,3 +54,14 @@ ad-unit e s u = ⊎-elim (λ h. none (sym h ∙ u)) (⊎-elim (λ h. h .0) (λ h
     bd h =
         let z : _≡_ {A = ℕ} 0 1 = cc in
         absurd (omega arith)
+
+-- the unit of an event that was told, in a state that was told
+pub unit-told : (e e′ : Event) (s s′ : State) (u : AcceptedUnit) → e ≡ e′ → s ≡ s′ → u ≡ unitOf e′ s′ → u ≡ unitOf e s
+unit-told e e′ s s′ u p q h = h ∙ sym (ap₂ unitOf p q)
+
+-- the unit of an event that was told, where no state tells it apart
+pub unit-anywhere : (e e′ : Event) (s : State) (u : AcceptedUnit) → e ≡ e′ → u ≡ unitOf e′ Open → u ≡ unitOf e′ Wait → u ≡ unitOf e′ Lockout
+    → u ≡ unitOf e s
+unit-anywhere e e′ s u p a b c = by-state (λ (t : State). u ≡ unitOf e′ t) a b c s ∙ ap (λ (x : Event). unitOf x s) (sym p)
+
+pub ruleset units = (unit-told, unit-anywhere)

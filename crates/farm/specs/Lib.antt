@@ -1,4 +1,2 @@
 pub mod Table
 pub mod Window
-pub mod Receiver
-pub mod Kept

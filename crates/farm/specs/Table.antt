@@ -10,6 +10,8 @@ use Rattle.farm.specs.declared.State.the-variants.{Open, Wait, Lockout}
 use Rattle.farm.specs.declared.Event.{Event}
 use Rattle.farm.specs.declared.Event.the-variants.{E1, E2, E3, E4, E5, E6, E7, E8, E9, E10, E11}
 use Rattle.farm.specs.declared.Variables.{Variables}
+use Rattle.farm.specs.declared.AcceptedUnit.{AcceptedUnit}
+use Rattle.farm.specs.declared.AcceptedUnit.the-variants.{None, AdUnit, BdUnit}
 
 -- the events by their numbers
 abbrev pub eventNumber : Event → ℕ
@@ -163,3 +165,17 @@ anyAccept (a ∷ rest) = pick (isAccept a) true (anyAccept rest)
 -- the cell of an event in a state accepts the frame
 unfoldable pub accepts : Event → State → Bool
 accepts e s = anyAccept (table e s .actions)
+
+-- the unit that an event accepts: a type-D frame's, by its type (AD in E1 to E5, BD in E6), where the cell says Accept
+abbrev pub unitOf : Event → State → AcceptedUnit
+unitOf E1 s = pick (accepts E1 s) AdUnit None
+unitOf E2 s = pick (accepts E2 s) AdUnit None
+unitOf E3 s = pick (accepts E3 s) AdUnit None
+unitOf E4 s = pick (accepts E4 s) AdUnit None
+unitOf E5 s = pick (accepts E5 s) AdUnit None
+unitOf E6 s = pick (accepts E6 s) BdUnit None
+unitOf E7 s = None
+unitOf E8 s = None
+unitOf E9 s = None
+unitOf E10 s = None
+unitOf E11 s = None

@@ -1,17 +1,16 @@
 // Reads lines of events from standard input, and writes a row for each (document 01, "The program"). What is written is the
 // console's: see proofs/Program of that crate. Here are only the reading and the writing.
 use console::Console;
-use console::ROW_ROOM;
 use libc::STDIN_FILENO;
 use libc::STDOUT_FILENO;
+use program_rows::ROW_ROOM;
 use text::NumberWritten;
 ghost use mathlib.Core.Path.{_≡_};
 ghost use Prim.Native.Nat.{_*_, _≤_};
 ghost use lib.ListN.{length};
 ghost use Rattle.base.specs.Outcome.{numberOf, countOf};
 ghost use Rattle.text.specs.Answers.{writtenAnswer};
-ghost use Rattle.console.specs.Console.{headerText};
-ghost use Rattle.console.specs.Feed.{rowRoom};
+ghost use Rattle.program_rows.specs.Rows.{headerText, rowRoom};
 
 // Octets read at once.
 const CHUNK: usize = 2048;
@@ -94,7 +93,7 @@ fn all(input: &mut [u8], out: &mut [u8]) -> Step
 fn run(input: &mut [u8], out: &mut [u8])
     requires { ⌜ (length (now input) * rowRoom ≤ length (now out)) × (length headerText ≤ length (now out)) × (rowRoom ≤ length (now out)) ⌝ }
 {
-    let header = console::rows::header(out);
+    let header = program_rows::header(out);
     if !emit(header, out) {
         return;
     }

@@ -7,16 +7,17 @@ use lib.Dec.{leb, eqb}
 use lib.ListN.{length}
 use Rattle.base.specs.Choice.{pick}
 use Rattle.fop.specs.Units.{Fdu, Frame, Own, WordReceived, valid, invalid, other, legal, written, readWord}
-use Rattle.fop.specs.Table.{State, Reason, FopEvent, E40}
-use Rattle.fop.specs.Variables.{Fop, Work, Response, rejectDirective}
+use Rattle.fop.specs.declared.Alert.{Alert}
+use Rattle.fop.specs.declared.Alert.the-variants.{None}
+use Rattle.fop.specs.declared.Response.{Response}
+use Rattle.fop.specs.declared.Response.the-variants.{RejectDirective}
+use Rattle.fop.specs.declared.Run.{Run}
+use Rattle.fop.specs.declared.State.{State}
+use Rattle.fop.specs.Table.{FopEvent, E40}
+use Rattle.fop.specs.Variables.{Fop, Work}
 use Rattle.fop.specs.Events.{SenderEvent, requestAd, requestBd, tick, lower, directive, wordArrives, validDirective, work}
 
--- "two runs of units, confirmed and denied, each by first number and count, 0 and 0 where empty"
-pub record Run : Type 0 where
-  pub number : ℕ
-  pub count : ℕ
-
--- units that follow one another, as a run
+-- "two runs of units, confirmed and denied, each by first number and count, 0 and 0 where empty": units that follow one another, as a run
 abbrev pub runOf : List Fdu → Run
 runOf [] = record { number = 0; count = 0 }
 runOf (u ∷ us) = record { number = u .ns; count = length (u ∷ us) }
@@ -31,7 +32,7 @@ pub record Answer : Type 0 where
   pub down : Option (List ℕ)
   pub abort : Bool
   pub responses : List Response
-  pub alert : Option Reason
+  pub alert : Alert
   pub suspended : Bool
   pub confirmed : Run
   pub denied : Run
@@ -73,13 +74,13 @@ senderRefusal own e lent f = pick (eqb (judged own e) 0) (pick (leb (needed own 
 abbrev pub answered : Own → Work → Answer
 answered own w = record {
   refusal = 0;
-  event = w .event;
+  event = w .asked .event;
   state = w .fop .state;
   down = octetsDown own (w .frames);
-  abort = w .abort;
+  abort = w .notices .abort;
   responses = w .responses;
-  alert = w .alert;
-  suspended = w .suspended;
+  alert = w .notices .alert;
+  suspended = w .notices .suspended;
   confirmed = runOf (w .confirmed);
   denied = runOf (w .denied);
 }
@@ -92,8 +93,8 @@ refused r f = record {
   state = f .state;
   down = none;
   abort = false;
-  responses = pick (eqb r 12) (rejectDirective ∷ []) [];
-  alert = none;
+  responses = pick (eqb r 12) (RejectDirective ∷ []) [];
+  alert = None;
   suspended = false;
   confirmed = runOf [];
   denied = runOf [];

@@ -6,6 +6,8 @@ use Prim.Native.Nat.{ℕ, _-_}
 use lib.Dec.{leb, ltb, eqb}
 use Rattle.base.specs.Choice.{pick}
 use Rattle.base.specs.Modulo.{offset}
+use Rattle.fop.specs.declared.Lower.{Lower}
+use Rattle.fop.specs.declared.Lower.the-variants.{AdAccept, AdReject, BcAccept, BcReject, BdAccept, BdReject}
 use Rattle.fop.specs.Limits.{largestK, largestTransmissionLimit, largestTimer, largestNumber}
 use Rattle.fop.specs.Units.{Own, Word, WordReceived, valid, invalid, other, readWord}
 use Rattle.fop.specs.Table.{FopEvent, E1, E2, E3, E4, E5, E6, E7, E8, E9, E10, E11, E12, E13, E14, E15, E16, E17, E18, E19, E20, E21, E22, E23, E24, E25, E26, E27, E28, E29, E30, E31, E32, E33, E34}
@@ -40,9 +42,9 @@ seen w f = record {
   lockout = w .lockout;
   retransmit = w .retransmit;
   wait = w .wait;
-  invalid = ltb (offset (f .vs) (f .nnr)) (offset (w .nr) (f .nnr));
-  all = eqb (offset (w .nr) (f .nnr)) (offset (f .vs) (f .nnr));
-  new = not (eqb (offset (w .nr) (f .nnr)) 0);
+  invalid = ltb (offset (f .numbers .vs) (f .numbers .nnr)) (offset (w .nr) (f .numbers .nnr));
+  all = eqb (offset (w .nr) (f .numbers .nnr)) (offset (f .numbers .vs) (f .numbers .nnr));
+  new = not (eqb (offset (w .nr) (f .numbers .nnr)) 0);
   once = eqb (f .preset .transmissionLimit) 1;
   short = ltb (f .clock .transmissionCount) (f .preset .transmissionLimit);
 }
@@ -83,7 +85,7 @@ isEmpty (some o) = false
 
 -- E19 or E20
 unfoldable pub fopAd : List ℕ → Fop → Work
-fopAd o f = fopDo (first (when (isEmpty (f .waitQueue)) E19 ∷ []) E20) o 0 f
+fopAd o f = fopDo (first (when (isEmpty (f .queues .waitQueue)) E19 ∷ []) E20) o 0 f
 
 -- a BD request, by the BD_Out_Flag
 unfoldable pub fopBd : List ℕ → Fop → Work
@@ -104,18 +106,14 @@ fopTick f =
     let g : Fop = setClock (f .clock .timer - 1) (f .clock .transmissionCount) f in
     pick (eqb (f .clock .timer) 1) (fopExpiry g) (begin none [] 0 g)
 
--- an answer of the lower layer
-pub data Lower : Type 0 where
-  adAccept adReject bcAccept bcReject bdAccept bdReject : Lower
-
 -- Receive Response from Lower Layer
 abbrev pub lowerEvent : Lower → FopEvent
-lowerEvent adAccept = E41
-lowerEvent adReject = E42
-lowerEvent bcAccept = E43
-lowerEvent bcReject = E44
-lowerEvent bdAccept = E45
-lowerEvent bdReject = E46
+lowerEvent AdAccept = E41
+lowerEvent AdReject = E42
+lowerEvent BcAccept = E43
+lowerEvent BcReject = E44
+lowerEvent BdAccept = E45
+lowerEvent BdReject = E46
 
 -- E41 to E46
 unfoldable pub fopLower : Lower → Fop → Work

@@ -1,9 +1,6 @@
 -- Document 01, "Limits", for FOP-1, by name.
 use Prim.Native.Nat.{ℕ}
-
--- "Sender window K 1 to 32" (FOP_Sliding_Window_Width)
-abbrev pub largestK : ℕ
-largestK = 32
+pub use Rattle.base.specs.Limits.{largestK}
 
 -- "Transmission limit 1 to 255" (Transmission_Limit)
 abbrev pub largestTransmissionLimit : ℕ
@@ -16,3 +13,11 @@ largestTimer = 65535
 -- sequence numbers: V(S), V*(S) and V*(R) are octets
 abbrev pub largestNumber : ℕ
 largestNumber = 255
+
+-- clause 7.2.2: Suspend_State "takes one of five values, from 0 to 4"
+abbrev pub largestSuspendState : ℕ
+largestSuspendState = 4
+
+-- Timeout_Type is 0 or 1 (clause 7.2.2), and "Timeout_Type 1 is one too for now": a value outside its limit
+abbrev pub largestTimeoutType : ℕ
+largestTimeoutType = 0

@@ -2,14 +2,10 @@
 -- E18, E31 to E34 and E104 are suspension's rows: with Timeout_Type and Suspend_State 0 no event meets them (specs/Events).
 use mathlib.Core.List.{List, [], _∷_}
 use Prim.Native.Nat.{ℕ}
-
--- Active, Retransmit without wait, Retransmit with wait, Initialising without BC frame, Initialising with BC frame, Initial
-pub data State : Type 0 where
-  S1 S2 S3 S4 S5 S6 : State
-
--- table 7-4: the reason of an Alert notification
-pub data Reason : Type 0 where
-  synch clcw limit nnr lockout t1 term llif : Reason
+use Rattle.fop.specs.declared.Alert.{Alert as Reason}
+use Rattle.fop.specs.declared.Alert.the-variants.{Synch, Clcw, Limit, Nnr, Lockout, T1, Term, Llif}
+use Rattle.fop.specs.declared.State.{State}
+use Rattle.fop.specs.declared.State.the-variants.{S1, S2, S3, S4, S5, S6}
 
 -- the event numbers, in the table's order
 pub data FopEvent : Type 0 where
@@ -74,23 +70,23 @@ onlySuspended c = row NotApplicable NotApplicable NotApplicable NotApplicable No
 unfoldable pub table78 : FopEvent → Row
 -- CLCW arrives, valid, Lockout Flag = 0, N(R) = V(S), Retransmit Flag = 0, Wait Flag = 0, N(R) = NN(R)
 table78 E1 =
-    row (ignored S1) (alerts synch) (alerts synch) (cell (Confirm ∷ CancelTimer ∷ []) S1) (cell (Confirm ∷ ReleaseBcFrame ∷ CancelTimer ∷ []) S1) (ignored S6)
+    row (ignored S1) (alerts Synch) (alerts Synch) (cell (Confirm ∷ CancelTimer ∷ []) S1) (cell (Confirm ∷ ReleaseBcFrame ∷ CancelTimer ∷ []) S1) (ignored S6)
 -- .. N(R) <> NN(R)
 table78 E2 = main (cell (RemoveAcknowledgedFrames ∷ CancelTimer ∷ LookForFdu ∷ []) S1) NotApplicable NotApplicable (ignored S6)
 -- .. Wait Flag = 1
-table78 E3 = main (alerts clcw) (alerts clcw) (alerts clcw) (ignored S6)
+table78 E3 = main (alerts Clcw) (alerts Clcw) (alerts Clcw) (ignored S6)
 -- .. Retransmit Flag = 1
-table78 E4 = main (alerts synch) (alerts synch) (ignored S5) (ignored S6)
+table78 E4 = main (alerts Synch) (alerts Synch) (ignored S5) (ignored S6)
 -- N(R) < V(S) and N(R) >= NN(R), Retransmit Flag = 0, Wait Flag = 0, N(R) = NN(R)
-table78 E5 = row (ignored S1) (alerts synch) (alerts synch) NotApplicable NotApplicable (ignored S6)
+table78 E5 = row (ignored S1) (alerts Synch) (alerts Synch) NotApplicable NotApplicable (ignored S6)
 -- .. N(R) <> NN(R)
 table78 E6 = main (cell (RemoveAcknowledgedFrames ∷ LookForFdu ∷ []) S1) NotApplicable NotApplicable (ignored S6)
 -- .. Wait Flag = 1
-table78 E7 = main (alerts clcw) NotApplicable NotApplicable (ignored S6)
+table78 E7 = main (alerts Clcw) NotApplicable NotApplicable (ignored S6)
 -- .. Retransmit Flag = 1, Transmission_Limit = 1, N(R) <> NN(R)
-table78 E101 = main (cell (RemoveAcknowledgedFrames ∷ Alert limit ∷ []) S6) NotApplicable NotApplicable (ignored S6)
+table78 E101 = main (cell (RemoveAcknowledgedFrames ∷ Alert Limit ∷ []) S6) NotApplicable NotApplicable (ignored S6)
 -- .. N(R) = NN(R)
-table78 E102 = main (alerts limit) NotApplicable NotApplicable (ignored S6)
+table78 E102 = main (alerts Limit) NotApplicable NotApplicable (ignored S6)
 -- .. Transmission_Limit > 1, N(R) <> NN(R), Wait Flag = 0
 table78 E8 = main (cell (RemoveAcknowledgedFrames ∷ InitiateAdRetransmission ∷ LookForFdu ∷ []) S2) NotApplicable NotApplicable (ignored S6)
 -- .. Wait Flag = 1
@@ -106,25 +102,25 @@ table78 E12 = main (ignored S2) NotApplicable NotApplicable (ignored S6)
 -- .. Wait Flag = 1
 table78 E103 = main (ignored S3) NotApplicable NotApplicable (ignored S6)
 -- Invalid N(R): N(R) < NN(R) or > V(S)
-table78 E13 = main (alerts nnr) (alerts nnr) (ignored S5) (ignored S6)
+table78 E13 = main (alerts Nnr) (alerts Nnr) (ignored S5) (ignored S6)
 -- Lockout Flag = 1
-table78 E14 = main (alerts lockout) (alerts lockout) (ignored S5) (ignored S6)
+table78 E14 = main (alerts Lockout) (alerts Lockout) (ignored S5) (ignored S6)
 -- CLCW arrives with pattern of bits invalid under COP-1
-table78 E15 = main (alerts clcw) (alerts clcw) (alerts clcw) (ignored S6)
+table78 E15 = main (alerts Clcw) (alerts Clcw) (alerts Clcw) (ignored S6)
 -- Timer expires, Transmission_Count < Transmission_Limit, Timeout_Type = 0
 table78 E16 =
-    row (cell (InitiateAdRetransmission ∷ LookForFdu ∷ []) S1) (cell (InitiateAdRetransmission ∷ LookForFdu ∷ []) S2) (ignored S3) (alerts t1)
+    row (cell (InitiateAdRetransmission ∷ LookForFdu ∷ []) S1) (cell (InitiateAdRetransmission ∷ LookForFdu ∷ []) S2) (ignored S3) (alerts T1)
     (cell (InitiateBcRetransmission ∷ LookForDirective ∷ []) S5) NotApplicable
 -- .. Timeout_Type = 1
 table78 E104 =
     row (cell (InitiateAdRetransmission ∷ LookForFdu ∷ []) S1) (cell (InitiateAdRetransmission ∷ LookForFdu ∷ []) S2) (ignored S3)
     (cell (SetSuspendState 4 ∷ Suspend ∷ []) S6) (cell (InitiateBcRetransmission ∷ LookForDirective ∷ []) S5) NotApplicable
 -- Transmission_Count >= Transmission_Limit, Timeout_Type = 0
-table78 E17 = main (alerts t1) (alerts t1) (alerts t1) NotApplicable
+table78 E17 = main (alerts T1) (alerts T1) (alerts T1) NotApplicable
 -- .. Timeout_Type = 1
 table78 E18 =
     row (cell (SetSuspendState 1 ∷ Suspend ∷ []) S6) (cell (SetSuspendState 2 ∷ Suspend ∷ []) S6) (cell (SetSuspendState 3 ∷ Suspend ∷ []) S6)
-    (cell (SetSuspendState 4 ∷ Suspend ∷ []) S6) (alerts t1) NotApplicable
+    (cell (SetSuspendState 4 ∷ Suspend ∷ []) S6) (alerts T1) NotApplicable
 -- Receive Request to Transfer FDU, AD Service, Wait_Queue empty
 table78 E19 =
     row (cell (AddToWaitQueue ∷ LookForFdu ∷ []) S1) (cell (AddToWaitQueue ∷ LookForFdu ∷ []) S2) (cell (AddToWaitQueue ∷ []) S3) (cell (RejectAd ∷ []) S4)
@@ -149,7 +145,7 @@ table78 E27 = onlyInitial (cell (Accept ∷ Initialise ∷ SetVs ∷ SetNnr ∷ 
 table78 E28 = always (Reject ∷ [])
 -- Terminate AD Service
 table78 E29 =
-    main (cell (Accept ∷ Alert term ∷ Confirm ∷ []) S6) (cell (Accept ∷ Alert term ∷ Confirm ∷ []) S6) (cell (Accept ∷ Alert term ∷ Confirm ∷ []) S6)
+    main (cell (Accept ∷ Alert Term ∷ Confirm ∷ []) S6) (cell (Accept ∷ Alert Term ∷ Confirm ∷ []) S6) (cell (Accept ∷ Alert Term ∷ Confirm ∷ []) S6)
     (cell (Accept ∷ Confirm ∷ []) S6)
 -- Resume AD Service, SS = 0
 table78 E30 = always (Reject ∷ [])
@@ -178,17 +174,17 @@ table78 E41 =
     row (cell (AdOutReady ∷ LookForFdu ∷ []) S1) (cell (AdOutReady ∷ LookForFdu ∷ []) S2) (cell (AdOutReady ∷ []) S3) (cell (AdOutReady ∷ []) S4)
     (cell (AdOutReady ∷ []) S5) (cell (AdOutReady ∷ []) S6)
 -- AD_Reject
-table78 E42 = main (alerts llif) (alerts llif) (alerts llif) (alerts llif)
+table78 E42 = main (alerts Llif) (alerts Llif) (alerts Llif) (alerts Llif)
 -- BC_Accept
 table78 E43 =
     row (cell (BcOutReady ∷ []) S1) (cell (BcOutReady ∷ []) S2) (cell (BcOutReady ∷ []) S3) (cell (BcOutReady ∷ []) S4)
     (cell (BcOutReady ∷ LookForDirective ∷ []) S5) (cell (BcOutReady ∷ []) S6)
 -- BC_Reject
-table78 E44 = main (alerts llif) (alerts llif) (alerts llif) (alerts llif)
+table78 E44 = main (alerts Llif) (alerts Llif) (alerts Llif) (alerts Llif)
 -- BD_Accept
 table78 E45 = always (BdOutReady ∷ AcceptBd ∷ [])
 -- BD_Reject
-table78 E46 = main (alerts llif) (alerts llif) (alerts llif) (alerts llif)
+table78 E46 = main (alerts Llif) (alerts Llif) (alerts Llif) (alerts Llif)
 
 -- the cell of a row in a state
 abbrev pub cell78 : Row → State → Cell

@@ -3,8 +3,13 @@ use mathlib.Core.Bool.{Bool, true, false}
 use mathlib.Core.List.{List, [], _∷_, _++_}
 use mathlib.Core.Option.{Option, none}
 use Prim.Native.Nat.{ℕ}
+use Rattle.fop.specs.declared.Alert.{Alert}
+use Rattle.fop.specs.declared.Alert.the-variants.{None}
+use Rattle.fop.specs.declared.Response.{Response}
+use Rattle.fop.specs.declared.State.{State}
+use Rattle.fop.specs.declared.State.the-variants.{S6}
 use Rattle.fop.specs.Units.{Fdu, Frame}
-use Rattle.fop.specs.Table.{State, S6, Reason, FopEvent}
+use Rattle.fop.specs.Table.{FopEvent}
 
 -- a type-AD frame on the Sent_Queue; marked is its To_Be_Retransmitted_Flag
 pub record Entry : Type 0 where
@@ -15,6 +20,11 @@ pub record Entry : Type 0 where
 pub record BcEntry : Type 0 where
   pub frame : Frame
   pub marked : Bool
+
+-- vs is V(S), nnr is NN(R)
+pub record Numbers : Type 0 where
+  pub vs : ℕ
+  pub nnr : ℕ
 
 -- what directives set: K (FOP_Sliding_Window_Width), Transmission_Limit, T1_Initial, Timeout_Type
 pub record Preset : Type 0 where
@@ -34,156 +44,76 @@ pub record OutFlags : Type 0 where
   pub bc : Bool
   pub bd : Bool
 
--- vs is V(S), nnr is NN(R). sentQueue and bcFrame are the Sent_Queue, which never holds AD and BC frames together; "The wait queue holds one
--- unit". Suspend_State and Timeout_Type stay 0 for now ("Timeout_Type 1 is one too for now, so Suspend_State stays 0").
-pub record Fop : Type 0 where
-  pub state : State
-  pub vs : ℕ
-  pub nnr : ℕ
-  pub suspendState : ℕ
-  pub preset : Preset
-  pub clock : Clock
-  pub out : OutFlags
+-- sentQueue and bcFrame are the Sent_Queue, which never holds AD and BC frames together; "The wait queue holds one unit"
+pub record Queues : Type 0 where
   pub sentQueue : List Entry
   pub waitQueue : Option (List ℕ)
   pub bcFrame : Option BcEntry
+
+-- Suspend_State and Timeout_Type stay 0 for now ("Timeout_Type 1 is one too for now, so Suspend_State stays 0")
+pub record Fop : Type 0 where
+  pub state : State
+  pub suspendState : ℕ
+  pub numbers : Numbers
+  pub preset : Preset
+  pub clock : Clock
+  pub out : OutFlags
+  pub queues : Queues
 
 -- "A sender starts Initial, flags ready, queues empty, timer stopped, Transmission_Count 1, with the numbers and settings given": V(S), NN(R)
 abbrev pub atStart : ℕ → ℕ → Preset → Fop
 atStart vs nnr preset = record {
   state = S6;
-  vs = vs;
-  nnr = nnr;
   suspendState = 0;
+  numbers = record { vs = vs; nnr = nnr };
   preset = preset;
   clock = record { timer = 0; transmissionCount = 1 };
   out = record { ad = true; bc = true; bd = true };
-  sentQueue = [];
-  waitQueue = none;
-  bcFrame = none;
+  queues = record { sentQueue = []; waitQueue = none; bcFrame = none };
 }
 
--- the variables with some of them changed
+-- The variables with some of them changed.
+
+-- the state
 abbrev pub setState : State → Fop → Fop
-setState s f = record {
-  state = s;
-  vs = f .vs;
-  nnr = f .nnr;
-  suspendState = f .suspendState;
-  preset = f .preset;
-  clock = f .clock;
-  out = f .out;
-  sentQueue = f .sentQueue;
-  waitQueue = f .waitQueue;
-  bcFrame = f .bcFrame;
-}
-
--- V(S), NN(R) and the AD frames of the Sent_Queue
-abbrev pub setSequence : ℕ → ℕ → List Entry → Fop → Fop
-setSequence v n q f = record {
-  state = f .state;
-  vs = v;
-  nnr = n;
-  suspendState = f .suspendState;
-  preset = f .preset;
-  clock = f .clock;
-  out = f .out;
-  sentQueue = q;
-  waitQueue = f .waitQueue;
-  bcFrame = f .bcFrame;
-}
+setState s f = record { state = s; suspendState = f .suspendState; numbers = f .numbers; preset = f .preset; clock = f .clock; out = f .out; queues = f .queues }
 
 -- Suspend_State
 abbrev pub setSuspend : ℕ → Fop → Fop
-setSuspend s f = record {
-  state = f .state;
-  vs = f .vs;
-  nnr = f .nnr;
-  suspendState = s;
-  preset = f .preset;
-  clock = f .clock;
-  out = f .out;
-  sentQueue = f .sentQueue;
-  waitQueue = f .waitQueue;
-  bcFrame = f .bcFrame;
-}
+setSuspend s f = record { state = f .state; suspendState = s; numbers = f .numbers; preset = f .preset; clock = f .clock; out = f .out; queues = f .queues }
+
+-- V(S), NN(R) and the queues
+abbrev pub setNumbered : Numbers → Queues → Fop → Fop
+setNumbered n q f = record { state = f .state; suspendState = f .suspendState; numbers = n; preset = f .preset; clock = f .clock; out = f .out; queues = q }
 
 -- what directives set
 abbrev pub setPreset : Preset → Fop → Fop
-setPreset p f = record {
-  state = f .state;
-  vs = f .vs;
-  nnr = f .nnr;
-  suspendState = f .suspendState;
-  preset = p;
-  clock = f .clock;
-  out = f .out;
-  sentQueue = f .sentQueue;
-  waitQueue = f .waitQueue;
-  bcFrame = f .bcFrame;
-}
+setPreset p f = record { state = f .state; suspendState = f .suspendState; numbers = f .numbers; preset = p; clock = f .clock; out = f .out; queues = f .queues }
 
--- the timer and Transmission_Count
-abbrev pub setClock : ℕ → ℕ → Fop → Fop
-setClock t c f = record {
-  state = f .state;
-  vs = f .vs;
-  nnr = f .nnr;
-  suspendState = f .suspendState;
-  preset = f .preset;
-  clock = record { timer = t; transmissionCount = c };
-  out = f .out;
-  sentQueue = f .sentQueue;
-  waitQueue = f .waitQueue;
-  bcFrame = f .bcFrame;
-}
+-- the timer, Transmission_Count and the flags
+abbrev pub setTimed : Clock → OutFlags → Fop → Fop
+setTimed c o f = record { state = f .state; suspendState = f .suspendState; numbers = f .numbers; preset = f .preset; clock = c; out = o; queues = f .queues }
 
--- AD_Out_Flag, BC_Out_Flag, BD_Out_Flag
-abbrev pub setOut : Bool → Bool → Bool → Fop → Fop
-setOut a b d f = record {
-  state = f .state;
-  vs = f .vs;
-  nnr = f .nnr;
-  suspendState = f .suspendState;
-  preset = f .preset;
-  clock = f .clock;
-  out = record { ad = a; bc = b; bd = d };
-  sentQueue = f .sentQueue;
-  waitQueue = f .waitQueue;
-  bcFrame = f .bcFrame;
-}
+-- V(S), NN(R) and the AD frames of the Sent_Queue
+abbrev pub setSequence : ℕ → ℕ → List Entry → Fop → Fop
+setSequence v n q f =
+    setNumbered (record { vs = v; nnr = n }) (record { sentQueue = q; waitQueue = f .queues .waitQueue; bcFrame = f .queues .bcFrame }) f
 
 -- the Wait_Queue
 abbrev pub setWait : Option (List ℕ) → Fop → Fop
-setWait w f = record {
-  state = f .state;
-  vs = f .vs;
-  nnr = f .nnr;
-  suspendState = f .suspendState;
-  preset = f .preset;
-  clock = f .clock;
-  out = f .out;
-  sentQueue = f .sentQueue;
-  waitQueue = w;
-  bcFrame = f .bcFrame;
-}
+setWait w f = setNumbered (f .numbers) (record { sentQueue = f .queues .sentQueue; waitQueue = w; bcFrame = f .queues .bcFrame }) f
 
 -- the type-BC frame of the Sent_Queue
 abbrev pub setBc : Option BcEntry → Fop → Fop
-setBc b f = record {
-  state = f .state;
-  vs = f .vs;
-  nnr = f .nnr;
-  suspendState = f .suspendState;
-  preset = f .preset;
-  clock = f .clock;
-  out = f .out;
-  sentQueue = f .sentQueue;
-  waitQueue = f .waitQueue;
-  bcFrame = b;
-}
+setBc b f = setNumbered (f .numbers) (record { sentQueue = f .queues .sentQueue; waitQueue = f .queues .waitQueue; bcFrame = b }) f
 
--- What directives set, one value changed.
+-- the timer and Transmission_Count
+abbrev pub setClock : ℕ → ℕ → Fop → Fop
+setClock t c f = setTimed (record { timer = t; transmissionCount = c }) (f .out) f
+
+-- AD_Out_Flag, BC_Out_Flag, BD_Out_Flag
+abbrev pub setOut : Bool → Bool → Bool → Fop → Fop
+setOut a b d f = setTimed (f .clock) (record { ad = a; bc = b; bd = d }) f
 
 -- K (FOP_Sliding_Window_Width)
 abbrev pub withK : ℕ → Preset → Preset
@@ -201,120 +131,65 @@ withT1 v p = record { k = p .k; transmissionLimit = p .transmissionLimit; t1Init
 abbrev pub withTimeoutType : ℕ → Preset → Preset
 withTimeoutType v p = record { k = p .k; transmissionLimit = p .transmissionLimit; t1Initial = p .t1Initial; timeoutType = v }
 
--- responses to a request (AD unit, BD unit) and to a directive; denyDirective is the Negative Confirm. The confirms of AD units, positive and
--- negative, are the two runs of units.
-pub data Response : Type 0 where
-  acceptAdUnit rejectAdUnit acceptBdUnit rejectBdUnit : Response
-  acceptDirective rejectDirective confirmDirective denyDirective : Response
-
--- the event of table 7-8, the unit and the value that it carries (N(R), or a directive's), and what is answered so far: the frames handed
--- down (session, proofs/Few: at most one), the units confirmed and denied, the responses in their order, an Abort request to the lower procedures,
--- an Alert notification with its reason, a Suspend notification
-pub record Work : Type 0 where
-  pub fop : Fop
+-- what an event brings: which it is of table 7-8, the unit and the value that it carries (N(R), or a directive's)
+pub record Asked : Type 0 where
   pub event : Option FopEvent
   pub octets : List ℕ
   pub value : ℕ
+
+-- an Abort request to the lower procedures, an Alert notification with its reason, a Suspend notification
+pub record Notices : Type 0 where
+  pub abort : Bool
+  pub alert : Alert
+  pub suspended : Bool
+
+-- the work on an event: the variables, what is asked, and what is answered so far: the frames handed down (session, proofs/Few: at most one), the
+-- units confirmed and denied, the responses in their order, the notices
+pub record Work : Type 0 where
+  pub fop : Fop
+  pub asked : Asked
   pub frames : List Frame
   pub confirmed : List Fdu
   pub denied : List Fdu
   pub responses : List Response
-  pub abort : Bool
-  pub alert : Option Reason
-  pub suspended : Bool
+  pub notices : Notices
+
+-- the variables and the frames handed down are changed
+abbrev pub onWork : Fop → List Frame → Work → Work
+onWork f x w = record { fop = f; asked = w .asked; frames = x; confirmed = w .confirmed; denied = w .denied; responses = w .responses; notices = w .notices }
 
 -- the variables are changed
 abbrev pub onFop : Fop → Work → Work
-onFop f w = record {
-  fop = f;
-  event = w .event;
-  octets = w .octets;
-  value = w .value;
-  frames = w .frames;
-  confirmed = w .confirmed;
-  denied = w .denied;
-  responses = w .responses;
-  abort = w .abort;
-  alert = w .alert;
-  suspended = w .suspended;
-}
+onFop f w = onWork f (w .frames) w
 
 -- a frame is handed down
 abbrev pub handDown : Frame → Work → Work
-handDown x w = record {
-  fop = w .fop;
-  event = w .event;
-  octets = w .octets;
-  value = w .value;
-  frames = w .frames ++ (x ∷ []);
-  confirmed = w .confirmed;
-  denied = w .denied;
-  responses = w .responses;
-  abort = w .abort;
-  alert = w .alert;
-  suspended = w .suspended;
-}
+handDown x w = onWork (w .fop) (w .frames ++ (x ∷ [])) w
 
 -- units are confirmed or denied
 abbrev pub runs : List Fdu → List Fdu → Work → Work
-runs c d w = record {
-  fop = w .fop;
-  event = w .event;
-  octets = w .octets;
-  value = w .value;
-  frames = w .frames;
-  confirmed = c;
-  denied = d;
-  responses = w .responses;
-  abort = w .abort;
-  alert = w .alert;
-  suspended = w .suspended;
-}
+runs c d w = record { fop = w .fop; asked = w .asked; frames = w .frames; confirmed = c; denied = d; responses = w .responses; notices = w .notices }
+
+-- what is said besides: responses and notices
+abbrev pub says : List Response → Notices → Work → Work
+says r n w = record { fop = w .fop; asked = w .asked; frames = w .frames; confirmed = w .confirmed; denied = w .denied; responses = r; notices = n }
 
 -- one more response
 abbrev pub respond : Response → Work → Work
-respond r w = record {
-  fop = w .fop;
-  event = w .event;
-  octets = w .octets;
-  value = w .value;
-  frames = w .frames;
-  confirmed = w .confirmed;
-  denied = w .denied;
-  responses = w .responses ++ (r ∷ []);
-  abort = w .abort;
-  alert = w .alert;
-  suspended = w .suspended;
-}
+respond r w = says (w .responses ++ (r ∷ [])) (w .notices) w
 
 -- an Abort request, an Alert notification, a Suspend notification
-abbrev pub tell : Bool → Option Reason → Bool → Work → Work
-tell a r s w = record {
-  fop = w .fop;
-  event = w .event;
-  octets = w .octets;
-  value = w .value;
-  frames = w .frames;
-  confirmed = w .confirmed;
-  denied = w .denied;
-  responses = w .responses;
-  abort = a;
-  alert = r;
-  suspended = s;
-}
+abbrev pub tell : Bool → Alert → Bool → Work → Work
+tell a r s w = says (w .responses) (record { abort = a; alert = r; suspended = s }) w
 
 -- the work at its start
 abbrev pub begin : Option FopEvent → List ℕ → ℕ → Fop → Work
 begin e o v f = record {
   fop = f;
-  event = e;
-  octets = o;
-  value = v;
+  asked = record { event = e; octets = o; value = v };
   frames = [];
   confirmed = [];
   denied = [];
   responses = [];
-  abort = false;
-  alert = none;
-  suspended = false;
+  notices = record { abort = false; alert = None; suspended = false };
 }

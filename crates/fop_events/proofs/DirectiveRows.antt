@@ -10,8 +10,8 @@ use Rattle.base.specs.Choice.{pick, must}
 use Rattle.fop.specs.Table.{FopEvent, E25, E26, E27, E28, E30, E31, E32, E33, E34, E35, E36, E37, E38, E39, E40}
 use Rattle.fop.specs.Events.{directiveEvent}
 use Rattle.fop.specs.Limits.{largestK, largestTransmissionLimit, largestTimer, largestNumber}
-use Rattle.fop_actions.specs.declared.SenderState.{SenderState}
-use Rattle.fop_actions.specs.Start.{begun}
+use Rattle.sender_values.specs.declared.SenderState.{SenderState}
+use Rattle.sender_values.specs.Start.{begun}
 use Rattle.fop_events.specs.Events.{eventNumber, directiveNumber}
 use Rattle.fop_events.specs.Rows.{initiate, resume, setNumber, setLimit}
 

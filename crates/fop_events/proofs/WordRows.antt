@@ -10,8 +10,8 @@ use Rattle.base.specs.Modulo.{offset}
 use Rattle.base.proofs.Tests.{yes, no}
 use Rattle.clcw.specs.declared.Clcw.{Clcw}
 use Rattle.fop.specs.Events.{wordEvent}
-use Rattle.fop_actions.specs.declared.SenderState.{SenderState}
-use Rattle.fop_actions.specs.Start.{begun}
+use Rattle.sender_values.specs.declared.SenderState.{SenderState}
+use Rattle.sender_values.specs.Start.{begun}
 use Rattle.fop_events.specs.Events.{eventNumber, wordNumber}
 use Rattle.fop_events.specs.Rows.{allAcknowledged, someAcknowledged, noneAcknowledged, retransmissionAsked}
 

@@ -6,13 +6,12 @@ use Rattle.fop.specs.Table.{FopEvent, E1, E2, E3, E4, E5, E6, E7, E8, E9, E10, 
 use Rattle.fop.specs.Table.{E35, E36, E37, E38, E39, E40, E41, E42, E43, E44, E45, E46, E101, E102, E103, E104}
 use Rattle.fop.specs.Units.{Word}
 use Rattle.fop.specs.Variables.{Fop}
-use Rattle.fop.specs.Events.{Lower, adAccept, adReject, bcAccept, bcReject, bdAccept, bdReject, lowerEvent, first, when, isEmpty, seen, wordEvent, expiryLines, directiveEvent}
+use Rattle.fop.specs.declared.Lower.{Lower}
+use Rattle.fop.specs.Events.{lowerEvent, first, when, isEmpty, seen, wordEvent, expiryLines, directiveEvent}
 use Rattle.clcw.specs.declared.Clcw.{Clcw}
-use Rattle.fop_actions.specs.declared.SenderState.{SenderState}
-use Rattle.fop_actions.specs.Start.{begun}
-use Rattle.fop_actions.specs.View.{fopOf}
-use Rattle.fop_events.specs.declared.Lower.{Lower as LowerAnswer}
-use Rattle.fop_events.specs.declared.Lower.the-variants as lower
+use Rattle.sender_values.specs.declared.SenderState.{SenderState}
+use Rattle.sender_values.specs.Start.{begun}
+use Rattle.sender_view.specs.View.{fopOf}
 
 -- the event's number in the table
 abbrev pub eventNumber : FopEvent → ℕ
@@ -69,7 +68,7 @@ eventNumber E104 = 104
 
 -- the sender's variables; no condition of the table looks at a unit's octets, so no store is needed
 abbrev pub variablesOf : SenderState → Fop
-variablesOf s = fopOf (begun s) []
+variablesOf s = fopOf (begun s) (s .lengths) []
 
 -- what a control word tells FOP-1
 abbrev pub told : Clcw → Word
@@ -90,21 +89,12 @@ expiryNumber s =
 
 -- E19, E20
 unfoldable pub adNumber : SenderState → ℕ
-adNumber s = eventNumber (first (when (isEmpty (variablesOf s .waitQueue)) E19 ∷ []) E20)
+adNumber s = eventNumber (first (when (isEmpty (variablesOf s .queues .waitQueue)) E19 ∷ []) E20)
 
 -- E21, E22
 unfoldable pub bdNumber : SenderState → ℕ
 bdNumber s = eventNumber (first (when (s .variables .«bd_out») E21 ∷ []) E22)
 
--- an answer of the lower layer, as crate fop names it
-abbrev pub lowerOf : LowerAnswer → Lower
-lowerOf lower.AdAccept = adAccept
-lowerOf lower.AdReject = adReject
-lowerOf lower.BcAccept = bcAccept
-lowerOf lower.BcReject = bcReject
-lowerOf lower.BdAccept = bdAccept
-lowerOf lower.BdReject = bdReject
-
 -- E41 to E46 by number
-unfoldable pub lowerNumber : LowerAnswer → ℕ
-lowerNumber l = eventNumber (lowerEvent (lowerOf l))
+unfoldable pub lowerNumber : Lower → ℕ
+lowerNumber l = eventNumber (lowerEvent l)

@@ -6,7 +6,7 @@ use lib.Dec.{leb, ltb, eqb}
 use Rattle.base.specs.Choice.{pick, must}
 use Rattle.clcw.specs.declared.Clcw.{Clcw}
 use Rattle.fop.specs.Limits.{largestK, largestTransmissionLimit, largestNumber}
-use Rattle.fop_actions.specs.declared.SenderState.{SenderState}
+use Rattle.sender_values.specs.declared.SenderState.{SenderState}
 
 -- N(R) = V(S): E1 to E4
 unfoldable pub allAcknowledged : Clcw → ℕ → ℕ

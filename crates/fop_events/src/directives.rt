@@ -1,5 +1,5 @@
 // A directive by its number, 1 to 11: E23 to E40. Any other number, or a value outside its limit, is the invalid directive, E40.
-use fop_actions::SenderState;
+use sender_values::SenderState;
 ghost use mathlib.Core.Path.{_≡_};
 ghost use Rattle.fop_events.specs.Events.{directiveNumber};
 ghost use Rattle.fop_events.specs.Rows.{initiate, resume, setNumber, setLimit};
@@ -7,7 +7,7 @@ ghost use Rattle.fop_events.specs.Rows.{initiate, resume, setNumber, set
 // Document 01, "Limits".
 const LARGEST_NUMBER: u16 = 255;
 
-const LARGEST_K: u16 = fop_actions::LARGEST_K as u16;
+const LARGEST_K: u16 = base::LARGEST_K as u16;
 
 const LARGEST_TRANSMISSION_LIMIT: u16 = 255;
 

@@ -2,19 +2,10 @@
 pub mod directives;
 pub mod words;
 
-use fop_actions::SenderState;
+use fop::Lower;
+use sender_values::SenderState;
 ghost use mathlib.Core.Path.{_≡_};
 ghost use Rattle.fop_events.specs.Events.{expiryNumber, adNumber, bdNumber, lowerNumber};
-
-// An answer of the lower layer.
-pub enum Lower {
-    AdAccept,
-    AdReject,
-    BcAccept,
-    BcReject,
-    BdAccept,
-    BdReject,
-}
 
 // Request to transfer an AD unit: by the wait queue.
 pub fn ad_event(sender: SenderState) -> u8

@@ -1,8 +1,8 @@
 // A valid control word of our channel: E1 to E14 and E101 to E103. Numbers are compared modulo 256, from NN(R) on: `acknowledged` is
 // N(R) - NN(R), `outstanding` is V(S) - NN(R).
 use clcw::Clcw;
-use fop_actions::SenderState;
-use fop_actions::values::difference;
+use sender_values::SenderState;
+use sender_values::values::difference;
 ghost use mathlib.Core.Path.{_≡_};
 ghost use Rattle.fop_events.specs.Events.{wordNumber};
 ghost use Rattle.fop_events.specs.Rows.{allAcknowledged, someAcknowledged, noneAcknowledged, retransmissionAsked};

@@ -7,18 +7,18 @@ use lib.ListN.{length, take, drop, getD, length-take, List·getD-eq-default}
 use lib.Seq.{getD-take, drop-length}
 use Rattle.base.proofs.Lists.{next}
 use Rattle.fop.specs.Table.{Action, Ignore}
-use Rattle.fop_actions.specs.declared.Work.{Work}
-use Rattle.fop_rows.specs.Rows.{done, octet}
-use Rattle.fop_rows.specs.Numbers.{actions, actionOf, doneNumbers}
+use Rattle.sender_values.specs.declared.Work.{Work}
+use Rattle.sender_table.specs.Rows.{done, octet}
+use Rattle.sender_table.specs.Numbers.{actions, actionOf, doneNumbers}
 
 -- the action of a number that is known
-pub numbered : (k a n l : ℕ) (w r : Work) → a ≡ k → r ≡ done (actionOf k) n l w → r ≡ done (actionOf a) n l w
-numbered k a n l w r p h = h ∙ ap (λ (x : ℕ). done (actionOf x) n l w) (sym p)
+pub numbered : (k a n : ℕ) (w r : Work) → a ≡ k → r ≡ done (actionOf k) n w → r ≡ done (actionOf a) n w
+numbered k a n w r p h = h ∙ ap (λ (x : ℕ). done (actionOf x) n w) (sym p)
 
 -- the same for an action f of one octet
-pub octet-numbered : (f : ℕ → Work → Work) (k a n l x : ℕ) (w r : Work) → a ≡ k → x ≡ octet n → r ≡ f x w → f (octet n) w ≡ done (actionOf k) n l w
-    → r ≡ done (actionOf a) n l w
-octet-numbered f k a n l x w r p q h d = numbered k a n l w r p (h ∙ ap (λ (y : ℕ). f y w) q ∙ d)
+pub octet-numbered : (f : ℕ → Work → Work) (k a n x : ℕ) (w r : Work) → a ≡ k → x ≡ octet n → r ≡ f x w → f (octet n) w ≡ done (actionOf k) n w
+    → r ≡ done (actionOf a) n w
+octet-numbered f k a n x w r p q h d = numbered k a n w r p (h ∙ ap (λ (y : ℕ). f y w) q ∙ d)
 
 -- a number from k on that is not one of the next three
 past : (k a : ℕ) → k ≤ a → (a ≡ k → ⊥) → (a ≡ k + 1 → ⊥) → (a ≡ k + 2 → ⊥) → k + 3 ≤ a
@@ -33,22 +33,22 @@ pub last-alert : (a : ℕ) → 7 ≤ a → a < 15 → (a ≡ 7 → ⊥) → (a �
 last-alert a l h p q r s t u v = last 13 a (past 10 a (past 7 a l p q r) s t u) v h
 
 -- a number behind the last is Ignore
-pub behind : (a n l : ℕ) (w : Work) → 43 ≤ a → w ≡ done (actionOf a) n l w
+pub behind : (a n : ℕ) (w : Work) → 43 ≤ a → w ≡ done (actionOf a) n w
 unfolding done actionOf
-behind a n l w h = ap (λ (x : Action). done x n l w) (sym (List·getD-eq-default actions Ignore h))
+behind a n w h = ap (λ (x : Action). done x n w) (sym (List·getD-eq-default actions Ignore h))
 
 -- the actions from place i on are the one at i and those behind it
-pub in-turn : (numbers : List ℕ) (i n l : ℕ) (w v : Work) → length numbers ≡ 6 → i < 5 → v ≡ done (actionOf (getD numbers i 0)) n l w
-    → doneNumbers (drop (i + 1) (take 5 numbers)) n l v ≡ doneNumbers (drop i (take 5 numbers)) n l w
+pub in-turn : (numbers : List ℕ) (i n : ℕ) (w v : Work) → length numbers ≡ 6 → i < 5 → v ≡ done (actionOf (getD numbers i 0)) n w
+    → doneNumbers (drop (i + 1) (take 5 numbers)) n v ≡ doneNumbers (drop i (take 5 numbers)) n w
 unfolding doneNumbers
-in-turn numbers i n l w v six h e =
+in-turn numbers i n w v six h e =
     let k : i < length (take 5 numbers) = simp length-take (omega arith) in
     let d : drop i (take 5 numbers) ≡ getD numbers i 0 ∷ drop (i + 1) (take 5 numbers) = next (take 5 numbers) i k ∙ ap (λ (x : ℕ). x ∷ drop (i + 1) (take 5 numbers)) (getD-take 5 numbers i 0 h) in
-    ap (doneNumbers (drop (i + 1) (take 5 numbers)) n l) e ∙ ap (λ (s : List ℕ). doneNumbers s n l w) (sym d)
+    ap (doneNumbers (drop (i + 1) (take 5 numbers)) n) e ∙ ap (λ (s : List ℕ). doneNumbers s n w) (sym d)
 
 -- behind the fifth there is none
-pub all-done : (numbers : List ℕ) (i n l : ℕ) (w : Work) → length numbers ≡ 6 → i ≡ 5 → doneNumbers (drop i (take 5 numbers)) n l w ≡ w
+pub all-done : (numbers : List ℕ) (i n : ℕ) (w : Work) → length numbers ≡ 6 → i ≡ 5 → doneNumbers (drop i (take 5 numbers)) n w ≡ w
 unfolding doneNumbers
-all-done numbers i n l w six h =
+all-done numbers i n w six h =
     let e : i ≡ length (take 5 numbers) = simp length-take (omega arith) in
-    ap (λ (j : ℕ). doneNumbers (drop j (take 5 numbers)) n l w) e ∙ ap (λ (s : List ℕ). doneNumbers s n l w) (drop-length (take 5 numbers))
+    ap (λ (j : ℕ). doneNumbers (drop j (take 5 numbers)) n w) e ∙ ap (λ (s : List ℕ). doneNumbers s n w) (drop-length (take 5 numbers))

@@ -7,16 +7,15 @@ use borrow.Author.Tests.{eqb-true}
 use lib.Dec.{eqb}
 use lib.ListN.{getD, take}
 use Rattle.fop.specs.Table.{table78, cell78, E35, E40}
-use Rattle.fop_actions.specs.declared.State.{State}
-use Rattle.fop_actions.specs.declared.State.the-variants.{S1, S2, S3, S4, S5, S6}
-use Rattle.fop_actions.specs.declared.Work.{Work}
-use Rattle.fop_actions.specs.Actions.{toState}
-use Rattle.fop_actions.specs.View.{stateOf}
-use Rattle.fop_rows.specs.Rows.{doneCell, rowOf, eventOf, rowIf, rowNumbered}
-use Rattle.fop_rows.specs.Numbers.{doneNumbers, stateNumbered, doneNumbered, unlessSuspended, Says}
-use Rattle.fop_rows.proofs.Places.{chosen}
+use Rattle.fop.specs.declared.State.{State}
+use Rattle.fop.specs.declared.State.the-variants.{S1, S2, S3, S4, S5, S6}
+use Rattle.sender_values.specs.declared.Work.{Work}
+use Rattle.sender_values.specs.Actions.{toState}
+use Rattle.sender_table.specs.Rows.{doneCell, rowOf, eventOf, rowIf, rowNumbered}
+use Rattle.sender_table.specs.Numbers.{doneNumbers, stateNumbered, doneNumbered, unlessSuspended, Says}
+use Rattle.sender_table.proofs.Places.{chosen}
 
-module _ (n l : ℕ) (w : Work) where
+module _ (n : ℕ) (w : Work) where
   abbrev suspendState : ℕ
   suspendState = w .variables .«suspend_state»
 
@@ -27,7 +26,7 @@ module _ (n l : ℕ) (w : Work) where
       (λ a. chosen (λ (x : ℕ). unlessSuspended x suspendState ≡ x) (eqb suspendState 0) k 40 (λ b. rw (a, b)) (λ b. refl)) (λ a. rw a)
 
   -- while suspended, E35's cells are those of E40
-  rejected : (s : State) → eqb suspendState 0 ≡ false → doneCell (cell78 (table78 E40) (stateOf s)) n l w ≡ doneCell (cell78 (table78 E35) (stateOf s)) n l w
+  rejected : (s : State) → eqb suspendState 0 ≡ false → doneCell (cell78 (table78 E40) s) n w ≡ doneCell (cell78 (table78 E35) s) n w
   unfolding table78 doneCell
   rejected S1 b = refl
   rejected S2 b = refl
@@ -37,18 +36,18 @@ module _ (n l : ℕ) (w : Work) where
   rejected S6 b = rw b
 
   -- the row chosen is the event's
-  same-row : (k : ℕ) → rowNumbered (unlessSuspended k suspendState) n l w ≡ rowNumbered k n l w
+  same-row : (k : ℕ) → rowNumbered (unlessSuspended k suspendState) n w ≡ rowNumbered k n w
   unfolding rowNumbered eventOf rowIf rowOf
   same-row k =
-      chosen (λ (x : ℕ). rowNumbered x n l w ≡ rowNumbered k n l w) (eqb k 35) _ k
+      chosen (λ (x : ℕ). rowNumbered x n w ≡ rowNumbered k n w) (eqb k 35) _ k
       (λ a.
-      chosen (λ (x : ℕ). rowNumbered x n l w ≡ rowNumbered k n l w) (eqb suspendState 0) k 40 (λ b. refl)
-      (λ b. rejected (w .state) b ∙ ap (λ (x : ℕ). rowNumbered x n l w) (sym (eqb-true k 35 a))))
+      chosen (λ (x : ℕ). rowNumbered x n w ≡ rowNumbered k n w) (eqb suspendState 0) k 40 (λ b. refl)
+      (λ b. rejected (w .state) b ∙ ap (λ (x : ℕ). rowNumbered x n w) (sym (eqb-true k 35 a))))
       (λ a. refl)
 
   -- the cell of the row chosen, done
   pub chosen-row : (k c : ℕ) (numbers : List ℕ) (next : State) (after r : Work) → c ≡ unlessSuspended k suspendState → Says numbers c (w .state)
-      → after ≡ doneNumbers (take 5 numbers) n l w → next ≡ stateNumbered (getD numbers 5 0) (w .state) → r ≡ toState next after → r ≡ rowNumbered k n l w
+      → after ≡ doneNumbers (take 5 numbers) n w → next ≡ stateNumbered (getD numbers 5 0) (w .state) → r ≡ toState next after → r ≡ rowNumbered k n w
   unfolding doneNumbered
   chosen-row k c numbers next after r p says q s h =
-      h ∙ ap₂ toState s q ∙ says n l w refl (ap (λ (x : ℕ). unlessSuspended x suspendState) p ∙ settled k ∙ sym p) ∙ ap (λ (x : ℕ). rowNumbered x n l w) p ∙ same-row k
+      h ∙ ap₂ toState s q ∙ says n w refl (ap (λ (x : ℕ). unlessSuspended x suspendState) p ∙ settled k ∙ sym p) ∙ ap (λ (x : ℕ). rowNumbered x n w) p ∙ same-row k

@@ -1,74 +1,74 @@
-// The actions of table 7-8 by their numbers (module `table`), each crate fop_actions'.
-use crate::table::ACCEPT;
-use crate::table::ACCEPT_BD;
-use crate::table::AD_OUT_READY;
-use crate::table::ADD_TO_WAIT_QUEUE;
-use crate::table::ALERT_CLCW;
-use crate::table::ALERT_LIMIT;
-use crate::table::ALERT_LOCKOUT;
-use crate::table::ALERT_NNR;
-use crate::table::ALERT_SYNCH;
-use crate::table::ALERT_T1;
-use crate::table::ALERT_TERM;
-use crate::table::BC_OUT_READY;
-use crate::table::BD_OUT_READY;
-use crate::table::CANCEL_TIMER;
-use crate::table::CONFIRM;
-use crate::table::IGNORE;
-use crate::table::INITIALISE;
-use crate::table::INITIATE_AD;
-use crate::table::LOOK_FOR_DIRECTIVE;
-use crate::table::LOOK_FOR_FDU;
-use crate::table::REJECT;
-use crate::table::REJECT_AD;
-use crate::table::RELEASE_BC;
-use crate::table::REMOVE_ACKNOWLEDGED;
-use crate::table::SET_K;
-use crate::table::SET_LIMIT;
-use crate::table::SET_NNR;
-use crate::table::SET_T1;
-use crate::table::SET_VS;
-use crate::table::START_TIMER;
-use crate::table::SUSPEND;
-use crate::table::SUSPEND_STATE_1;
-use crate::table::SUSPEND_STATE_2;
-use crate::table::SUSPEND_STATE_3;
-use crate::table::TRANSMIT_SET_VR;
-use crate::table::TRANSMIT_UNLOCK;
-use fop_actions::Alert;
-use fop_actions::Response;
-use fop_actions::Work;
-use fop_actions::answers::respond;
-use fop_actions::answers::suspend;
-use fop_actions::entries::add_to_wait_queue;
-use fop_actions::entries::release_bc_frame;
-use fop_actions::release::alert;
-use fop_actions::release::initialise;
-use fop_actions::release::remove_acknowledged_frames;
-use fop_actions::transmit::initiate_ad_retransmission;
-use fop_actions::transmit::initiate_bc_retransmission;
-use fop_actions::transmit::look_for_directive;
-use fop_actions::transmit::look_for_fdu;
-use fop_actions::transmit::transmit_bd_frame;
-use fop_actions::transmit::transmit_set_vr;
-use fop_actions::transmit::transmit_unlock;
-use fop_actions::values::ad_out_ready;
-use fop_actions::values::bc_out_ready;
-use fop_actions::values::bd_out_ready;
-use fop_actions::values::cancel_timer;
-use fop_actions::values::resume;
-use fop_actions::values::set_k;
-use fop_actions::values::set_nnr;
-use fop_actions::values::set_suspend_state;
-use fop_actions::values::set_t1_initial;
-use fop_actions::values::set_timeout_type;
-use fop_actions::values::set_transmission_limit;
-use fop_actions::values::set_vs;
-use fop_actions::values::start_timer;
+// The actions of table 7-8 by their numbers (crate sender_table), each with its function.
+use fop::Alert;
+use fop::Response;
+use sender_release::alert;
+use sender_release::entries::add_to_wait_queue;
+use sender_release::entries::release_bc_frame;
+use sender_release::initialise;
+use sender_release::remove_acknowledged_frames;
+use sender_table::table::ACCEPT;
+use sender_table::table::ACCEPT_BD;
+use sender_table::table::AD_OUT_READY;
+use sender_table::table::ADD_TO_WAIT_QUEUE;
+use sender_table::table::ALERT_CLCW;
+use sender_table::table::ALERT_LIMIT;
+use sender_table::table::ALERT_LOCKOUT;
+use sender_table::table::ALERT_NNR;
+use sender_table::table::ALERT_SYNCH;
+use sender_table::table::ALERT_T1;
+use sender_table::table::ALERT_TERM;
+use sender_table::table::BC_OUT_READY;
+use sender_table::table::BD_OUT_READY;
+use sender_table::table::CANCEL_TIMER;
+use sender_table::table::CONFIRM;
+use sender_table::table::IGNORE;
+use sender_table::table::INITIALISE;
+use sender_table::table::INITIATE_AD;
+use sender_table::table::LOOK_FOR_DIRECTIVE;
+use sender_table::table::LOOK_FOR_FDU;
+use sender_table::table::REJECT;
+use sender_table::table::REJECT_AD;
+use sender_table::table::RELEASE_BC;
+use sender_table::table::REMOVE_ACKNOWLEDGED;
+use sender_table::table::SET_K;
+use sender_table::table::SET_LIMIT;
+use sender_table::table::SET_NNR;
+use sender_table::table::SET_T1;
+use sender_table::table::SET_VS;
+use sender_table::table::START_TIMER;
+use sender_table::table::SUSPEND;
+use sender_table::table::SUSPEND_STATE_1;
+use sender_table::table::SUSPEND_STATE_2;
+use sender_table::table::SUSPEND_STATE_3;
+use sender_table::table::TRANSMIT_SET_VR;
+use sender_table::table::TRANSMIT_UNLOCK;
+use sender_transmit::initiate_ad_retransmission;
+use sender_transmit::initiate_bc_retransmission;
+use sender_transmit::look_for_directive;
+use sender_transmit::look_for_fdu;
+use sender_transmit::transmit_bd_frame;
+use sender_transmit::transmit_set_vr;
+use sender_transmit::transmit_unlock;
+use sender_values::Work;
+use sender_values::answers::respond;
+use sender_values::answers::suspend;
+use sender_values::values::ad_out_ready;
+use sender_values::values::bc_out_ready;
+use sender_values::values::bd_out_ready;
+use sender_values::values::cancel_timer;
+use sender_values::values::resume;
+use sender_values::values::set_k;
+use sender_values::values::set_nnr;
+use sender_values::values::set_suspend_state;
+use sender_values::values::set_t1_initial;
+use sender_values::values::set_timeout_type;
+use sender_values::values::set_transmission_limit;
+use sender_values::values::set_vs;
+use sender_values::values::start_timer;
 ghost use mathlib.Core.Path.{_≡_};
 ghost use Prim.Native.Nat.{_≤_, _<_};
-ghost use Rattle.fop_rows.specs.Rows.{done, octet};
-ghost use Rattle.fop_rows.specs.Numbers.{actionOf};
+ghost use Rattle.sender_table.specs.Rows.{done, octet};
+ghost use Rattle.sender_table.specs.Numbers.{actionOf};
 
 // A value of one octet.
 fn octet(value: u16) -> u8
@@ -78,9 +78,9 @@ fn octet(value: u16) -> u8
 }
 
 // Ignore, and the responses of the table.
-fn responding(work: Work, action: u8, value: u16, length: u16) -> Work
+fn responding(work: Work, action: u8, value: u16) -> Work
     requires { ⌜ action < 7 ⌝ }
-    ensures { λ r. ⌜ r ≡ done (actionOf action) value length work ⌝ }
+    ensures { λ r. ⌜ r ≡ done (actionOf action) value work ⌝ }
 {
     if action == IGNORE {
         return work;
@@ -104,9 +104,9 @@ fn responding(work: Work, action: u8, value: u16, length: u16) -> Work
 }
 
 // Alert, by its reason.
-fn alerting(work: Work, action: u8, value: u16, length: u16) -> Work
+fn alerting(work: Work, action: u8, value: u16) -> Work
     requires { ⌜ (7 ≤ action) × (action < 15) ⌝ }
-    ensures { λ r. ⌜ r ≡ done (actionOf action) value length work ⌝ }
+    ensures { λ r. ⌜ r ≡ done (actionOf action) value work ⌝ }
 {
     if action == ALERT_SYNCH {
         return alert(work, Alert::Synch);
@@ -133,12 +133,12 @@ fn alerting(work: Work, action: u8, value: u16, length: u16) -> Work
 }
 
 // The queues: a unit added, units and frames looked for, removed, and marked to be sent again.
-fn queueing(work: Work, action: u8, value: u16, length: u16) -> Work
+fn queueing(work: Work, action: u8, value: u16) -> Work
     requires { ⌜ (15 ≤ action) × (action < 21) ⌝ }
-    ensures { λ r. ⌜ r ≡ done (actionOf action) value length work ⌝ }
+    ensures { λ r. ⌜ r ≡ done (actionOf action) value work ⌝ }
 {
     if action == ADD_TO_WAIT_QUEUE {
-        return add_to_wait_queue(work, length);
+        return add_to_wait_queue(work);
     }
     if action == LOOK_FOR_FDU {
         return look_for_fdu(work);
@@ -156,9 +156,9 @@ fn queueing(work: Work, action: u8, value: u16, length: u16) -> Work
 }
 
 // The type-BC frame released, Initialise, and frames transmitted.
-fn transmitting(work: Work, action: u8, value: u16, length: u16) -> Work
+fn transmitting(work: Work, action: u8, value: u16) -> Work
     requires { ⌜ (21 ≤ action) × (action < 26) ⌝ }
-    ensures { λ r. ⌜ r ≡ done (actionOf action) value length work ⌝ }
+    ensures { λ r. ⌜ r ≡ done (actionOf action) value work ⌝ }
 {
     if action == RELEASE_BC {
         return release_bc_frame(work);
@@ -176,9 +176,9 @@ fn transmitting(work: Work, action: u8, value: u16, length: u16) -> Work
 }
 
 // The timer and suspension.
-fn timing(work: Work, action: u8, value: u16, length: u16) -> Work
+fn timing(work: Work, action: u8, value: u16) -> Work
     requires { ⌜ (26 ≤ action) × (action < 30) ⌝ }
-    ensures { λ r. ⌜ r ≡ done (actionOf action) value length work ⌝ }
+    ensures { λ r. ⌜ r ≡ done (actionOf action) value work ⌝ }
 {
     if action == CANCEL_TIMER {
         return cancel_timer(work);
@@ -193,9 +193,9 @@ fn timing(work: Work, action: u8, value: u16, length: u16) -> Work
 }
 
 // V(S), NN(R) and what directives set.
-fn setting(work: Work, action: u8, value: u16, length: u16) -> Work
+fn setting(work: Work, action: u8, value: u16) -> Work
     requires { ⌜ (30 ≤ action) × (action < 36) ⌝ }
-    ensures { λ r. ⌜ r ≡ done (actionOf action) value length work ⌝ }
+    ensures { λ r. ⌜ r ≡ done (actionOf action) value work ⌝ }
 {
     if action == SET_VS {
         return set_vs(work, octet(value));
@@ -216,9 +216,9 @@ fn setting(work: Work, action: u8, value: u16, length: u16) -> Work
 }
 
 // The out flags, and Suspend_State.
-fn marking(work: Work, action: u8, value: u16, length: u16) -> Work
+fn marking(work: Work, action: u8, value: u16) -> Work
     requires { ⌜ (36 ≤ action) × (action < 43) ⌝ }
-    ensures { λ r. ⌜ r ≡ done (actionOf action) value length work ⌝ }
+    ensures { λ r. ⌜ r ≡ done (actionOf action) value work ⌝ }
 {
     if action == AD_OUT_READY {
         return ad_out_ready(work);
@@ -242,29 +242,29 @@ fn marking(work: Work, action: u8, value: u16, length: u16) -> Work
 }
 
 // An action by its number.
-pub fn perform(work: Work, action: u8, value: u16, length: u16) -> Work
-    ensures { λ r. ⌜ r ≡ done (actionOf action) value length work ⌝ }
+pub fn perform(work: Work, action: u8, value: u16) -> Work
+    ensures { λ r. ⌜ r ≡ done (actionOf action) value work ⌝ }
 {
     if action < 7 {
-        return responding(work, action, value, length);
+        return responding(work, action, value);
     }
     if action < 15 {
-        return alerting(work, action, value, length);
+        return alerting(work, action, value);
     }
     if action < 21 {
-        return queueing(work, action, value, length);
+        return queueing(work, action, value);
     }
     if action < 26 {
-        return transmitting(work, action, value, length);
+        return transmitting(work, action, value);
     }
     if action < 30 {
-        return timing(work, action, value, length);
+        return timing(work, action, value);
     }
     if action < 36 {
-        return setting(work, action, value, length);
+        return setting(work, action, value);
     }
     if action < 43 {
-        return marking(work, action, value, length);
+        return marking(work, action, value);
     }
     work
 }

@@ -3,7 +3,6 @@ use Prim.Native.Nat.{ℕ, suc, _%_}
 use mathlib.Core.Path.{_≡_, subst}
 use mathlib.Core.Bool.{Bool, true, false}
 use mathlib.Core.List.{List, [], _∷_}
-use lib.ListN.{length}
 use Rattle.fop.specs.Units.{Fdu}
 use Rattle.fop.specs.Table.{Action}
 use Rattle.fop.specs.Table.{Ignore, Accept, Reject, Confirm, RejectAd, AcceptBd, RejectBd, AddToWaitQueue, LookForFdu, LookForDirective, RemoveAcknowledgedFrames}
@@ -11,16 +10,16 @@ use Rattle.fop.specs.Table.{InitiateAdRetransmission, InitiateBcRetransmission,
 use Rattle.fop.specs.Table.{SetSuspendState, Suspend, Resume, SetVs, SetNnr, SetK, SetT1Initial, SetTransmissionLimit, SetTimeoutType, AdOutReady, BcOutReady, BdOutReady}
 use Rattle.fop.specs.Variables as machine
 use Rattle.fop.specs.Machine.{perform, performAll}
-use Rattle.fop_actions.specs.declared.Response.{Response}
-use Rattle.fop_actions.specs.declared.Response.the-variants as response
-use Rattle.fop_actions.specs.declared.Work.{Work}
-use Rattle.fop_actions.specs.Limits.{largestResponses}
-use Rattle.fop_actions.specs.Actions as act
-use Rattle.fop_actions.proofs.ViewAnswers as answers
-use Rattle.fop_actions.proofs.ViewAnswers.{Room}
-use Rattle.fop_rows.specs.Rows.{done, doneAll, declaredReason}
+use Rattle.fop.specs.declared.Response.{Response}
+use Rattle.fop.specs.declared.Response.the-variants as response
+use Rattle.sender_values.specs.declared.Work.{Work}
+use Rattle.sender_values.specs.Limits.{largestResponses}
+use Rattle.sender_values.specs.Actions as act
+use Rattle.sender_view.proofs.ViewAnswers as answers
+use Rattle.sender_view.proofs.ViewAnswers.{Room}
+use Rattle.sender_table.specs.Rows.{done, doneAll}
 use Rattle.fop_view.specs.Rows.{Brings, acknowledging, offering, numbering, widening, clocking, limiting, timing, Needed}
-use Rattle.fop_view.proofs.Mode.{Stored, moved, put, Idle, started, ceased, released, offered, remaining, sending, bothPurged, Mode, going, half, over, same, same-is, onGoing, onlyIf, taking, turned, answered, repeated, purged, handedDown, controlled, looked, given, after, afterAll}
+use Rattle.fop_view.proofs.Mode.{Stored, moved, put, Idle, started, ceased, released, suspendedAt, resumed, offered, remaining, sending, bothPurged, Mode, going, half, over, same, same-is, onGoing, onlyIf, taking, turned, answered, repeated, purged, handedDown, controlled, looked, given, after, afterAll}
 use Rattle.fop_view.proofs.Known.{Case, seen, Open, At}
 use Rattle.fop_view.proofs.Onward.{on-fresh, on-going, on-half, only-if, takes}
 use Rattle.fop_view.proofs.Values as values
@@ -56,7 +55,7 @@ module _ (x : Case) (w v : Work) (a : Action) (mode : Mode) (m : machine.Work) (
       (λ j i. takes x w v m (perform a m) (λ k. Open x p f z true (suc k) w m) j (going p false (bothPurged (Z z)) false) i (λ k o. step p f z k o)))) mode h
 
 answered-mode : (x : Case) (w : Work) (a : Action) (r : Response) (mode : Mode) (m : machine.Work) → At x mode w m
-    → ((c d : List Fdu) (store : List ℕ) → Room 1 (w .told .responses) → perform a (seen x c d w store) ≡ seen x c d (act.respond r w) store)
+    → ((c d : List Fdu) (lengths store : List ℕ) → Room 1 (w .told .responses) → perform a (seen x c d w lengths store) ≡ seen x c d (act.respond r w) lengths store)
     → At x (onGoing answered mode) (act.respond r w) (perform a m)
 answered-mode x w a r mode m h law =
     on-going x w (act.respond r w) m (perform a m) answered
@@ -66,18 +65,18 @@ module _ (x : Case) (b : Brings) (meets : Needed b (x .octets) (x .value) (x .se
   brought : (k : Brings) → same b k ≡ true → Needed k (x .octets) (x .value) (x .sender)
   brought k t = subst (λ (y : Brings). Needed y (x .octets) (x .value) (x .sender)) (same-is b k t) meets
 
-  step : (a : Action) (mode : Mode) (w : Work) (m : machine.Work) → At x mode w m → At x (after b a mode) (done a (x .value) (length (x .octets)) w) (perform a m)
+  step : (a : Action) (mode : Mode) (w : Work) (m : machine.Work) → At x mode w m → At x (after b a mode) (done a (x .value) w) (perform a m)
   unfolding after done
   step Ignore mode w m h = same-mode x w w Ignore mode m h (λ p f z u l g. values.ignore x w m g)
-  step Accept mode w m h = answered-mode x w Accept response.AcceptDirective mode m h (λ c d s r. answers.accept _ _ _ c d w s r)
-  step Reject mode w m h = answered-mode x w Reject response.RejectDirective mode m h (λ c d s r. answers.reject _ _ _ c d w s r)
-  step Confirm mode w m h = answered-mode x w Confirm response.ConfirmDirective mode m h (λ c d s r. answers.confirm _ _ _ c d w s r)
-  step RejectAd mode w m h = answered-mode x w RejectAd response.RejectAdUnit mode m h (λ c d s r. answers.reject-ad _ _ _ c d w s r)
-  step AcceptBd mode w m h = answered-mode x w AcceptBd response.AcceptBdUnit mode m h (λ c d s r. answers.accept-bd _ _ _ c d w s r)
-  step RejectBd mode w m h = answered-mode x w RejectBd response.RejectBdUnit mode m h (λ c d s r. answers.reject-bd _ _ _ c d w s r)
+  step Accept mode w m h = answered-mode x w Accept response.AcceptDirective mode m h (λ c d ls s r. answers.accept _ _ _ c d w ls s r)
+  step Reject mode w m h = answered-mode x w Reject response.RejectDirective mode m h (λ c d ls s r. answers.reject _ _ _ c d w ls s r)
+  step Confirm mode w m h = answered-mode x w Confirm response.ConfirmDirective mode m h (λ c d ls s r. answers.confirm _ _ _ c d w ls s r)
+  step RejectAd mode w m h = answered-mode x w RejectAd response.RejectAdUnit mode m h (λ c d ls s r. answers.reject-ad _ _ _ c d w ls s r)
+  step AcceptBd mode w m h = answered-mode x w AcceptBd response.AcceptBdUnit mode m h (λ c d ls s r. answers.accept-bd _ _ _ c d w ls s r)
+  step RejectBd mode w m h = answered-mode x w RejectBd response.RejectBdUnit mode m h (λ c d ls s r. answers.reject-bd _ _ _ c d w ls s r)
   step AddToWaitQueue mode w m h =
-      on-fresh x w (act.addToWaitQueue (length (x .octets)) w) m (perform AddToWaitQueue m) (λ f z. onlyIf (same b offering) (going put f (offered z) true largestResponses))
-      (λ f z g. only-if x w (act.addToWaitQueue (length (x .octets)) w) m (perform AddToWaitQueue m) (same b offering) (going put f (offered z) true largestResponses)
+      on-fresh x w (act.addToWaitQueue w) m (perform AddToWaitQueue m) (λ f z. onlyIf (same b offering) (going put f (offered z) true largestResponses))
+      (λ f z g. only-if x w (act.addToWaitQueue w) m (perform AddToWaitQueue m) (same b offering) (going put f (offered z) true largestResponses)
       (λ t. first.add-to-wait-queue x f z w m g (brought offering t))) mode h
   step LookForFdu mode w m h =
       on-going x w (act.lookForFdu w) m (perform LookForFdu m) looked
@@ -95,8 +94,8 @@ module _ (x : Case) (b : Brings) (meets : Needed b (x .octets) (x .value) (x .se
   step ReleaseBcFrame mode w m h = turned-mode x w (act.releaseBcFrame w) ReleaseBcFrame mode m h released (λ p f z u l g. values.release-bc-frame x w m g)
   step CancelTimer mode w m h = turned-mode x w (act.cancelTimer w) CancelTimer mode m h ceased (λ p f z u l g. values.cancel-timer x w m g)
   step StartTimer mode w m h = turned-mode x w (act.startTimer w) StartTimer mode m h started (λ p f z u l g. values.start-timer x w m g)
-  step (Alert r) mode w m h = purged-mode x w (act.alert (declaredReason r) w) (Alert r) mode m h ceased (λ p f z l g. purge.alerts x w m g r)
-  step Initialise mode w m h = purged-mode x w (act.initialise w) Initialise mode m h (λ z. z) (λ p f z l g. purge.initialise x w m g)
+  step (Alert r) mode w m h = purged-mode x w (act.alert r w) (Alert r) mode m h ceased (λ p f z l g. purge.alerts x w m g r)
+  step Initialise mode w m h = purged-mode x w (act.initialise w) Initialise mode m h (suspendedAt 0) (λ p f z l g. purge.initialise x w m g)
   step TransmitUnlock mode w m h =
       on-going x w (act.transmitUnlock w) m (perform TransmitUnlock m) controlled (λ p f z u l g. handing.transmit-unlock x w m g) mode h
   step TransmitSetVr mode w m h =
@@ -104,9 +103,10 @@ module _ (x : Case) (b : Brings) (meets : Needed b (x .octets) (x .value) (x .se
       (λ p f z u l g. only-if x w (act.transmitSetVr (x .value % 256) w) m (perform TransmitSetVr m) (same b numbering) (controlled p f z u l)
       (λ t. handing.transmit-set-vr x w m g (brought numbering t))) mode h
   step TransmitBd mode w m h = on-going x w (act.transmitBdFrame w) m (perform TransmitBd m) handedDown (λ p f z u l g. handing.transmit-bd x w m g) mode h
-  step (SetSuspendState n) mode w m h = tt
-  step Suspend mode w m h = tt
-  step Resume mode w m h = tt
+  step (SetSuspendState n) mode w m h =
+      turned-mode x w (act.setSuspendState n w) (SetSuspendState n) mode m h (suspendedAt n) (λ p f z u l g. values.set-suspend-state x w m g n)
+  step Suspend mode w m h = same-mode x w (act.suspend w) Suspend mode m h (λ p f z u l g. values.suspend x w m g)
+  step Resume mode w m h = turned-mode x w (act.resumed w) Resume mode m h resumed (λ p f z u l g. values.resume x w m g)
   step SetVs mode w m h =
       on-going x w (act.setVs (x .value % 256) w) m (perform SetVs m) (λ p f z u l. onlyIf (same b numbering) (onlyIf (z .unsent) (half p z u l)))
       (λ p f z u l g. only-if x w (act.setVs (x .value % 256) w) m (perform SetVs m) (same b numbering) (onlyIf (z .unsent) (half p z u l))
@@ -128,7 +128,7 @@ module _ (x : Case) (b : Brings) (meets : Needed b (x .octets) (x .value) (x .se
 
   -- actions in their order
   pub steps : (acts : List Action) (mode : Mode) (w : Work) (m : machine.Work) → At x mode w m
-      → At x (afterAll b acts mode) (doneAll acts (x .value) (length (x .octets)) w) (performAll acts m)
+      → At x (afterAll b acts mode) (doneAll acts (x .value) w) (performAll acts m)
   unfolding afterAll doneAll performAll
   steps [] mode w m h = h
-  steps (a ∷ more) mode w m h = steps more (after b a mode) (done a (x .value) (length (x .octets)) w) (perform a m) (step a mode w m h)
+  steps (a ∷ more) mode w m h = steps more (after b a mode) (done a (x .value) w) (perform a m) (step a mode w m h)

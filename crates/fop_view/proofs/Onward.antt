@@ -1,4 +1,4 @@
--- From what is known before an action to what is known after it: by the mode, and for an action that keeps the store.
+-- From what is known before an action to what is known after it: by the mode, and for an action that keeps the lengths and the store.
 use Prim.Native.Nat.{ℕ, zero, suc}
 use mathlib.Core.Path.{_≡_, refl, ap, _∙_}
 use mathlib.Core.Bool.{Bool, true, false}
@@ -7,9 +7,9 @@ use Rattle.fop.specs.Units.{Fdu}
 use Rattle.fop.specs.Table.{Action}
 use Rattle.fop.specs.Variables as machine
 use Rattle.fop.specs.Machine.{perform}
-use Rattle.fop_actions.specs.declared.Work.{Work}
-use Rattle.fop_actions.specs.Limits.{largestResponses}
-use Rattle.fop_actions.specs.View.{WellFormed}
+use Rattle.sender_values.specs.declared.Work.{Work}
+use Rattle.sender_values.specs.Limits.{largestResponses}
+use Rattle.sender_view.specs.View.{WellFormed}
 use Rattle.fop_view.proofs.Mode.{Stored, kept, Idle, Mode, fresh, going, half, over, bad, onFresh, onGoing, onHalf, onlyIf, taking}
 use Rattle.fop_view.proofs.Known.{Case, seen, EndedOf, GoingOf, Fresh, Open, Half, Shut, At, opened}
 
@@ -48,9 +48,10 @@ module _ (x : Case) (w v : Work) (m k : machine.Work) where
 
 -- The action a leads from the work w to v, and denies the units d'.
 module _ {x : Case} {p : Stored} {f : Bool} {z : Idle} {u : Bool} {l : ℕ} {w : Work} {m : machine.Work} (h : Open x p f z u l w m) (a : Action) (v : Work) where
-  pub goes-on : {f' : Bool} {z' : Idle} {u' : Bool} {l' : ℕ} (d' : List Fdu) → perform a (seen x (h .c) (h .d) w (h .store)) ≡ seen x (h .c) d' v (h .store)
-      → WellFormed v (h .store) → EndedOf x p z' (h .store) (h .c) d' v → GoingOf f' u' l' d' v → Open x p f' z' u' l' v (perform a m)
+  pub goes-on : {f' : Bool} {z' : Idle} {u' : Bool} {l' : ℕ} (d' : List Fdu) → perform a (seen x (h .c) (h .d) w (h .lengths) (h .store)) ≡ seen x (h .c) d' v (h .lengths) (h .store)
+      → WellFormed v (h .lengths) (h .store) → EndedOf x p z' (h .lengths) (h .store) (h .c) d' v → GoingOf f' u' l' d' v → Open x p f' z' u' l' v (perform a m)
   goes-on d' law well ended free = record {
+    lengths = h .lengths;
     store = h .store;
     c = h .c;
     d = d';
@@ -60,6 +61,6 @@ module _ {x : Case} {p : Stored} {f : Bool} {z : Idle} {u : Bool} {l : ℕ} {w :
     going = free;
   }
 
-  pub shuts : {z' : Idle} → perform a (seen x (h .c) (h .d) w (h .store)) ≡ seen x (h .c) (h .d) v (h .store) → WellFormed v (h .store)
-      → EndedOf x p z' (h .store) (h .c) (h .d) v → Shut x p z' v (perform a m)
-  shuts law well ended = record { store = h .store; c = h .c; d = h .d; is = ap (perform a) (h .is) ∙ law; formed = well; ended = ended }
+  pub shuts : {z' : Idle} → perform a (seen x (h .c) (h .d) w (h .lengths) (h .store)) ≡ seen x (h .c) (h .d) v (h .lengths) (h .store) → WellFormed v (h .lengths) (h .store)
+      → EndedOf x p z' (h .lengths) (h .store) (h .c) (h .d) v → Shut x p z' v (perform a m)
+  shuts law well ended = record { lengths = h .lengths; store = h .store; c = h .c; d = h .d; is = ap (perform a) (h .is) ∙ law; formed = well; ended = ended }

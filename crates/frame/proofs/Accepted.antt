@@ -1,26 +1,28 @@
 -- What a frame that is not refused is: its lengths within their limits, its fields, and its kind.
 use mathlib.Core.Path.{_≡_, refl, sym, ap, _∙_}
-use mathlib.Core.Bool.{Bool, true, false, not}
+use mathlib.Core.Bool.{Bool, true, false}
 use mathlib.Core.List.{List, []}
 use Prim.Native.Nat.{ℕ, _+_, _-_, _/_, _%_, _<_, _≤_}
 use native.Mathlib.Omega.{arith}
-use borrow.Author.Tests.{not-true, leb-true, eqb-true, eqb-false, eq-eqb, ne-eqb}
+use borrow.Author.Tests.{leb-true, eqb-true, eqb-false, eq-eqb, ne-eqb}
 use lib.Dec.{leb, eqb}
 use lib.ListN.{length, take, drop, getD}
 use lib.Seq.{getD-take, getD-drop}
-use Rattle.base.specs.Choice.{pick, both}
+use Rattle.base.specs.Choice.{pick}
 use Rattle.base.specs.Fields.{fieldAt}
 use Rattle.base.specs.Octets.{same}
 use Rattle.base.specs.Limits.{largestFrame}
 use Rattle.base.proofs.Lists.{same-length-not, take-next}
 use Rattle.base.proofs.Tests.{apart, both-true, must-on}
 use Rattle.fecf.specs.Fecf.{syndromeOf}
-use Rattle.frame.specs.Header.{version, bypassFlag, controlCommandFlag, reservedSpare, spacecraftIdentifier, virtualChannelIdentifier}
+use Rattle.frame_header.specs.Header.{controlCommandFlag, spacecraftIdentifier, virtualChannelIdentifier, validHeader}
+use Rattle.frame_header.proofs.Octets.{o, bypass-is, control-is, number-is}
+use Rattle.frame_header.proofs.Laws.{Valid, valid-told}
 use Rattle.frame.specs.Frame.{unlockCommand, totalOf, dataField, isCommand, commandHeld, headerRefusal, contentRefusal, refusalOf, kindOf}
 use Rattle.frame.specs.declared.Kind.the-variants.{Ad, Bd, Unlock, SetVr}
 use Rattle.frame.specs.declared.FrameReading.the-variants.{Frame, Refused}
 use Rattle.frame.specs.Answers.{fieldsOf, readingOf, partOf}
-use Rattle.frame.proofs.Octets.{o, bypass-is, control-is, number-is, length-data, command-one, command-other}
+use Rattle.frame.proofs.Octets.{length-data, command-one, command-other}
 
 pub record Accepted (s : List ℕ) (spacecraft channel : ℕ) : Type 0 where
   pub lent : 8 ≤ length s
@@ -29,9 +31,7 @@ pub record Accepted (s : List ℕ) (spacecraft channel : ℕ) : Type 0 where
   pub whole : totalOf s ≤ length s
   pub fill : length s ≤ totalOf s + 6
   pub syndrome : syndromeOf (take (totalOf s) s) ≡ 0
-  pub versionZero : fieldAt version s ≡ 0
-  pub spareZero : fieldAt reservedSpare s ≡ 0
-  pub type : both (eqb (fieldAt bypassFlag s) 0) (eqb (fieldAt controlCommandFlag s) 1) ≡ false
+  pub header : Valid s
   pub ourSpacecraft : fieldAt spacecraftIdentifier s ≡ spacecraft
   pub ourChannel : fieldAt virtualChannelIdentifier s ≡ channel
   pub held : commandHeld s (totalOf s) ≡ true
@@ -48,24 +48,20 @@ accepted s spacecraft channel e =
     let d = must-on (leb (totalOf s) (length s)) 4 _ four (c .1) in
     let f = must-on (leb (length s) (totalOf s + 6)) 5 _ (λ z. omega arith) (d .1) in
     let g = must-on (eqb (syndromeOf (take (totalOf s) s)) 0) 8 _ (λ z. omega arith) (f .1) in
-    let h = must-on (eqb (fieldAt version s) 0) 6 _ (λ z. omega arith) (g .1) in
-    let i = must-on (eqb (fieldAt reservedSpare s) 0) 6 _ (λ z. omega arith) (h .1) in
-    let j = must-on (not (both (eqb (fieldAt bypassFlag s) 0) (eqb (fieldAt controlCommandFlag s) 1))) 6 _ (λ z. omega arith) (i .1) in
-    let k = must-on (eqb (fieldAt spacecraftIdentifier s) spacecraft) 7 _ (λ z. omega arith) (j .1) in
-    let l = must-on (eqb (fieldAt virtualChannelIdentifier s) channel) 7 _ (λ z. omega arith) (k .1) in
-    let m = must-on (commandHeld s (totalOf s)) 9 0 (λ z. omega arith) (l .1) in record {
+    let h = must-on (validHeader s) 6 _ (λ z. omega arith) (g .1) in
+    let i = must-on (eqb (fieldAt spacecraftIdentifier s) spacecraft) 7 _ (λ z. omega arith) (h .1) in
+    let j = must-on (eqb (fieldAt virtualChannelIdentifier s) channel) 7 _ (λ z. omega arith) (i .1) in
+    let k = must-on (commandHeld s (totalOf s)) 9 0 (λ z. omega arith) (j .1) in record {
       lent = leb-true 8 (length s) (a .0);
       low = leb-true 8 (totalOf s) (b .0);
       high = leb-true (totalOf s) largestFrame (c .0);
       whole = leb-true (totalOf s) (length s) (d .0);
       fill = leb-true (length s) (totalOf s + 6) (f .0);
       syndrome = eqb-true (syndromeOf (take (totalOf s) s)) 0 (g .0);
-      versionZero = eqb-true (fieldAt version s) 0 (h .0);
-      spareZero = eqb-true (fieldAt reservedSpare s) 0 (i .0);
-      type = not-true (both (eqb (fieldAt bypassFlag s) 0) (eqb (fieldAt controlCommandFlag s) 1)) (j .0);
-      ourSpacecraft = eqb-true (fieldAt spacecraftIdentifier s) spacecraft (k .0);
-      ourChannel = eqb-true (fieldAt virtualChannelIdentifier s) channel (l .0);
-      held = m .0;
+      header = valid-told s (h .0);
+      ourSpacecraft = eqb-true (fieldAt spacecraftIdentifier s) spacecraft (i .0);
+      ourChannel = eqb-true (fieldAt virtualChannelIdentifier s) channel (j .0);
+      held = k .0;
     }
 
 -- an octet of the data field

@@ -10,18 +10,19 @@ use borrow.Author.Tests.{eq-eqb, eqb-true}
 use lib.Dec.{eqb}
 use lib.ListN.{length, take, drop, getD, set, length-drop, length-set, List·getD-append}
 use lib.Seq.{take-add, getD-take, getD-drop, getD-set-other, length-take-le}
-use Rattle.base.specs.Choice.{pick, both}
+use Rattle.base.specs.Choice.{pick}
 use Rattle.base.specs.Fields.{fieldAt}
 use Rattle.base.specs.Octets.{Octets, same}
 use Rattle.base.specs.Limits.{largestFrame}
 use Rattle.base.proofs.Lists.{same-equal, take-next, octets-at}
 use Rattle.base.proofs.Tests.{apart}
 use Rattle.fecf.specs.Fecf.{fecfOf, syndromeOf, fieldOctets}
-use Rattle.frame.specs.Header.{bypassFlag, controlCommandFlag, frameSequenceNumber}
+use Rattle.frame_header.specs.Header.{bypassFlag, controlCommandFlag, frameSequenceNumber, validCombination}
+use Rattle.frame_header.proofs.Octets.{o, version-is, spare-is, bypass-is, control-is, spacecraft-is, channel-is, number-is}
 use Rattle.frame.specs.Frame.{bypassOf, controlOf, numberOf, unlockCommand, setVrCommand, dataOf, bodyOf, rawFrame, frameOf, totalOf, dataField, isCommand, commandHeld, refusalOf, kindOf}
 use Rattle.frame.specs.declared.Kind.{Kind}
 use Rattle.frame.specs.declared.Kind.the-variants.{Ad, Bd, Unlock, SetVr}
-use Rattle.frame.proofs.Octets.{o, version-is, spare-is, bypass-is, control-is, spacecraft-is, channel-is, number-is, total-is, length-data}
+use Rattle.frame.proofs.Octets.{total-is, length-data}
 use Rattle.frame.proofs.Content.{octets-take, take-frame, content-test}
 use Rattle.frame.proofs.Accepted.{Accepted, accepted}
 use Rattle.frame.proofs.Written.{Fits, body-is}
@@ -53,7 +54,7 @@ type-b kind c b e z k = record {
   small = λ l. omega arith;
 }
 
-told : (bypass control number : ℕ) (data′ : List ℕ) → bypass ≤ 1 → control ≤ 1 → both (eqb bypass 0) (eqb control 1) ≡ false
+told : (bypass control number : ℕ) (data′ : List ℕ) → bypass ≤ 1 → control ≤ 1 → validCombination bypass control ≡ true
     → pick (eqb control 1) (isCommand data′) true ≡ true → Told (kindFor bypass control number data′) bypass control number data′
 unfolding isCommand
 told zero zero number data′ hb hc type held = record {
@@ -66,7 +67,7 @@ told zero zero number data′ hb hc type held = record {
   small = λ l. l;
 }
 told (suc zero) zero number data′ hb hc type held = type-b Bd (omega arith) refl refl refl refl
-told zero (suc zero) number data′ hb hc type held = absurd (apart (sym type))
+told zero (suc zero) number data′ hb hc type held = absurd (apart type)
 told (suc zero) (suc zero) number data′ hb hc type held = go (same data′ unlockCommand) refl held
   where
     go : (b : Bool) → same data′ unlockCommand ≡ b → pick b true (same data′ (setVrCommand (getD data′ 2 0))) ≡ true
@@ -103,16 +104,16 @@ module _ (octets : List ℕ) (spacecraft channel : ℕ) (h : Octets octets) (e :
   at = octets-at octets h
 
   bypass-here : fieldAt bypassFlag octets ≡ o octets 0 / 32 % 2
-  bypass-here = bypass-is octets at (y .lent)
+  bypass-here = bypass-is octets at (y .header .entire)
 
   control-here : fieldAt controlCommandFlag octets ≡ o octets 0 / 16 % 2
-  control-here = control-is octets at (y .lent)
+  control-here = control-is octets at (y .header .entire)
 
   told-here : Told (kindOf octets) (fieldAt bypassFlag octets) (fieldAt controlCommandFlag octets) (fieldAt frameSequenceNumber octets) (dataField octets (totalOf octets))
   unfolding kindOf commandHeld
   told-here =
       told (fieldAt bypassFlag octets) (fieldAt controlCommandFlag octets) (fieldAt frameSequenceNumber octets) (dataField octets (totalOf octets))
-      (omega (arith, bypass-here)) (omega (arith, control-here)) (y .type) (y .held)
+      (omega (arith, bypass-here)) (omega (arith, control-here)) (y .header .combination) (y .held)
 
   length-unit : length (dataField octets (totalOf octets)) ≡ totalOf octets - 7
   length-unit = length-data octets (totalOf octets) (y .low) (y .whole)
@@ -144,8 +145,8 @@ module _ (octets : List ℕ) (spacecraft channel : ℕ) (h : Octets octets) (e :
         flag = omega (arith, bypass-here);
         type = told-here .ordered;
         ns = hn;
-        address = omega (arith, spacecraft-is octets at (y .lent), y .ourSpacecraft, at 1);
-        virtual = omega (arith, channel-is octets at (y .lent), y .ourChannel, at 2);
+        address = omega (arith, spacecraft-is octets at (y .header .entire), y .ourSpacecraft, at 1);
+        virtual = omega (arith, channel-is octets at (y .header .entire), y .ourChannel, at 2);
         low = omega (arith, length-unit);
         high = omega (arith, length-unit);
         octets = octets-part;
@@ -163,10 +164,10 @@ module _ (octets : List ℕ) (spacecraft channel : ℕ) (h : Octets octets) (e :
       let unit = dataField octets (totalOf octets) in
       let l : 8 ≤ totalOf octets = y .low in
       let m : totalOf octets ≤ largestFrame = y .high in
-      let v : o octets 0 / 64 ≡ 0 = sym (version-is octets at (y .lent)) ∙ y .versionZero in
-      let r : o octets 0 / 4 % 4 ≡ 0 = sym (spare-is octets at (y .lent)) ∙ y .spareZero in
-      let s : o octets 0 % 4 * 256 + o octets 1 ≡ spacecraft = sym (spacecraft-is octets at (y .lent)) ∙ y .ourSpacecraft in
-      let c : o octets 2 / 4 ≡ channel = sym (channel-is octets at (y .lent)) ∙ y .ourChannel in
+      let v : o octets 0 / 64 ≡ 0 = sym (version-is octets at (y .header .entire)) ∙ y .header .versionZero in
+      let r : o octets 0 / 4 % 4 ≡ 0 = sym (spare-is octets at (y .header .entire)) ∙ y .header .spareZero in
+      let s : o octets 0 % 4 * 256 + o octets 1 ≡ spacecraft = sym (spacecraft-is octets at (y .header .entire)) ∙ y .ourSpacecraft in
+      let c : o octets 2 / 4 ≡ channel = sym (channel-is octets at (y .header .entire)) ∙ y .ourChannel in
       let n = total-is octets at (y .lent) in
       let p : fieldAt bypassFlag octets * 32 + fieldAt controlCommandFlag octets * 16 + spacecraft / 256 ≡ o octets 0 =
       high-octet (o octets 0) (o octets 1) (fieldAt bypassFlag octets) (fieldAt controlCommandFlag octets) spacecraft (at 1) v r bypass-here control-here s in
@@ -183,7 +184,7 @@ module _ (octets : List ℕ) (spacecraft channel : ℕ) (h : Octets octets) (e :
 
   -- N(S) of a frame that was read
   number-here : fieldAt frameSequenceNumber octets ≡ o octets 4
-  number-here = number-is octets at (y .lent)
+  number-here = number-is octets at (y .header .entire)
 
   small : numberOf (kindOf octets) < 256
   small = told-here .small (omega (arith, number-here, at 4))

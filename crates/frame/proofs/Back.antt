@@ -14,13 +14,13 @@ use Rattle.base.specs.Fields.{contiguous}
 use Rattle.base.specs.Octets.{Octets, same}
 use Rattle.base.specs.Limits.{largestUnit, largestSpacecraft, largestChannel}
 use Rattle.base.proofs.Lists.{octets-at}
-use Rattle.frame.specs.Header.{headerFields}
+use Rattle.frame_header.specs.Header.{headerFields}
+use Rattle.frame_header.proofs.Octets.{spacecraft-is, channel-is}
 use Rattle.frame.specs.Frame.{bypassOf, controlOf, numberOf, unlockCommand, dataOf, frameOf, totalOf, dataField, isCommand, refusalOf, kindOf}
 use Rattle.frame.specs.Answers.{readingOf, partOf}
 use Rattle.frame.specs.declared.Kind.{Kind}
 use Rattle.frame.specs.declared.Kind.the-variants.{Ad, Bd, Unlock, SetVr}
 use Rattle.frame.specs.declared.FrameReading.the-variants.{Frame}
-use Rattle.frame.proofs.Octets.{spacecraft-is, channel-is}
 use Rattle.frame.proofs.Accepted.{accepted, reading-frame, part-frame}
 use Rattle.frame.proofs.Written.{Fits, fitting, total-back, field-back, refusal-left, kind-left}
 
@@ -97,10 +97,10 @@ pub own-beyond : (octets : List ℕ) (s′ c′ : ℕ) → Octets octets
 own-beyond octets s′ c′ h = (
   (λ l e.
       let y = accepted octets s′ c′ e in
-      omega (arith, spacecraft-is octets (octets-at octets h) (y .lent), octets-at octets h 1)),
+      omega (arith, spacecraft-is octets (octets-at octets h) (y .header .entire), octets-at octets h 1)),
   (λ l e.
       let y = accepted octets s′ c′ e in
-      omega (arith, channel-is octets (octets-at octets h) (y .lent), octets-at octets h 2)),
+      omega (arith, channel-is octets (octets-at octets h) (y .header .entire), octets-at octets h 2)),
 )
 
 -- the header's fields stand contiguously, and the last ends with bit 39

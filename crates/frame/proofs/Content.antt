@@ -12,7 +12,7 @@ use Rattle.base.proofs.Lists.{below-at, take-next}
 use Rattle.fecf.specs.Fecf.{fecfOf, syndromeOf, fieldOctets}
 use Rattle.fecf.proofs.Syndrome.{syndrome-test}
 use Rattle.frame.specs.Frame.{headerRefusal, contentRefusal}
-use Rattle.frame.proofs.Octets.{o}
+use Rattle.frame_header.proofs.Octets.{o}
 
 -- a part of octets is octets
 pub octets-take : (s : List ℕ) (n : ℕ) → ((i : ℕ) → getD s i 0 < 256) → n ≤ length s → Octets (take n s)

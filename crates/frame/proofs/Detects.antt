@@ -21,13 +21,13 @@ use Rattle.base.proofs.Lists.{octets-at, below-append, below-take, below-drop, 
 use Rattle.base.proofs.Xor.{xor-undo}
 use Rattle.fecf.specs.Fecf.{fecfOf, syndromeOf}
 use Rattle.fecf.proofs.Detection.{detected}
-use Rattle.frame.specs.Header.{headerFields, headerOf}
+use Rattle.frame_header.specs.Header.{headerFields, headerOf, validHeader}
 use Rattle.frame.specs.Frame.{bypassOf, controlOf, numberOf, dataOf, bodyOf, rawFrame, frameOf, totalOf, dataField, isCommand, commandHeld, headerRefusal, contentRefusal, refusalOf, kindOf}
 use Rattle.frame.specs.Answers.{partOf}
 use Rattle.frame.specs.declared.Kind.{Kind}
 use Rattle.frame.specs.declared.Kind.the-variants.{Ad}
 use Rattle.frame.proofs.Octets.{total-is}
-use Rattle.frame.proofs.Emitted.{length-frame}
+use Rattle.frame.proofs.Lengths.{length-frame}
 use Rattle.frame.proofs.Written.{lengths-right, Fits, octets-frame, syndrome-frame, length-filled, octets-filled, total-back}
 use Rattle.frame.proofs.Back.{Legal, legal-fits}
 
@@ -166,5 +166,5 @@ pub length-flip-undetected :
     × (totalOf flipped ≡ 9)
     × (kindOf flipped ≡ Ad 0)
     × (partOf flipped 1 0 ≡ 0xAB ∷ 0xAB ∷ [])
-unfolding rawFrame bodyOf headerOf headerFields octetsOf packed digitsOf valueOf fecfOf refusalOf contentRefusal headerRefusal commandHeld isCommand dataField totalOf kindOf partOf fieldAt octetBits bitsOf syndromeOf register shiftBits shiftBit
+unfolding rawFrame bodyOf headerOf headerFields octetsOf packed digitsOf valueOf fecfOf refusalOf contentRefusal headerRefusal validHeader commandHeld isCommand dataField totalOf kindOf partOf fieldAt octetBits bitsOf syndromeOf register shiftBits shiftBit
 length-flip-undetected = (refl, refl, refl, refl, refl, refl, refl)

@@ -9,6 +9,7 @@ use Rattle.base.specs.Outcome.{answer, numberOf}
 use Rattle.base.specs.Register.{shiftBit, shiftBits, register}
 use Rattle.base.specs.Limits.{largestFrame, largestSpacecraft}
 use Rattle.fecf.specs.Fecf.{fecfOf, syndromeOf, fieldOctets}
+use Rattle.frame_header.specs.Header.{validHeader}
 use Rattle.frame.specs.Frame.{rawWriting, writing, totalOf, dataField, isCommand, commandHeld, headerRefusal, contentRefusal, refusalOf}
 use Rattle.frame.specs.declared.Kind.{Kind}
 use Rattle.frame.specs.declared.Kind.the-variants.{Bd, Unlock}
@@ -22,7 +23,7 @@ abbrev pub unlock : List ℕ
 unlock = checked (0x30 ∷ 0x01 ∷ 0x00 ∷ 0x07 ∷ 0x00 ∷ 0x00 ∷ [])
 
 pub accepted : refusalOf unlock 1 0 ≡ 0
-unfolding refusalOf contentRefusal headerRefusal commandHeld isCommand dataField totalOf fieldAt octetBits bitsOf valueOf fecfOf syndromeOf register shiftBits shiftBit
+unfolding refusalOf contentRefusal headerRefusal validHeader commandHeld isCommand dataField totalOf fieldAt octetBits bitsOf valueOf fecfOf syndromeOf register shiftBits shiftBit
 accepted = refl
 
 -- seven octets lent; the header says 257; seven octets of fill; another FECF; version 1; another spacecraft; no command
@@ -34,7 +35,7 @@ pub refused :
     × (refusalOf (checked (0x70 ∷ 0x01 ∷ 0x00 ∷ 0x07 ∷ 0x00 ∷ 0x00 ∷ [])) 1 0 ≡ 6)
     × (refusalOf unlock 2 0 ≡ 7)
     × (refusalOf (checked (0x30 ∷ 0x01 ∷ 0x00 ∷ 0x07 ∷ 0x00 ∷ 0x01 ∷ [])) 1 0 ≡ 9)
-unfolding refusalOf contentRefusal headerRefusal commandHeld isCommand dataField totalOf fieldAt octetBits bitsOf valueOf fecfOf syndromeOf register shiftBits shiftBit
+unfolding refusalOf contentRefusal headerRefusal validHeader commandHeld isCommand dataField totalOf fieldAt octetBits bitsOf valueOf fecfOf syndromeOf register shiftBits shiftBit
 refused = (refl, refl, refl, refl, refl, refl, refl)
 
 abbrev writtenNumber : ℕ → ℕ → Kind → List ℕ → ℕ → ℕ

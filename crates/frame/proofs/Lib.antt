@@ -1,8 +1,7 @@
 pub mod Octets
 pub mod Content
 pub mod Accepted
-pub mod Packed
-pub mod Emitted
+pub mod Lengths
 pub mod Written
 pub mod Back
 pub mod Again

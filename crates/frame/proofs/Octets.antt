@@ -1,78 +1,53 @@
--- The header's fields by the octets that hold them, and the checks of the header in those terms.
-use mathlib.Core.Path.{_≡_, refl, ap, ap₂, _∙_}
-use mathlib.Core.Bool.{Bool, true, false, not}
+-- The frame's length, the checks of its header and its command, by the octets that hold them.
+use mathlib.Core.Path.{_≡_, refl, sym, ap, _∙_}
+use mathlib.Core.Bool.{Bool, true, false}
 use mathlib.Core.List.{List, _∷_}
 use Prim.Native.Nat.{ℕ, _+_, _-_, _*_, _/_, _%_, _<_, _≤_}
 use native.Mathlib.Omega.{arith}
 use borrow.Author.Tests.{eq-eqb}
-use lib.Dec.{eqb}
+use lib.Dec.{leb, eqb}
 use lib.ListN.{length, getD, length-take, length-drop}
 use Rattle.base.specs.Choice.{pick, must, both}
-use Rattle.base.specs.Fields.{fieldAt}
+use Rattle.base.specs.Limits.{smallestFrame, largestFrame}
 use Rattle.base.specs.Octets.{same}
-use Rattle.base.proofs.Computed.{agree}
-use Rattle.base.proofs.Fields.{field-in-octet, field-joined}
 use Rattle.base.proofs.Lists.{same-length-not, take-next}
 use Rattle.base.proofs.Tests.{both-false, both-true}
-use Rattle.frame.specs.Header.{version, bypassFlag, controlCommandFlag, reservedSpare, spacecraftIdentifier, virtualChannelIdentifier, frameLength, frameSequenceNumber}
-use Rattle.frame.specs.Frame.{unlockCommand, setVrCommand, totalOf, dataField, isCommand, commandHeld, headerRefusal}
+use Rattle.frame_header.specs.Header.{validHeader}
+use Rattle.frame_header.proofs.Octets.{o, control-is, spacecraft-is, channel-is, length-is}
+use Rattle.frame.specs.Frame.{unlockCommand, setVrCommand, totalOf, dataField, isCommand, commandHeld, headerRefusal, contentRefusal, refusalOf}
 
-abbrev pub o : List ℕ → ℕ → ℕ
-o s i = getD s i 0
-
--- the checks of the header by octets
+-- the checks of the header by octets, once its fixed fields are judged
 abbrev pub checks : List ℕ → ℕ → ℕ → ℕ → ℕ
 checks s n spacecraft channel =
-    must (eqb (o s 0 / 64) 0) 6
-    (must (eqb (o s 0 / 4 % 4) 0) 6
-    (must (not (eqb (o s 0 / 16 % 4) 1)) 6
+    must (validHeader s) 6
     (must (eqb (o s 0 % 4 * 256 + o s 1) spacecraft) 7
     (must (eqb (o s 2 / 4) channel) 7
-    (must (pick (eqb (o s 0 / 16 % 2) 1) (isCommand (dataField s n)) true) 9 0)))))
+    (must (pick (eqb (o s 0 / 16 % 2) 1) (isCommand (dataField s n)) true) 9 0)))
 
--- the fields of octets s, of which eight are there and each is below 256
+-- of octets s, of which eight are there and each is below 256
 module _ (s : List ℕ) (octets : (i : ℕ) → getD s i 0 < 256) (enough : 8 ≤ length s) where
-  pub version-is : fieldAt version s ≡ o s 0 / 64
-  version-is = field-in-octet s 0 0 2 6 refl (omega arith) (octets 0) ∙ omega (arith, octets 0)
-
-  pub spare-is : fieldAt reservedSpare s ≡ o s 0 / 4 % 4
-  spare-is = field-in-octet s 0 4 2 2 refl (omega arith) (octets 0)
-
-  pub bypass-is : fieldAt bypassFlag s ≡ o s 0 / 32 % 2
-  bypass-is = field-in-octet s 0 2 1 5 refl (omega arith) (octets 0)
-
-  pub control-is : fieldAt controlCommandFlag s ≡ o s 0 / 16 % 2
-  control-is = field-in-octet s 0 3 1 4 refl (omega arith) (octets 0)
-
-  pub spacecraft-is : fieldAt spacecraftIdentifier s ≡ o s 0 % 4 * 256 + o s 1
-  spacecraft-is =
-      field-joined s 6 2 8 (omega arith)
-      ∙ ap₂ (λ (x y : ℕ). x * 256 + y) (field-in-octet s 0 6 2 0 refl (omega arith) (octets 0)) (field-in-octet s 1 0 8 0 refl (omega arith) (octets 1))
-      ∙ omega (arith, octets 0, octets 1)
-
-  pub channel-is : fieldAt virtualChannelIdentifier s ≡ o s 2 / 4
-  channel-is = field-in-octet s 2 0 6 2 refl (omega arith) (octets 2) ∙ omega (arith, octets 2)
-
-  length-is : fieldAt frameLength s ≡ o s 2 % 4 * 256 + o s 3
-  length-is =
-      field-joined s 22 2 8 (omega arith)
-      ∙ ap₂ (λ (x y : ℕ). x * 256 + y) (field-in-octet s 2 6 2 0 refl (omega arith) (octets 2)) (field-in-octet s 3 0 8 0 refl (omega arith) (octets 3))
-      ∙ omega (arith, octets 2, octets 3)
-
-  pub number-is : fieldAt frameSequenceNumber s ≡ o s 4
-  number-is = field-in-octet s 4 0 8 0 refl (omega arith) (octets 4) ∙ omega (arith, octets 4)
-
   pub total-is : totalOf s ≡ o s 2 % 4 * 256 + o s 3 + 1
   unfolding totalOf
-  total-is = ap (λ (x : ℕ). x + 1) length-is
-
-  -- type (0,1) by one test of the octet
-  type-is : both (eqb (o s 0 / 32 % 2) 0) (eqb (o s 0 / 16 % 2) 1) ≡ eqb (o s 0 / 16 % 4) 1
-  type-is = agree (λ x. both (eqb (x / 32 % 2) 0) (eqb (x / 16 % 2) 1)) (λ x. eqb (x / 16 % 4) 1) 256 tt (o s 0) (octets 0)
+  total-is = ap (λ (x : ℕ). x + 1) (length-is s octets (omega arith))
 
   pub header-checks : (n spacecraft channel : ℕ) → headerRefusal s n spacecraft channel ≡ checks s n spacecraft channel
   unfolding headerRefusal commandHeld
-  header-checks n spacecraft channel = rw (version-is, spare-is, bypass-is, control-is, spacecraft-is, channel-is, type-is)
+  header-checks n spacecraft channel =
+      rw (control-is s octets (omega arith), spacecraft-is s octets (omega arith), channel-is s octets (omega arith))
+
+-- the checks of lengths by the number n that the header says, and then those of the content
+abbrev pub lengthChecks : List ℕ → ℕ → ℕ → ℕ → ℕ
+lengthChecks s n spacecraft channel =
+    must (leb smallestFrame (length s)) 4
+    (must (leb smallestFrame n) 4
+    (must (leb n largestFrame) 10
+    (must (leb n (length s)) 4
+    (must (leb (length s) (n + 6)) 5
+    (contentRefusal s n spacecraft channel)))))
+
+pub length-checks : (s : List ℕ) (n spacecraft channel : ℕ) → n ≡ totalOf s → refusalOf s spacecraft channel ≡ lengthChecks s n spacecraft channel
+unfolding refusalOf
+length-checks s n spacecraft channel e = ap (λ (m : ℕ). lengthChecks s m spacecraft channel) (sym e)
 
 -- the data field of a frame of n octets
 pub length-data : (s : List ℕ) (n : ℕ) → 8 ≤ n → n ≤ length s → length (dataField s n) ≡ n - 7

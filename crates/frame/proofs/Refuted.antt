@@ -13,7 +13,7 @@ use Rattle.base.specs.Octets.{Octets, bitsOf, octetBits}
 use Rattle.base.specs.Register.{shiftBit, shiftBits, register}
 use Rattle.base.specs.Limits.{largestFrame, largestUnit, largestSpacecraft, largestChannel}
 use Rattle.fecf.specs.Fecf.{fecfOf, syndromeOf}
-use Rattle.frame.specs.Header.{spacecraftIdentifier, headerFields, headerOf}
+use Rattle.frame_header.specs.Header.{spacecraftIdentifier, headerFields, headerOf, validHeader}
 use Rattle.frame.specs.Frame.{bodyOf, rawFrame, totalOf, dataField, isCommand, commandHeld, headerRefusal, contentRefusal, refusalOf, kindOf}
 use Rattle.frame.specs.declared.Kind.the-variants.{Bd}
 use Rattle.frame.proofs.Written.{fitting, refusal-left}
@@ -43,7 +43,7 @@ abbrev pub numbered : List ℕ
 numbered = checked (0x20 ∷ 0x01 ∷ 0x00 ∷ 0x07 ∷ 0x01 ∷ 0xAB ∷ [])
 
 pub numbered-is : (numbered ≡ rawFrame 1 0 1 1 0 (0xAB ∷ [])) × (kindOf numbered ≡ Bd) × (refusalOf numbered 1 0 ≡ 0)
-unfolding rawFrame bodyOf headerOf headerFields octetsOf packed digitsOf kindOf refusalOf contentRefusal headerRefusal commandHeld isCommand dataField totalOf fieldAt octetBits bitsOf valueOf fecfOf syndromeOf register shiftBits shiftBit
+unfolding rawFrame bodyOf headerOf headerFields octetsOf packed digitsOf kindOf refusalOf contentRefusal headerRefusal validHeader commandHeld isCommand dataField totalOf fieldAt octetBits bitsOf valueOf fecfOf syndromeOf register shiftBits shiftBit
 numbered-is = (refl, refl, refl)
 
 -- octets whose FECF is wrong are never refused with 7
@@ -71,5 +71,5 @@ abbrev pub wrong : List ℕ
 wrong = 0x30 ∷ 0x01 ∷ 0x00 ∷ 0x07 ∷ 0x00 ∷ 0x00 ∷ 0x00 ∷ 0x00 ∷ []
 
 pub wrong-is : (fieldAt spacecraftIdentifier wrong ≡ 1) × (syndromeOf (take (totalOf wrong) wrong) ≡ 0 → ⊥) × (refusalOf wrong 2 0 ≡ 8)
-unfolding refusalOf contentRefusal headerRefusal commandHeld isCommand dataField totalOf fieldAt octetBits bitsOf valueOf syndromeOf register shiftBits shiftBit
+unfolding refusalOf contentRefusal headerRefusal validHeader commandHeld isCommand dataField totalOf fieldAt octetBits bitsOf valueOf syndromeOf register shiftBits shiftBit
 wrong-is = (refl, (λ z. omega arith), refl)

@@ -1,6 +1,6 @@
 -- A written frame with fill behind it, by its octets: the header's fields as they were packed, the data field, and a syndrome of zero.
 use mathlib.Core.Path.{_≡_, sym, ap, _∙_, subst}
-use mathlib.Core.Bool.{true, false}
+use mathlib.Core.Bool.{true, not}
 use mathlib.Core.List.{List, _∷_, _++_, append-assoc}
 use Prim.Native.Nat.{ℕ, _+_, _-_, _*_, _/_, _%_, _<_, _≤_}
 use native.Mathlib.Omega.{arith}
@@ -16,12 +16,14 @@ use Rattle.base.proofs.Lists.{octets-at, below-append}
 use Rattle.base.proofs.Tests.{both-left, both-right, not-so}
 use Rattle.fecf.specs.Fecf.{fecfOf, syndromeOf, fieldOctets}
 use Rattle.fecf.proofs.Syndrome.{fecf-lt, syndrome-zero}
-use Rattle.frame.specs.Header.{version, bypassFlag, controlCommandFlag, reservedSpare, spacecraftIdentifier, virtualChannelIdentifier, frameSequenceNumber}
+use Rattle.frame_header.specs.Header.{headerLength, version, bypassFlag, controlCommandFlag, reservedSpare, spacecraftIdentifier, virtualChannelIdentifier, frameSequenceNumber, validCombination, validHeader}
+use Rattle.frame_header.proofs.Octets.{o, version-is, bypass-is, control-is, spare-is, spacecraft-is, channel-is, number-is}
+use Rattle.frame_header.proofs.Packed.{header-octets}
+use Rattle.frame_header.proofs.Laws.{valid-is}
 use Rattle.frame.specs.Frame.{unlockCommand, bodyOf, rawFrame, totalOf, dataField, isCommand, commandHeld, headerRefusal, contentRefusal, refusalOf, kindOf}
 use Rattle.frame.specs.declared.Kind.the-variants.{Ad, Bd, Unlock, SetVr}
-use Rattle.frame.proofs.Octets.{o, version-is, bypass-is, control-is, spare-is, spacecraft-is, channel-is, number-is, total-is}
-use Rattle.frame.proofs.Packed.{header-octets}
-use Rattle.frame.proofs.Emitted.{length-frame}
+use Rattle.frame.proofs.Octets.{total-is}
+use Rattle.frame.proofs.Lengths.{length-frame}
 
 -- octets whose lengths are right are judged by their content
 pub lengths-right : (s : List ℕ) (n spacecraft channel : ℕ) → totalOf s ≡ n → 8 ≤ n → n ≤ largestFrame → n ≤ length s → length s ≤ n + 6
@@ -94,6 +96,9 @@ module _ (bypass control number spacecraft channel : ℕ) (field : List ℕ) (fi
     enough : 8 ≤ length s
     enough = omega (arith, length-filled)
 
+    entire : headerLength ≤ length s
+    entire = omega (arith, length-filled)
+
     filled-is : s
         ≡ (bypass * 32 + control * 16 + spacecraft / 256) ∷ (spacecraft % 256) ∷ (channel * 4 + (length field + 7 - 1) / 256) ∷ ((length field + 7 - 1) % 256) ∷ number
         ∷ (field ++ (fieldOctets (fecfOf (bodyOf bypass control number spacecraft channel field)) ++ fill))
@@ -116,25 +121,25 @@ module _ (bypass control number spacecraft channel : ℕ) (field : List ℕ) (fi
 
     -- the fields as they were packed
     version-back : fieldAt version s ≡ 0
-    version-back = version-is s octets-filled enough ∙ omega (arith, first)
+    version-back = version-is s octets-filled entire ∙ omega (arith, first)
 
     spare-back : fieldAt reservedSpare s ≡ 0
-    spare-back = spare-is s octets-filled enough ∙ omega (arith, first)
+    spare-back = spare-is s octets-filled entire ∙ omega (arith, first)
 
     pub bypass-back : fieldAt bypassFlag s ≡ bypass
-    bypass-back = bypass-is s octets-filled enough ∙ omega (arith, first)
+    bypass-back = bypass-is s octets-filled entire ∙ omega (arith, first)
 
     pub control-back : fieldAt controlCommandFlag s ≡ control
-    control-back = control-is s octets-filled enough ∙ omega (arith, first)
+    control-back = control-is s octets-filled entire ∙ omega (arith, first)
 
     pub spacecraft-back : fieldAt spacecraftIdentifier s ≡ spacecraft
-    spacecraft-back = spacecraft-is s octets-filled enough ∙ omega (arith, first, second)
+    spacecraft-back = spacecraft-is s octets-filled entire ∙ omega (arith, first, second)
 
     pub channel-back : fieldAt virtualChannelIdentifier s ≡ channel
-    channel-back = channel-is s octets-filled enough ∙ omega (arith, third)
+    channel-back = channel-is s octets-filled entire ∙ omega (arith, third)
 
     pub number-back : fieldAt frameSequenceNumber s ≡ number
-    number-back = number-is s octets-filled enough ∙ ap (λ (l : List ℕ). o l 4) filled-is
+    number-back = number-is s octets-filled entire ∙ ap (λ (l : List ℕ). o l 4) filled-is
 
     pub total-back : totalOf s ≡ length field + 7
     total-back = total-is s octets-filled enough ∙ omega (arith, third, fourth)
@@ -145,10 +150,15 @@ module _ (bypass control number spacecraft channel : ℕ) (field : List ℕ) (fi
         ap (λ (l : List ℕ). take (length field + 7 - 7) (drop 5 l)) filled-is
         ∙ take-at field (fieldOctets (fecfOf (bodyOf bypass control number spacecraft channel field)) ++ fill) (length field + 7 - 7) (omega arith)
 
-    not-type : both (eqb bypass 0) (eqb control 1) ≡ false
-    not-type =
-        not-so (both (eqb bypass 0) (eqb control 1))
-        (λ e. omega (arith, eqb-true bypass 0 (both-left (eqb bypass 0) (eqb control 1) e), eqb-true control 1 (both-right (eqb bypass 0) (eqb control 1) e)))
+    combination : validCombination bypass control ≡ true
+    combination =
+        ap not
+        (not-so (both (eqb bypass 0) (eqb control 1))
+        (λ e. omega (arith, eqb-true bypass 0 (both-left (eqb bypass 0) (eqb control 1) e), eqb-true control 1 (both-right (eqb bypass 0) (eqb control 1) e))))
+
+    -- its header is valid
+    valid-back : validHeader s ≡ true
+    valid-back = valid-is s (record { entire = entire; versionZero = version-back; spareZero = spare-back; combination = rw (bypass-back, control-back) combination })
 
     -- what is left to judge: the address, and the command of a frame of type C
     pub refusal-left : (s′ c′ : ℕ) → refusalOf s s′ c′
@@ -159,7 +169,7 @@ module _ (bypass control number spacecraft channel : ℕ) (field : List ℕ) (fi
         let z : syndromeOf (take (length field + 7) s) ≡ 0 =
         ap syndromeOf (take-at w fill (length field + 7) (length-frame bypass control number spacecraft channel field)) ∙ syndrome-frame in
         lengths-right s (length field + 7) s′ c′ total-back (omega arith) (omega arith) (omega (arith, length-filled)) (omega (arith, length-filled))
-        ∙ rw (eq-eqb (syndromeOf (take (length field + 7) s)) 0 z, version-back, spare-back, bypass-back, control-back, spacecraft-back, channel-back, field-back, not-type)
+        ∙ rw (eq-eqb (syndromeOf (take (length field + 7) s)) 0 z, valid-back, control-back, spacecraft-back, channel-back, field-back)
 
     -- the kind, by the flags, the number and the data
     pub kind-left : kindOf s

@@ -5,13 +5,13 @@ use lib.Dec.{eqb}
 use Rattle.base.specs.Choice.{pick}
 use Rattle.base.specs.Fields.{fieldAt}
 use Rattle.base.specs.Outcome.{Answer, Answer.done, Answer.refused}
-use Rattle.frame.specs.Header.{spacecraftIdentifier, virtualChannelIdentifier}
+use Rattle.frame_header.specs.Header.{spacecraftIdentifier, virtualChannelIdentifier}
 use Rattle.frame.specs.Frame.{overhead, refusalOf, totalOf, dataField, kindOf}
 use Rattle.frame.specs.declared.Fields.{Fields}
 use Rattle.frame.specs.declared.FrameReading.{FrameReading}
 use Rattle.frame.specs.declared.FrameReading.the-variants.{Frame, Refused}
-use Rattle.frame.specs.declared.writer.FrameWritten.{FrameWritten}
-use Rattle.frame.specs.declared.writer.FrameWritten.the-variants.{Done, Length, Setting, Room}
+use Rattle.frame.specs.declared.FrameWritten.{FrameWritten}
+use Rattle.frame.specs.declared.FrameWritten.the-variants.{Done, Length, Setting, Room}
 
 -- what writing answers: the count of octets, 10, 12 or 11
 abbrev pub writtenAnswer : FrameWritten → Answer (Unit {0})

@@ -1,16 +1,16 @@
 -- Clauses 6.2 and 6.4 to 6.8, clause 7.8, and document 01, "Frame": the TC Transfer Frame, written and read.
 use Prim.Native.Nat.{ℕ, _+_, _-_}
-use mathlib.Core.Bool.{Bool, true, not}
+use mathlib.Core.Bool.{Bool, true}
 use mathlib.Core.List.{List, [], _∷_, _++_}
 use lib.Dec.{leb, eqb}
 use lib.ListN.{length, take, drop, getD}
-use Rattle.base.specs.Choice.{pick, must, both}
+use Rattle.base.specs.Choice.{pick, must}
 use Rattle.base.specs.Fields.{fieldAt}
 use Rattle.base.specs.Limits.{smallestFrame, largestFrame, largestUnit, largestSpacecraft, largestChannel}
 use Rattle.base.specs.Octets.{same}
 use Rattle.base.specs.Outcome.{Outcome, Outcome.done, Outcome.refused}
 use Rattle.fecf.specs.Fecf.{fecfOf, syndromeOf, fieldOctets}
-use Rattle.frame.specs.Header.{version, bypassFlag, controlCommandFlag, reservedSpare, spacecraftIdentifier, virtualChannelIdentifier, frameLength, frameSequenceNumber, headerOf}
+use Rattle.frame_header.specs.Header.{headerLength, bypassFlag, controlCommandFlag, spacecraftIdentifier, virtualChannelIdentifier, frameLength, frameSequenceNumber, headerOf, validHeader}
 use Rattle.frame.specs.declared.Kind.{Kind}
 use Rattle.frame.specs.declared.Kind.the-variants.{Ad, Bd, Unlock, SetVr}
 
@@ -88,7 +88,7 @@ totalOf octets = fieldAt frameLength octets + 1
 
 -- the data field of a frame of n octets
 unfoldable pub dataField : List ℕ → ℕ → List ℕ
-dataField octets n = take (n - overhead) (drop 5 octets)
+dataField octets n = take (n - overhead) (drop headerLength octets)
 
 -- clause 7.8: the data field holds one of the two commands
 unfoldable pub isCommand : List ℕ → Bool
@@ -101,12 +101,10 @@ commandHeld octets n = pick (eqb (fieldAt controlCommandFlag octets) 1) (isComma
 -- clause 6.8, and document 01's order 6, 7, 9; 0 where there is none
 unfoldable pub headerRefusal : List ℕ → ℕ → ℕ → ℕ → ℕ
 headerRefusal octets n spacecraft channel =
-    must (eqb (fieldAt version octets) 0) 6
-    (must (eqb (fieldAt reservedSpare octets) 0) 6
-    (must (not (both (eqb (fieldAt bypassFlag octets) 0) (eqb (fieldAt controlCommandFlag octets) 1))) 6
+    must (validHeader octets) 6
     (must (eqb (fieldAt spacecraftIdentifier octets) spacecraft) 7
     (must (eqb (fieldAt virtualChannelIdentifier octets) channel) 7
-    (must (commandHeld octets n) 9 0)))))
+    (must (commandHeld octets n) 9 0)))
 
 -- clause 6.7: the syndrome of the first n octets is zero
 unfoldable pub contentRefusal : List ℕ → ℕ → ℕ → ℕ → ℕ

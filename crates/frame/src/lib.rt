@@ -1,6 +1,4 @@
-// Clauses 6.2 and 6.4 to 6.8: the TC Transfer Frame, read; the module `writer` writes it.
-pub mod writer;
-
+// Clauses 6.2 and 6.4 to 6.8: the TC Transfer Frame, read; the crate `frame_writer` writes it.
 use base::LARGEST_FRAME;
 use base::SMALLEST_FRAME;
 ghost use mathlib.Core.Path.{_≡_};
@@ -31,6 +29,14 @@ pub struct Fields {
 pub enum FrameReading {
     Frame(Fields),
     Refused(u8),
+}
+
+// The count of octets written, or document 01's refusal 10, 12 or 11.
+pub enum FrameWritten {
+    Done(usize),
+    Length,
+    Setting,
+    Room,
 }
 
 // Two octets as one number, the most significant first.
@@ -70,16 +76,10 @@ fn header_refusal(octets: &[u8], n: usize, spacecraft: u16, channel: u8) -> u8
     requires { ⌜ (8 ≤ n) × (n ≤ length (now octets)) ⌝ }
     ensures { λ r. ⌜ r ≡ headerRefusal (now (octets .entry)) n spacecraft channel ⌝ }
 {
+    if !frame_header::valid(octets) {
+        return 6;
+    }
     let first = octets[0];
-    if first / 64 != 0 {
-        return 6;
-    }
-    if first / 4 % 4 != 0 {
-        return 6;
-    }
-    if first / 16 % 4 == 1 {
-        return 6;
-    }
     if pair(first % 4, octets[1]) != spacecraft {
         return 7;
     }

@@ -1,11 +1,11 @@
 -- What `placed` comes to, by whether the octets fit.
 use mathlib.Core.Path.{_≡_, sym, ap, ap₂, _∙_}
 use mathlib.Core.List.{List, _++_}
-use Prim.Native.Nat.{ℕ, _+_, _-_, _<_, _≤_}
+use Prim.Native.Nat.{ℕ, _+_, _<_, _≤_}
 use native.Mathlib.Omega.{arith}
 use borrow.Author.Tests.{le-leb, lt-leb}
 use lib.ListN.{length, take, drop, length-append, length-drop}
-use lib.Seq.{paste, take-length, length-take-le, take-at, drop-append-add, drop-drop}
+use lib.Seq.{paste, take-length, take-at, drop-append-add, drop-drop}
 use Rattle.memory.specs.Placed.{placed}
 
 pub placed-fits : (memory : List ℕ) (place : ℕ) (octets : List ℕ) → place + length octets ≤ length memory
@@ -35,16 +35,3 @@ placed-behind old front octets memory place e p h =
     ∙ drop-drop (length octets) (length front) old
     ∙ ap (λ (j : ℕ). drop j old) (sym (length-append front octets)) in
     placed-fits memory place octets (omega arith) ∙ ap₂ (λ (x y : List ℕ). x ++ octets ++ y) t d
-
--- what stands behind the octets placed stays
-pub placed-rest : (n place : ℕ) (octets memory : List ℕ) → place + length octets ≤ n → n ≤ length memory
-    → drop n (placed memory place octets) ≡ drop n memory
-placed-rest n place octets memory h k =
-    let e = place + length octets in
-    let r : e + (n - e) ≡ n = omega arith in
-    let f : length (take place memory ++ octets) ≡ e = length-append (take place memory) octets ∙ ap (λ (j : ℕ). j + length octets) (length-take-le place memory (omega arith)) in
-    ap (drop n) (placed-fits memory place octets (omega arith))
-    ∙ ap (λ (j : ℕ). drop j ((take place memory ++ octets) ++ drop e memory)) (sym r ∙ ap (λ (j : ℕ). j + (n - e)) (sym f))
-    ∙ drop-append-add (take place memory ++ octets) (drop e memory) (n - e)
-    ∙ drop-drop (n - e) e memory
-    ∙ ap (λ (j : ℕ). drop j memory) r

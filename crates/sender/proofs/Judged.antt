@@ -1,8 +1,8 @@
 -- Each way through an event of the sender, in the form in which a `return` asks it.
-use mathlib.Core.Path.{_≡_, refl, sym, ap, ap₂, _∙_}
+use mathlib.Core.Path.{_≡_, sym, ap, ap₂, _∙_}
 use mathlib.Core.Bool.{Bool, true, false}
 use mathlib.Core.List.{List}
-use Prim.Native.Nat.{ℕ, _+_, _*_, _<_, _≤_}
+use Prim.Native.Nat.{ℕ, _<_, _≤_}
 use native.Mathlib.Omega.{arith}
 use borrow.Author.Tests.{le-leb, lt-leb, eq-eqb, ne-eqb}
 use lib.ListN.{length}
@@ -11,41 +11,44 @@ use Rattle.base.specs.Choice.{pick, must, both}
 use Rattle.base.specs.Outcome.{answer, after}
 use Rattle.base.specs.Limits.{largestUnit}
 use Rattle.base.proofs.Tests.{yes, no}
-use Rattle.memory.specs.Placed.{placed}
+use Rattle.store.specs.Places.{unitPut}
 use Rattle.frame.specs.Answers.{writtenAnswer}
-use Rattle.frame.specs.declared.writer.FrameWritten.{FrameWritten}
+use Rattle.frame.specs.declared.FrameWritten.{FrameWritten}
 use Rattle.clcw.specs.Answers.{readingOf}
 use Rattle.clcw.specs.declared.ReceivedWord.{ReceivedWord}
 use Rattle.clcw.specs.declared.WordReading.{WordReading}
 use Rattle.clcw.specs.declared.WordReading.the-variants.{Word}
-use Rattle.fop_actions.specs.declared.State.{State}
-use Rattle.fop_actions.specs.declared.SenderState.{SenderState}
-use Rattle.fop_actions.specs.declared.Work.{Work}
-use Rattle.fop_actions.specs.Start.{begun}
-use Rattle.fop_actions.specs.View.{unitAt, without}
-use Rattle.fop_rows.specs.Rows.{rowNumbered, inMain}
-use Rattle.fop_events.specs.declared.Lower.{Lower}
+use Rattle.fop.specs.declared.State.{State}
+use Rattle.sender_values.specs.declared.SenderState.{SenderState}
+use Rattle.sender_values.specs.declared.Work.{Work}
+use Rattle.sender_values.specs.Start.{begun}
+use Rattle.sender_table.specs.Rows.{rowNumbered, inMain}
+use Rattle.fop.specs.declared.Lower.{Lower}
 use Rattle.fop_events.specs.Events.{wordNumber, directiveNumber, lowerNumber, adNumber, bdNumber}
+use Rattle.sender_frames.specs.Limits.{smallestStore}
+use Rattle.sender_frames.specs.Frames.{requestRefusal, unitBefore, mustBeUnit, unitOffered}
+use Rattle.sender_frames.proofs.Written.{Writes}
 use Rattle.sender.specs.declared.Answer.{Answer}
-use Rattle.sender.specs.Limits.{smallestStore}
+use Rattle.sender.specs.declared.Event.{Event}
 use Rattle.sender.specs.Answers.{Step, refusing, refusedStep, concluded}
-use Rattle.sender.specs.Events.{placeHanded, unitBefore, servedBy, served, mustBeUnit, added, unitOffered, offeredBy, bypassedBy, directiveOf, ticked, tickNumber, tickOf, lowerLayerOf, wordBy, controlWordOf}
-use Rattle.sender.proofs.Steps.{Told, check, no-check, Meets, Writes, handing, holds, fails, same-step, refuses, stored-same, step-done, step-refused}
+use Rattle.sender.specs.Events.{storeServed, lengthsServed, servedBy, served, added, lengthsOffered, offeredBy, bypassedBy, directiveOf, ticked, tickNumber, tickOf, lowerLayerOf, wordBy, controlWordOf, eventOf}
+use Rattle.sender.proofs.Steps.{Told, check, no-check, Meets, handing, holds, fails, same-step, refuses, stored-same, step-done, step-refused}
 
 -- an event that offers no unit: the frame of the unit that stood behind the units confirmed
-module _ (event : ℕ) (s : SenderState) (w : Work) (store output : List ℕ) (x : FrameWritten) {place : ℕ} {unit out : List ℕ} {a : Answer}
-    (at-place : place ≡ placeHanded (w .told .handed) + w .told .confirmed .count) (of-unit : unit ≡ unitAt (s .queues .lengths) place store)
-    (written : Writes x out (handing s w unit output) output) (told : a ≡ concluded event s w (writtenAnswer x)) where
-  behind : unit ≡ unitBefore s w store
-  behind = of-unit ∙ ap (λ (p : ℕ). unitAt (s .queues .lengths) p store) at-place
+module _ (event : ℕ) (s : SenderState) (w : Work) (store output : List ℕ) (x : FrameWritten) {out ls : List ℕ} {a : Answer}
+    (of-lengths : ls ≡ lengthsServed s w) (written : Writes x out (handing s w (unitBefore s w store) output) output)
+    (told : a ≡ concluded event s w ls (writtenAnswer x)) where
+  -- with the lengths of the units that stay
+  measured : a ≡ concluded event s w (lengthsServed s w) (writtenAnswer x)
+  measured = told ∙ ap (λ (l : List ℕ). concluded event s w l (writtenAnswer x)) of-lengths
 
-  pub served-done : {new : List ℕ} → a .refusal ≡ 0 → new ≡ without (w .told .confirmed .count) store → Meets a new out (servedBy event s w store output)
+  pub served-done : {new : List ℕ} → a .refusal ≡ 0 → new ≡ storeServed s w store → Meets a new out (servedBy event s w store output)
   unfolding servedBy
-  served-done {new} = step-done event s w x a (unitBefore s w store) unit out (without (w .told .confirmed .count) store) store output behind written told new
+  served-done {new} = step-done event s w (lengthsServed s w) x a (unitBefore s w store) out (storeServed s w store) store output written measured new
 
   pub served-refused : (a .refusal ≡ 0 → ⊥) → Meets a store out (servedBy event s w store output)
   unfolding servedBy
-  served-refused = step-refused event s w x a (unitBefore s w store) unit out (without (w .told .confirmed .count) store) store output behind written told
+  served-refused = step-refused event s w (lengthsServed s w) x a (unitBefore s w store) out (storeServed s w store) store output written measured
 
 -- by the event's row
 module _ (event n : ℕ) (s g : SenderState) (store output : List ℕ) {a : Answer} where
@@ -53,12 +56,12 @@ module _ (event n : ℕ) (s g : SenderState) (store output : List ℕ) {a : Answ
   unfolding served
   served-short h e = refuses 11 s (fails _ _ _ (lt-leb smallestStore (length store) h)) e
 
-  pub served-row : {new out : List ℕ} {b w : Work} → smallestStore ≤ length store → b ≡ begun g → w ≡ rowNumbered event n 0 b
+  pub served-row : {new out : List ℕ} {b w : Work} → smallestStore ≤ length store → b ≡ begun g → w ≡ rowNumbered event n b
       → Meets a new out (servedBy event s w store output) → Meets a new out (served event n s g store output)
   unfolding served
   served-row h p q m =
       same-step
-      (holds _ _ _ (le-leb smallestStore (length store) h) ∙ ap (λ (v : Work). servedBy event s v store output) (sym (q ∙ ap (rowNumbered event n 0) p)))
+      (holds _ _ _ (le-leb smallestStore (length store) h) ∙ ap (λ (v : Work). servedBy event s v store output) (sym (q ∙ ap (rowNumbered event n) p)))
       m
 
 -- a directive
@@ -103,10 +106,6 @@ abbrev requestOf : Request → Request
 requestOf t s o store output =
     mustBeUnit o (refusedStep 10 s store output) (must (leb smallestStore (length store)) (refusedStep 11 s store output) (t s o store output))
 
--- the number of its refusal, 0 where there is none
-abbrev requestRefusal : List ℕ → List ℕ → ℕ
-requestRefusal o store = mustBeUnit o 10 (must (leb smallestStore (length store)) 11 0)
-
 module _ (t : Request) (s : SenderState) (o store output : List ℕ) {n : ℕ} (judged : n ≡ requestRefusal o store) where
   abbrev refusal : ℕ → Step
   refusal k = refusedStep k s store output
@@ -126,55 +125,58 @@ module _ (t : Request) (s : SenderState) (o store output : List ℕ) {n : ℕ} (
 
 -- the step of an AD request, and of a BD request, by the row
 abbrev pub adStep : Request
-adStep s o store output = offeredBy (adNumber s) s (rowNumbered (adNumber s) 0 (length o) (begun s)) o store output
+adStep s o store output = offeredBy (adNumber s) s (rowNumbered (adNumber s) 0 (begun s)) o store output
 
 abbrev pub bdStep : Request
-bdStep s o store output = bypassedBy (bdNumber s) s (rowNumbered (bdNumber s) 0 0 (begun s)) o store output
+bdStep s o store output = bypassedBy (bdNumber s) s (rowNumbered (bdNumber s) 0 (begun s)) o store output
 
 pub ad-row : (s : SenderState) (o store output : List ℕ) {a : Answer} {new out : List ℕ} {event : ℕ} {b w : Work} → event ≡ adNumber s → b ≡ begun s
-    → w ≡ rowNumbered event 0 (length o) b → Meets a new out (offeredBy event s w o store output) → Meets a new out (adStep s o store output)
+    → w ≡ rowNumbered event 0 b → Meets a new out (offeredBy event s w o store output) → Meets a new out (adStep s o store output)
 ad-row s o store output p q r m =
-    same-step (sym (ap₂ (λ (k : ℕ) (v : Work). offeredBy k s v o store output) p (r ∙ ap₂ (λ (k : ℕ) (v : Work). rowNumbered k 0 (length o) v) p q))) m
+    same-step (sym (ap₂ (λ (k : ℕ) (v : Work). offeredBy k s v o store output) p (r ∙ ap₂ (λ (k : ℕ) (v : Work). rowNumbered k 0 v) p q))) m
 
 pub bd-row : (s : SenderState) (o store output : List ℕ) {a : Answer} {out : List ℕ} {event : ℕ} {b w : Work} → event ≡ bdNumber s → b ≡ begun s
-    → w ≡ rowNumbered event 0 0 b → (a ≡ concluded event s w (answer (handing s w o output))) × (out ≡ after (handing s w o output) output)
+    → w ≡ rowNumbered event 0 b → (a ≡ concluded event s w (s .lengths) (answer (handing s w o output))) × (out ≡ after (handing s w o output) output)
     → Meets a store out (bdStep s o store output)
 unfolding bypassedBy
 bd-row s o store output {w = w} p q r m =
-    same-step (sym (ap₂ (λ (k : ℕ) (v : Work). bypassedBy k s v o store output) p (r ∙ ap₂ (λ (k : ℕ) (v : Work). rowNumbered k 0 0 v) p q)))
+    same-step (sym (ap₂ (λ (k : ℕ) (v : Work). bypassedBy k s v o store output) p (r ∙ ap₂ (λ (k : ℕ) (v : Work). rowNumbered k 0 v) p q)))
     (m .0, (stored-same (answer (handing s w o output)) store, m .1))
-
--- the unit that an AD request hands down
-module _ (s : SenderState) (w : Work) (o store : List ℕ) {place : ℕ} (at-place : place ≡ placeHanded (w .told .handed)) where
-  pub offered-newest : place ≡ s .queues .sent → o ≡ unitOffered s w o store
-  offered-newest h = sym (yes _ _ _ (eq-eqb _ _ (sym at-place ∙ h)))
-
-  pub offered-older : {unit : List ℕ} → (place ≡ s .queues .sent → ⊥) → unit ≡ unitAt (s .queues .lengths) place store → unit ≡ unitOffered s w o store
-  offered-older h e =
-      e ∙ ap (λ (p : ℕ). unitAt (s .queues .lengths) p store) at-place ∙ sym (no _ _ _ (ne-eqb _ _ (λ p. h (at-place ∙ p))))
 
 -- the event and the state pick whether the unit is added
 pub adds-told : (event : ℕ) (s : SenderState) {k : State} → event ≡ 19 → s .state ≡ k → inMain k ≡ added event s
 adds-told event s p q = sym (ap (λ (b : Bool). both b (inMain (s .state))) (eq-eqb event 19 p) ∙ ap inMain q)
 
 -- an AD request: the unit offered goes into the store where the frame is written and the unit is added
-module _ (event : ℕ) (s : SenderState) (w : Work) (o store output : List ℕ) (x : FrameWritten) {out : List ℕ} {a : Answer}
-    (written : Writes x out (handing s w (unitOffered s w o store) output) output) (told : a ≡ concluded event s w (writtenAnswer x)) where
+module _ (event : ℕ) (s : SenderState) (w : Work) (o store output : List ℕ) (x : FrameWritten) {out ls : List ℕ} {a : Answer}
+    (written : Writes x out (handing s w (unitOffered s w o store) output) output) (of-lengths : ls ≡ lengthsOffered event s (length o))
+    (told : a ≡ concluded event s w ls (writtenAnswer x)) where
   abbrev changed : List ℕ
-  changed = pick (added event s) (placed store (largestUnit * s .queues .sent) o) store
+  changed = pick (added event s) (unitPut (s .queues .sent) o store) store
 
-  pub offered-added : {new : List ℕ} {b : Work} {t : Bool} → a .refusal ≡ 0 → t ≡ added event s → t ≡ true → b ≡ begun s
-      → new ≡ placed store (largestUnit * b .queues .sent) o → Meets a new out (offeredBy event s w o store output)
-  unfolding offeredBy begun
-  offered-added {new} z p q e f =
-      step-done event s w x a (unitOffered s w o store) (unitOffered s w o store) out changed store output refl written told new z
-      (f ∙ ap (λ (v : Work). placed store (largestUnit * v .queues .sent) o) e ∙ sym (yes _ _ _ (sym p ∙ q)))
+  abbrev lengths : List ℕ
+  lengths = lengthsOffered event s (length o)
+
+  -- with the lengths of the units after it
+  longer : a ≡ concluded event s w lengths (writtenAnswer x)
+  longer = told ∙ ap (λ (l : List ℕ). concluded event s w l (writtenAnswer x)) of-lengths
+
+  pub offered-added : {new : List ℕ} {t : Bool} → a .refusal ≡ 0 → t ≡ added event s → t ≡ true → new ≡ unitPut (s .queues .sent) o store
+      → Meets a new out (offeredBy event s w o store output)
+  unfolding offeredBy
+  offered-added {new} z p q f =
+      step-done event s w lengths x a (unitOffered s w o store) out changed store output written longer new z (f ∙ sym (yes _ _ _ (sym p ∙ q)))
 
   pub offered-not-added : {t : Bool} → a .refusal ≡ 0 → t ≡ added event s → t ≡ false → Meets a store out (offeredBy event s w o store output)
   unfolding offeredBy
   offered-not-added z p q =
-      step-done event s w x a (unitOffered s w o store) (unitOffered s w o store) out changed store output refl written told store z (sym (no _ _ _ (sym p ∙ q)))
+      step-done event s w lengths x a (unitOffered s w o store) out changed store output written longer store z (sym (no _ _ _ (sym p ∙ q)))
 
   pub offered-refused : (a .refusal ≡ 0 → ⊥) → Meets a store out (offeredBy event s w o store output)
   unfolding offeredBy
-  offered-refused = step-refused event s w x a (unitOffered s w o store) (unitOffered s w o store) out changed store output refl written told
+  offered-refused = step-refused event s w lengths x a (unitOffered s w o store) out changed store output written longer
+
+-- the event told picks the step
+pub event-told : (x : Event) (octets : List ℕ) (s : SenderState) (store output : List ℕ) {y : Event} {a : Answer} {new out : List ℕ} → x ≡ y
+    → Meets a new out (eventOf y octets s store output) → Meets a new out (eventOf x octets s store output)
+event-told x octets s store output p m = same-step (ap (λ (z : Event). eventOf z octets s store output) p) m

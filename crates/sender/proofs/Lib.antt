@@ -1,6 +1,4 @@
-pub mod Parts
 pub mod Steps
 pub mod Timer
 pub mod Starts
 pub mod Judged
-pub mod Kept

@@ -1,14 +1,16 @@
--- Each way through the start of a sender.
+-- Each way through the start of a sender, and through one from a state that was kept.
 use mathlib.Core.Path.{_≡_, sym, ap, _∙_}
 use mathlib.Core.Bool.{Bool, true, false}
 use Prim.Native.Nat.{ℕ, _≤_, _<_}
 use borrow.Author.Tests.{le-leb, lt-leb}
-use Rattle.fop_actions.specs.declared.Settings.{Settings}
-use Rattle.fop_actions.specs.declared.SenderState.{SenderState}
-use Rattle.fop_actions.specs.Start.{startOf}
+use Rattle.base.proofs.Tests.{yes, no}
+use Rattle.sender_values.specs.declared.Settings.{Settings}
+use Rattle.sender_values.specs.declared.SenderState.{SenderState}
+use Rattle.sender_values.specs.Start.{startOf}
+use Rattle.sender_frames.specs.Limits.{smallestStore}
+use Rattle.sender_state.specs.State.{settingsHold, wellFormed}
 use Rattle.sender.specs.declared.Start.{Start}
-use Rattle.sender.specs.Limits.{smallestStore}
-use Rattle.sender.specs.Start.{settingsHold, refusedStart, startingOf}
+use Rattle.sender.specs.Start.{refusedStart, startingOf, restoredOf}
 use Rattle.sender.proofs.Steps.{holds, fails}
 
 module _ (g : Settings) (vs nnr lent : ℕ) (within : Bool) (of-settings : within ≡ settingsHold g) where
@@ -26,3 +28,13 @@ module _ (g : Settings) (vs nnr lent : ℕ) (within : Bool) (of-settings : withi
   start-done s f h e =
       ap (λ (x : SenderState). record { refusal = 0; sender = record { fop = x } }) e
       ∙ sym (holds _ _ _ (sym of-settings ∙ f) ∙ holds _ _ _ (le-leb smallestStore lent h))
+
+-- a state by whether it is well-formed
+module _ (s : SenderState) (a : Bool) (ea : a ≡ wellFormed s) where
+  pub restored-not : (r : Start) → a ≡ false → r ≡ refusedStart 12 → r ≡ restoredOf s
+  unfolding restoredOf
+  restored-not r p e = e ∙ sym (no _ _ _ (sym ea ∙ p))
+
+  pub restored : a ≡ true → record { refusal = 0; sender = record { fop = s } } ≡ restoredOf s
+  unfolding restoredOf
+  restored p = sym (yes _ _ _ (sym ea ∙ p))

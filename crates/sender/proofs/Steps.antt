@@ -9,15 +9,14 @@ use Rattle.base.specs.Choice.{must}
 use Rattle.base.specs.Outcome.{Outcome, answer, after}
 use Rattle.base.specs.Outcome as outcome
 use Rattle.frame.specs.Answers.{writtenAnswer}
-use Rattle.frame.specs.declared.writer.FrameWritten.{FrameWritten}
-use Rattle.frame.specs.declared.writer.FrameWritten.the-variants.{Done, Length, Setting, Room}
-use Rattle.fop_actions.specs.declared.Settings.{Settings}
-use Rattle.fop_actions.specs.declared.Handed.{Handed}
-use Rattle.fop_actions.specs.declared.SenderState.{SenderState}
-use Rattle.fop_actions.specs.declared.Work.{Work}
+use Rattle.frame.specs.declared.FrameWritten.{FrameWritten}
+use Rattle.frame.specs.declared.FrameWritten.the-variants.{Done, Length, Setting, Room}
+use Rattle.sender_values.specs.declared.SenderState.{SenderState}
+use Rattle.sender_values.specs.declared.Work.{Work}
+use Rattle.sender_frames.specs.Frames.{handedWriting}
+use Rattle.sender_frames.proofs.Written.{Writes}
 use Rattle.sender.specs.declared.Answer.{Answer}
 use Rattle.sender.specs.Answers.{Step, answered, refusing, refusedStep, concluded, stored, stepBy}
-use Rattle.sender.specs.Events.{handedWriting}
 
 -- a check that holds, and one that fails
 pub holds : {A : Type 0} (b : Bool) (refusal on : A) → b ≡ true → must b refusal on ≡ on
@@ -43,10 +42,6 @@ module _ {A : Type 0} (refusal : ℕ → A) (on : A) (n : ℕ) where
 abbrev pub Meets : Answer → List ℕ → List ℕ → Step → Type 0
 Meets a store output t = (a ≡ t .answer) × ((store ≡ t .store) × (output ≡ t .output))
 
--- what writing a frame promises
-abbrev pub Writes : FrameWritten → List ℕ → Outcome (Unit {0}) → List ℕ → Type 0
-Writes x new o old = (writtenAnswer x ≡ answer o) × (new ≡ after o old)
-
 -- a step by another that it is
 pub same-step : {a : Answer} {store output : List ℕ} {t u : Step} → t ≡ u → Meets a store output u → Meets a store output t
 same-step p h =
@@ -58,24 +53,9 @@ pub refuses : (n : ℕ) (s : SenderState) {a : Answer} {store output : List ℕ}
 refuses n s p e = same-step p (e, (refl, refl))
 
 -- what was written picks the answer
-pub concludes : (event : ℕ) (s : SenderState) (w : Work) (x y : FrameWritten) (a : Answer) → x ≡ y → a ≡ concluded event s w (writtenAnswer y)
-    → a ≡ concluded event s w (writtenAnswer x)
-concludes event s w x y a p e = e ∙ ap (λ (z : FrameWritten). concluded event s w (writtenAnswer z)) (sym p)
-
--- what is handed down, and its unit, pick the frame
-pub handed-told : (g : Settings) (u : List ℕ) (x : FrameWritten) (new old : List ℕ) (h k : Handed) → h ≡ k → Writes x new (handedWriting g k u (length old)) old
-    → Writes x new (handedWriting g h u (length old)) old
-handed-told g u x new old h k p f = (
-  f .0 ∙ ap (λ (y : Handed). answer (handedWriting g y u (length old))) (sym p),
-  f .1 ∙ ap (λ (y : Handed). after (handedWriting g y u (length old)) old) (sym p),
-)
-
-pub unit-told : (g : Settings) (h : Handed) (x : FrameWritten) (new old u v : List ℕ) → u ≡ v → Writes x new (handedWriting g h u (length old)) old
-    → Writes x new (handedWriting g h v (length old)) old
-unit-told g h x new old u v p f = (
-  f .0 ∙ ap (λ (y : List ℕ). answer (handedWriting g h y (length old))) p,
-  f .1 ∙ ap (λ (y : List ℕ). after (handedWriting g h y (length old)) old) p,
-)
+pub concludes : (event : ℕ) (s : SenderState) (w : Work) (ls : List ℕ) (x y : FrameWritten) (a : Answer) → x ≡ y → a ≡ concluded event s w ls (writtenAnswer y)
+    → a ≡ concluded event s w ls (writtenAnswer x)
+concludes event s w ls x y a p e = e ∙ ap (λ (z : FrameWritten). concluded event s w ls (writtenAnswer z)) (sym p)
 
 -- a store that the event does not change, whatever was written
 pub stored-same : (y : outcome.Answer (Unit {0})) (store : List ℕ) → store ≡ stored y store store
@@ -83,15 +63,15 @@ stored-same (outcome.Answer.done count more) store = refl
 stored-same (outcome.Answer.refused number place) store = refl
 
 -- the refusal in the answer is 0 exactly where the frame is written, so the store changes exactly there
-module _ (event : ℕ) (s : SenderState) (w : Work) (new old : List ℕ) where
-  stored-new : (x : FrameWritten) → concluded event s w (writtenAnswer x) .refusal ≡ 0 → stored (writtenAnswer x) new old ≡ new
+module _ (event : ℕ) (s : SenderState) (w : Work) (ls : List ℕ) (new old : List ℕ) where
+  stored-new : (x : FrameWritten) → concluded event s w ls (writtenAnswer x) .refusal ≡ 0 → stored (writtenAnswer x) new old ≡ new
   unfolding refusing
   stored-new (Done count) z = refl
   stored-new Length z = absurd (omega arith)
   stored-new Setting z = absurd (omega arith)
   stored-new Room z = absurd (omega arith)
 
-  stored-old : (x : FrameWritten) → (concluded event s w (writtenAnswer x) .refusal ≡ 0 → ⊥) → stored (writtenAnswer x) new old ≡ old
+  stored-old : (x : FrameWritten) → (concluded event s w ls (writtenAnswer x) .refusal ≡ 0 → ⊥) → stored (writtenAnswer x) new old ≡ old
   unfolding answered
   stored-old (Done count) z = absurd (z refl)
   stored-old Length z = refl
@@ -103,24 +83,21 @@ abbrev pub handing : SenderState → Work → List ℕ → List ℕ → Outcome 
 handing s w unit output = handedWriting (s .settings) (w .told .handed) unit (length output)
 
 -- the answer by the frame written
-pub answered-by : (event : ℕ) (s : SenderState) (w : Work) (x : FrameWritten) (a : Answer) (unit out output : List ℕ) → Writes x out (handing s w unit output) output
-    → a ≡ concluded event s w (writtenAnswer x)
-    → (a ≡ concluded event s w (answer (handing s w unit output))) × (out ≡ after (handing s w unit output) output)
-answered-by event s w x a unit out output f e = (e ∙ ap (concluded event s w) (f .0), f .1)
+pub answered-by : (event : ℕ) (s : SenderState) (w : Work) (ls : List ℕ) (x : FrameWritten) (a : Answer) (unit out output : List ℕ) → Writes x out (handing s w unit output) output
+    → a ≡ concluded event s w ls (writtenAnswer x)
+    → (a ≡ concluded event s w ls (answer (handing s w unit output))) × (out ≡ after (handing s w unit output) output)
+answered-by event s w ls x a unit out output f e = (e ∙ ap (concluded event s w ls) (f .0), f .1)
 
--- an event judged, where the unit given is the unit to hand down: the answer by the frame written, and the store by the refusal in it
-module _ (event : ℕ) (s : SenderState) (w : Work) (x : FrameWritten) (a : Answer) (unit given out new old output : List ℕ) (same : given ≡ unit)
-    (written : Writes x out (handing s w given output) output) (told : a ≡ concluded event s w (writtenAnswer x)) where
-  frame : Writes x out (handing s w unit output) output
-  frame = unit-told (s .settings) (w .told .handed) x out output given unit same written
-
-  step-with : (store : List ℕ) → store ≡ stored (writtenAnswer x) new old → Meets a store out (stepBy event s w (handing s w unit output) new old output)
+-- an event judged: the answer by the frame written, and the store by the refusal in it
+module _ (event : ℕ) (s : SenderState) (w : Work) (ls : List ℕ) (x : FrameWritten) (a : Answer) (unit out new old output : List ℕ)
+    (written : Writes x out (handing s w unit output) output) (told : a ≡ concluded event s w ls (writtenAnswer x)) where
+  step-with : (store : List ℕ) → store ≡ stored (writtenAnswer x) new old → Meets a store out (stepBy event s w ls (handing s w unit output) new old output)
   step-with store q =
-      let r = answered-by event s w x a unit out output frame told in
-      (r .0, (q ∙ ap (λ y. stored y new old) (frame .0), r .1))
+      let r = answered-by event s w ls x a unit out output written told in
+      (r .0, (q ∙ ap (λ y. stored y new old) (written .0), r .1))
 
-  pub step-done : (store : List ℕ) → a .refusal ≡ 0 → store ≡ new → Meets a store out (stepBy event s w (handing s w unit output) new old output)
-  step-done store z q = step-with store (q ∙ sym (stored-new event s w new old x (sym (ap (λ (y : Answer). y .refusal) told) ∙ z)))
+  pub step-done : (store : List ℕ) → a .refusal ≡ 0 → store ≡ new → Meets a store out (stepBy event s w ls (handing s w unit output) new old output)
+  step-done store z q = step-with store (q ∙ sym (stored-new event s w ls new old x (sym (ap (λ (y : Answer). y .refusal) told) ∙ z)))
 
-  pub step-refused : (a .refusal ≡ 0 → ⊥) → Meets a old out (stepBy event s w (handing s w unit output) new old output)
-  step-refused z = step-with old (sym (stored-old event s w new old x (λ p. z (ap (λ (y : Answer). y .refusal) told ∙ p))))
+  pub step-refused : (a .refusal ≡ 0 → ⊥) → Meets a old out (stepBy event s w ls (handing s w unit output) new old output)
+  step-refused z = step-with old (sym (stored-old event s w ls new old x (λ p. z (ap (λ (y : Answer). y .refusal) told ∙ p))))

@@ -4,15 +4,15 @@ use Prim.Native.Nat.{ℕ, _-_}
 use native.Mathlib.Omega.{arith}
 use borrow.Author.Tests.{eq-eqb, ne-eqb}
 use Rattle.base.proofs.Tests.{yes, no}
-use Rattle.fop_actions.specs.declared.SenderState.{SenderState}
-use Rattle.fop_actions.specs.Parts.{clocked}
+use Rattle.sender_values.specs.declared.SenderState.{SenderState}
+use Rattle.sender_values.specs.Parts.{clocked}
 use Rattle.fop_events.specs.Events.{expiryNumber}
 use Rattle.sender.specs.Events.{ticked, tickNumber}
 
 module _ (s : SenderState) where
   -- the state with the timer's ticks left given
   abbrev timed : ℕ → SenderState
-  timed n = record { state = s .state; settings = s .settings; variables = clocked n (s .variables .«transmission_count») (s .variables); queues = s .queues }
+  timed n = record { state = s .state; settings = s .settings; variables = clocked n (s .variables .«transmission_count») (s .variables); queues = s .queues; lengths = s .lengths }
 
   pub stopped : s .variables .timer ≡ 0 → s ≡ ticked s
   stopped p =

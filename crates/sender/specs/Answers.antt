@@ -7,17 +7,17 @@ use lib.ListN.{replicate}
 use Rattle.base.specs.Choice.{pick}
 use Rattle.base.specs.Outcome.{Outcome, Answer.done, Answer.refused, answer, after}
 use Rattle.base.specs.Outcome as outcome
-use Rattle.fop_actions.specs.declared.Alert.the-variants as alert
-use Rattle.fop_actions.specs.declared.Handed.{Handed}
-use Rattle.fop_actions.specs.declared.Handed.the-variants as handed
-use Rattle.fop_actions.specs.declared.Response.the-variants.{RejectDirective}
-use Rattle.fop_actions.specs.declared.Responses.{Responses}
-use Rattle.fop_actions.specs.declared.Run.{Run}
-use Rattle.fop_actions.specs.declared.SenderState.{SenderState}
-use Rattle.fop_actions.specs.declared.Work.{Work}
-use Rattle.fop_actions.specs.Actions.{responseNumber, responsesWith}
-use Rattle.fop_actions.specs.Limits.{largestResponses}
-use Rattle.fop_actions.specs.Start.{senderOf}
+use Rattle.fop.specs.declared.Alert.the-variants as alert
+use Rattle.sender_values.specs.declared.Handed.{Handed}
+use Rattle.sender_values.specs.declared.Handed.the-variants as handed
+use Rattle.fop.specs.declared.Response.the-variants.{RejectDirective}
+use Rattle.sender_values.specs.declared.Responses.{Responses}
+use Rattle.fop.specs.declared.Run.{Run}
+use Rattle.sender_values.specs.declared.SenderState.{SenderState}
+use Rattle.sender_values.specs.declared.Work.{Work}
+use Rattle.sender_values.specs.Actions.{responseNumber, responsesWith}
+use Rattle.sender_values.specs.Limits.{largestResponses}
+use Rattle.sender_values.specs.Start.{senderOf}
 use Rattle.sender.specs.declared.Answer.{Answer}
 use Rattle.sender.specs.declared.FrameKind.{FrameKind}
 use Rattle.sender.specs.declared.FrameKind.the-variants as kind
@@ -47,8 +47,8 @@ kindHanded handed.Unlock = kind.Unlock
 kindHanded (handed.SetVr n) = kind.SetVr
 
 -- an event that is not refused: the event's number, the count of octets handed down, and what the work tells
-unfoldable pub answered : ℕ → ℕ → Work → Answer
-answered event down w = record {
+unfoldable pub answered : ℕ → ℕ → Work → List ℕ → Answer
+answered event down w lengths = record {
   refusal = 0;
   event = event;
   state = w .state;
@@ -60,7 +60,7 @@ answered event down w = record {
   confirmed = w .told .confirmed;
   denied = w .told .denied;
   kind = kindHanded (w .told .handed);
-  next = record { fop = senderOf w };
+  next = record { fop = senderOf w lengths };
 }
 
 -- a refusal by its number: nothing changes
@@ -91,16 +91,16 @@ abbrev pub refusedStep : ℕ → SenderState → List ℕ → List ℕ → Step
 refusedStep number s store output = record { answer = refusing number s; store = store; output = output }
 
 -- the answer by what writing the frame handed down came to
-abbrev pub concluded : ℕ → SenderState → Work → outcome.Answer (Unit {0}) → Answer
-concluded event s w (done count more) = answered event count w
-concluded event s w (refused number place) = refusing number s
+abbrev pub concluded : ℕ → SenderState → Work → List ℕ → outcome.Answer (Unit {0}) → Answer
+concluded event s w lengths (done count more) = answered event count w lengths
+concluded event s w lengths (refused number place) = refusing number s
 
 -- the store by the same: changed only where the event is done
 abbrev pub stored : outcome.Answer (Unit {0}) → List ℕ → List ℕ → List ℕ
 stored (done count more) new old = new
 stored (refused number place) new old = old
 
--- an event judged, by what writing the frame handed down comes to
-abbrev pub stepBy : ℕ → SenderState → Work → Outcome (Unit {0}) → List ℕ → List ℕ → List ℕ → Step
-stepBy event s w writing new old output =
-    record { answer = concluded event s w (answer writing); store = stored (answer writing) new old; output = after writing output }
+-- an event judged, by what writing the frame handed down comes to; after it the units have these lengths
+abbrev pub stepBy : ℕ → SenderState → Work → List ℕ → Outcome (Unit {0}) → List ℕ → List ℕ → List ℕ → Step
+stepBy event s w lengths writing new old output =
+    record { answer = concluded event s w lengths (answer writing); store = stored (answer writing) new old; output = after writing output }

@@ -1,82 +1,62 @@
 -- The events of the sender: "Sender events are judged 10, 12, 7, 11, then by the table." The rows are crate fop_rows' (table 7-8), which row
--- it is crate fop_events', and the frame handed down is written by crate frame.
-use Prim.Native.Nat.{ℕ, _+_, _-_, _*_}
+-- it is crate fop_events', and the frame handed down crate sender_frames'.
+use Prim.Native.Nat.{ℕ, _-_}
 use mathlib.Core.Bool.{Bool}
-use mathlib.Core.List.{List, []}
+use mathlib.Core.List.{List}
 use lib.Dec.{leb, eqb}
-use lib.ListN.{length}
+use lib.ListN.{length, set}
 use Rattle.base.specs.Choice.{pick, must, both}
-use Rattle.base.specs.Limits.{largestUnit}
-use Rattle.base.specs.Outcome.{Outcome, Outcome.done}
-use Rattle.memory.specs.Placed.{placed}
-use Rattle.frame.specs.Frame.{writing}
-use Rattle.frame.specs.declared.Kind.the-variants as kind
+use Rattle.store.specs.Places.{unitPut, without}
+use Rattle.store.specs.Slid.{slid}
 use Rattle.clcw.specs.Answers.{readingOf}
 use Rattle.clcw.specs.declared.WordReading.{WordReading}
 use Rattle.clcw.specs.declared.WordReading.the-variants as reading
-use Rattle.fop_actions.specs.declared.Settings.{Settings}
-use Rattle.fop_actions.specs.declared.Handed.{Handed}
-use Rattle.fop_actions.specs.declared.Handed.the-variants as handed
-use Rattle.fop_actions.specs.declared.SenderState.{SenderState}
-use Rattle.fop_actions.specs.declared.Work.{Work}
-use Rattle.fop_actions.specs.Parts.{clocked}
-use Rattle.fop_actions.specs.Start.{begun}
-use Rattle.fop_actions.specs.View.{unitAt, without}
-use Rattle.fop_rows.specs.Rows.{rowNumbered, inMain}
-use Rattle.fop_events.specs.declared.Lower.{Lower}
+use Rattle.sender_values.specs.declared.SenderState.{SenderState}
+use Rattle.sender_values.specs.declared.Work.{Work}
+use Rattle.sender_values.specs.Parts.{clocked}
+use Rattle.sender_values.specs.Actions.{unitsHeld}
+use Rattle.sender_values.specs.Start.{begun}
+use Rattle.sender_table.specs.Rows.{rowNumbered, inMain}
+use Rattle.fop.specs.declared.Lower.{Lower}
 use Rattle.fop_events.specs.Events.{wordNumber, directiveNumber, expiryNumber, adNumber, bdNumber, lowerNumber}
-use Rattle.sender.specs.Limits.{smallestStore}
+use Rattle.sender_frames.specs.Limits.{smallestStore}
+use Rattle.sender_frames.specs.Frames.{handedWriting, unitBefore, unitOffered, mustBeUnit}
+use Rattle.sender.specs.declared.Event.{Event}
+use Rattle.sender.specs.declared.Event.the-variants as event
 use Rattle.sender.specs.Answers.{Step, refusedStep, stepBy}
 
--- the frame handed down, with the unit u of an AD or BD frame, into output of the length lent
-unfoldable pub handedWriting : Settings → Handed → List ℕ → ℕ → Outcome (Unit {0})
-handedWriting g handed.None u lent = done [] tt
-handedWriting g (handed.Ad n i) u lent = writing (g .spacecraft) (g .channel) (kind.Ad n) u lent
-handedWriting g handed.Bd u lent = writing (g .spacecraft) (g .channel) kind.Bd u lent
-handedWriting g handed.Unlock u lent = writing (g .spacecraft) (g .channel) kind.Unlock [] lent
-handedWriting g (handed.SetVr n) u lent = writing (g .spacecraft) (g .channel) (kind.SetVr n) [] lent
+-- the store without the units that the event confirms; the others that were held stay
+abbrev pub storeServed : SenderState → Work → List ℕ → List ℕ
+storeServed s w store =
+    without (s .lengths) (w .told .confirmed .count) (unitsHeld (s .queues .sent) (s .queues .waiting) - w .told .confirmed .count) store
 
--- the place of the unit that is handed down, after the event
-abbrev pub placeHanded : Handed → ℕ
-placeHanded handed.None = 0
-placeHanded (handed.Ad n i) = i
-placeHanded handed.Bd = 0
-placeHanded handed.Unlock = 0
-placeHanded (handed.SetVr n) = 0
-
--- the unit that is handed down stood, before the event, behind the units that the event confirms
-abbrev pub unitBefore : SenderState → Work → List ℕ → List ℕ
-unitBefore s w store = unitAt (s .queues .lengths) (placeHanded (w .told .handed) + w .told .confirmed .count) store
+-- and the lengths of the units that stay
+abbrev pub lengthsServed : SenderState → Work → List ℕ
+lengthsServed s w = slid (w .told .confirmed .count) (s .lengths)
 
 -- an event that offers no unit, by its number and the work on it: the units confirmed leave the store's front
 unfoldable pub servedBy : ℕ → SenderState → Work → List ℕ → List ℕ → Step
 servedBy event s w store output =
-    stepBy event s w (handedWriting (s .settings) (w .told .handed) (unitBefore s w store) (length output)) (without (w .told .confirmed .count) store)
-    store output
+    stepBy event s w (lengthsServed s w) (handedWriting (s .settings) (w .told .handed) (unitBefore s w store) (length output)) (storeServed s w store) store output
 
 -- the same by the event's row, with the value n that it brings; 11 where the lent store is too short
 unfoldable pub served : ℕ → ℕ → SenderState → SenderState → List ℕ → List ℕ → Step
 served event n s g store output =
-    must (leb smallestStore (length store)) (refusedStep 11 s store output) (servedBy event s (rowNumbered event n 0 (begun g)) store output)
-
--- "Legal: within the limits": the length of a unit
-abbrev pub mustBeUnit : {A : Type 0} → List ℕ → A → A → A
-mustBeUnit o refusal on = must (leb 1 (length o)) refusal (must (leb (length o) largestUnit) refusal on)
+    must (leb smallestStore (length store)) (refusedStep 11 s store output) (servedBy event s (rowNumbered event n (begun g)) store output)
 
 -- the unit offered is added to the Wait_Queue: E19 in S1 to S3
 abbrev pub added : ℕ → SenderState → Bool
 added event s = both (eqb event 19) (inMain (s .state))
 
--- the unit that an AD request hands down: the one offered, which would be the last of the sent ones, or an older one that is marked
-abbrev pub unitOffered : SenderState → Work → List ℕ → List ℕ → List ℕ
-unitOffered s w o store =
-    pick (eqb (placeHanded (w .told .handed)) (s .queues .sent)) o (unitAt (s .queues .lengths) (placeHanded (w .told .handed)) store)
+-- the lengths with that of the unit offered, n, behind the sent ones, where it is added to the Wait_Queue
+abbrev pub lengthsOffered : ℕ → SenderState → ℕ → List ℕ
+lengthsOffered event s n = pick (added event s) (set (s .lengths) (s .queues .sent) n) (s .lengths)
 
 -- an AD request by its number and the work on it: the unit offered goes into the store behind the sent ones
 unfoldable pub offeredBy : ℕ → SenderState → Work → List ℕ → List ℕ → List ℕ → Step
 offeredBy event s w o store output =
-    stepBy event s w (handedWriting (s .settings) (w .told .handed) (unitOffered s w o store) (length output))
-    (pick (added event s) (placed store (largestUnit * s .queues .sent) o) store)
+    stepBy event s w (lengthsOffered event s (length o)) (handedWriting (s .settings) (w .told .handed) (unitOffered s w o store) (length output))
+    (pick (added event s) (unitPut (s .queues .sent) o store) store)
     store output
 
 -- Request to transfer an AD unit
@@ -84,18 +64,18 @@ unfoldable pub requestAdOf : SenderState → List ℕ → List ℕ → List ℕ 
 requestAdOf s o store output =
     mustBeUnit o (refusedStep 10 s store output)
     (must (leb smallestStore (length store)) (refusedStep 11 s store output)
-    (offeredBy (adNumber s) s (rowNumbered (adNumber s) 0 (length o) (begun s)) o store output))
+    (offeredBy (adNumber s) s (rowNumbered (adNumber s) 0 (begun s)) o store output))
 
 -- a BD request by its number and the work on it
 unfoldable pub bypassedBy : ℕ → SenderState → Work → List ℕ → List ℕ → List ℕ → Step
-bypassedBy event s w o store output = stepBy event s w (handedWriting (s .settings) (w .told .handed) o (length output)) store store output
+bypassedBy event s w o store output = stepBy event s w (s .lengths) (handedWriting (s .settings) (w .told .handed) o (length output)) store store output
 
 -- Request to transfer a BD unit
 unfoldable pub requestBdOf : SenderState → List ℕ → List ℕ → List ℕ → Step
 requestBdOf s o store output =
     mustBeUnit o (refusedStep 10 s store output)
     (must (leb smallestStore (length store)) (refusedStep 11 s store output)
-    (bypassedBy (bdNumber s) s (rowNumbered (bdNumber s) 0 0 (begun s)) o store output))
+    (bypassedBy (bdNumber s) s (rowNumbered (bdNumber s) 0 (begun s)) o store output))
 
 -- a directive by its number d and value v: 12 for the invalid directive, E40
 unfoldable pub directiveOf : ℕ → ℕ → SenderState → List ℕ → List ℕ → Step
@@ -109,6 +89,7 @@ ticked s = record {
   settings = s .settings;
   variables = clocked (s .variables .timer - 1) (s .variables .«transmission_count») (s .variables);
   queues = s .queues;
+  lengths = s .lengths;
 }
 
 -- "the tick that makes it zero is the expiry"; any other is no event of the table
@@ -133,3 +114,12 @@ wordBy reading.Length s store output = refusedStep 10 s store output
 -- a control word, any octets
 unfoldable pub controlWordOf : List ℕ → SenderState → List ℕ → List ℕ → Step
 controlWordOf octets s store output = wordBy (readingOf octets (s .settings .channel)) s store output
+
+-- any event, with the octets lent beside it: the unit of a request, or the control word; the others bring none
+unfoldable pub eventOf : Event → List ℕ → SenderState → List ℕ → List ℕ → Step
+eventOf event.RequestAd octets s store output = requestAdOf s octets store output
+eventOf event.RequestBd octets s store output = requestBdOf s octets store output
+eventOf event.Tick octets s store output = tickOf s store output
+eventOf (event.LowerLayer l) octets s store output = lowerLayerOf l s store output
+eventOf (event.Directive d v) octets s store output = directiveOf d v s store output
+eventOf event.ControlWord octets s store output = controlWordOf octets s store output

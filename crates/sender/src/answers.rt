@@ -2,14 +2,15 @@
 use crate::Answer;
 use crate::FrameKind;
 use crate::Sender;
-use fop_actions::Alert;
-use fop_actions::Handed;
-use fop_actions::LARGEST_RESPONSES;
-use fop_actions::Responses;
-use fop_actions::Run;
-use fop_actions::Work;
-use fop_actions::start::sender_of;
-use frame::writer::FrameWritten;
+use fop::Alert;
+use fop::Run;
+use frame::FrameWritten;
+use sender_values::Handed;
+use sender_values::LARGEST_RESPONSES;
+use sender_values::Responses;
+use sender_values::Work;
+use sender_values::start::sender_of;
+use store::PLACES;
 ghost use mathlib.Core.Path.{_≡_};
 ghost use Rattle.frame.specs.Answers.{writtenAnswer};
 ghost use Rattle.sender.specs.Answers.{kindHanded, answered, refusing, concluded, refusedResponses, refusedEvent};
@@ -30,12 +31,12 @@ fn kind_handed(handed: Handed) -> FrameKind
     }
 }
 
-// An event that is not refused.
-fn answered(event: u8, down: usize, work: Work) -> Answer
-    ensures { λ r. ⌜ r ≡ answered event down work ⌝ }
+// An event that is not refused, with the lengths of the units after it.
+fn answered(event: u8, down: usize, work: Work, lengths: [u16; PLACES]) -> Answer
+    ensures { λ r. ⌜ r ≡ answered event down work lengths ⌝ }
 {
     let next = Sender {
-        fop: sender_of(work),
+        fop: sender_of(work, lengths),
     };
     let state = work.state;
     let told = work.told;
@@ -90,7 +91,7 @@ fn refused_event(number: u8) -> u8
 }
 
 // A refusal: nothing changes.
-pub fn refused(sender: fop_actions::SenderState, number: u8) -> Answer
+pub fn refused(sender: sender_values::SenderState, number: u8) -> Answer
     ensures { λ r. ⌜ r ≡ refusing number sender ⌝ }
 {
     let state = sender.state;
@@ -118,15 +119,16 @@ pub fn refused(sender: fop_actions::SenderState, number: u8) -> Answer
 
 // The answer by what writing the frame handed down came to.
 pub fn conclude(
-    sender: fop_actions::SenderState,
+    sender: sender_values::SenderState,
     event: u8,
     work: Work,
+    lengths: [u16; PLACES],
     written: FrameWritten,
 ) -> Answer
-    ensures { λ r. ⌜ r ≡ concluded event sender work (writtenAnswer written) ⌝ }
+    ensures { λ r. ⌜ r ≡ concluded event sender work lengths (writtenAnswer written) ⌝ }
 {
     match written {
-        FrameWritten::Done(count) => answered(event, count, work),
+        FrameWritten::Done(count) => answered(event, count, work, lengths),
         FrameWritten::Length => refused(sender, 10),
         FrameWritten::Setting => refused(sender, 12),
         FrameWritten::Room => refused(sender, 11),

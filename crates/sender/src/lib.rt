@@ -4,32 +4,15 @@
 // same one each time and written by nobody else: one in each place of LARGEST_UNIT octets from offset 0 on, the oldest first, the unit
 // waiting behind the sent ones. The frame handed down to the lower layer is written at the front of the lent output. A refusal changes nothing.
 mod answers;
-mod frames;
-mod state;
 
 use crate::answers::conclude;
 use crate::answers::refused;
-use crate::frames::place_before;
-use crate::frames::place_handed;
-use crate::frames::remove;
-use crate::frames::unit_at;
-use crate::frames::write_handed;
-use crate::state::settings_hold;
-use crate::state::well_formed;
-use base::LARGEST_UNIT;
 use clcw::Clcw;
 use clcw::WordReading;
-use fop_actions::Alert;
-use fop_actions::PLACES;
-use fop_actions::Responses;
-use fop_actions::Run;
-use fop_actions::Settings;
-use fop_actions::State;
-use fop_actions::Work;
-use fop_actions::start::begin;
-use fop_actions::start::start;
-use fop_actions::units::put_unit;
-use fop_events::Lower;
+use fop::Alert;
+use fop::Lower;
+use fop::Run;
+use fop::State;
 use fop_events::ad_event;
 use fop_events::bd_event;
 use fop_events::directives::directive_event;
@@ -37,27 +20,36 @@ use fop_events::expiry_event;
 use fop_events::lower_event;
 use fop_events::words::word_event;
 use fop_rows::row;
-use frame::writer::FrameWritten;
+use sender_frames::SMALLEST_STORE;
+use sender_frames::request_refusal;
+use sender_frames::units::lengths_left;
+use sender_frames::units::remove_confirmed;
+use sender_frames::write_handed;
+use sender_frames::write_offered;
+use sender_frames::write_served;
+use sender_state::settings_hold;
+use sender_state::well_formed;
+use sender_values::Responses;
+use sender_values::Settings;
+use sender_values::Work;
+use sender_values::start::begin;
+use sender_values::start::start;
+use store::PLACES;
+use store::lengths::set_length;
+use store::units::put_unit;
 ghost use mathlib.Core.Path.{_≡_};
 ghost use Prim.Native.Nat.{_≤_};
-ghost use lib.Dec.{leb};
 ghost use lib.ListN.{length};
-ghost use Rattle.base.specs.Choice.{must};
 ghost use Rattle.base.specs.Limits.{largestUnit};
 ghost use Rattle.base.specs.Outcome.{answer, after};
-ghost use Rattle.frame.specs.Answers.{writtenAnswer};
+ghost use Rattle.sender_frames.specs.Frames.{handedWriting};
 ghost use Rattle.sender.specs.Answers.{concluded};
-ghost use Rattle.sender.specs.Limits.{smallestStore};
-ghost use Rattle.sender.specs.Start.{refusedStart, startingOf};
-ghost use Rattle.sender.specs.State.{restoredOf};
-ghost use Rattle.sender.specs.Events.{handedWriting, unitOffered, servedBy, served, mustBeUnit, offeredBy, added, ticked, tickNumber, requestAdOf, requestBdOf, directiveOf, tickOf, lowerLayerOf, controlWordOf};
-
-// Document 01: a place for each sent unit of the largest K, and one for the unit waiting.
-pub const SMALLEST_STORE: usize = LARGEST_UNIT * PLACES;
+ghost use Rattle.sender.specs.Start.{refusedStart, startingOf, restoredOf};
+ghost use Rattle.sender.specs.Events.{servedBy, served, added, lengthsOffered, offeredBy, ticked, tickNumber, requestAdOf, requestBdOf, directiveOf, tickOf, lowerLayerOf, controlWordOf, eventOf};
 
 // The sender's state. No other crate can write one: a start gives one, and each answer the next.
 pub struct Sender {
-    fop: fop_actions::SenderState,
+    fop: sender_values::SenderState,
 }
 
 // A start: document 01's refusal (0 for done, 12 for a setting, 11 for the lent store), and the sender; after a refusal that of the least
@@ -74,6 +66,16 @@ pub enum FrameKind {
     Bd,
     Unlock,
     SetVr,
+}
+
+// An event of the sender (crate fop, specs/Events, `SenderEvent`). The unit of a request and a control word are octets, lent beside it.
+pub enum Event {
+    RequestAd,
+    RequestBd,
+    Tick,
+    LowerLayer(Lower),
+    Directive { number: u8, value: u16 },
+    ControlWord,
 }
 
 // The answer to an event: document 01's refusal (0 for done); the event's number in table 7-8 (0 where it is none); the next state; the count
@@ -97,7 +99,7 @@ pub struct Answer {
 
 // An event that offers no unit, judged: the frame is written, then the units confirmed leave the store.
 fn serve_work(
-    sender: fop_actions::SenderState,
+    sender: sender_values::SenderState,
     event: u8,
     work: Work,
     store: &mut [u8],
@@ -108,24 +110,21 @@ fn serve_work(
     ensures output { λ r. ⌜ now (output .exit) ≡ servedBy event sender work (now (store .entry)) (now (output .entry)) .output ⌝ }
 {
     let told = work.told;
-    let handed = told.handed;
     let count = told.confirmed.count;
-    let place = place_before(handed, count);
-    let lengths = sender.queues.lengths;
-    let settings = sender.settings;
-    let unit = unit_at(store, lengths, place);
-    let written = write_handed(settings, handed, unit, output);
-    let answer = conclude(sender, event, work, written);
+    let lengths = sender.lengths;
+    let written = write_served(sender, work, store, output);
+    let answer = conclude(sender, event, work, lengths_left(lengths, count), written);
     if answer.refusal == 0 {
-        remove(store, count);
+        let queues = sender.queues;
+        remove_confirmed(store, lengths, queues, count);
     }
     answer
 }
 
 // The same by the event's row, of the state `by`, with the value that the event brings.
 fn serve(
-    sender: fop_actions::SenderState,
-    by: fop_actions::SenderState,
+    sender: sender_values::SenderState,
+    by: sender_values::SenderState,
     event: u8,
     value: u16,
     store: &mut [u8],
@@ -138,12 +137,12 @@ fn serve(
     if store.len() < SMALLEST_STORE {
         return refused(sender, 11);
     }
-    let work = row(begin(by), event, value, 0);
+    let work = row(begin(by), event, value);
     serve_work(sender, event, work, store, output)
 }
 
 // Whether the unit offered is added to the wait queue: E19 in S1 to S3.
-fn adds(event: u8, sender: fop_actions::SenderState) -> bool
+fn adds(event: u8, sender: sender_values::SenderState) -> bool
     ensures { λ r. ⌜ r ≡ added event sender ⌝ }
 {
     if event != 19 {
@@ -160,90 +159,63 @@ fn adds(event: u8, sender: fop_actions::SenderState) -> bool
     }
 }
 
+// The lengths after an AD request: that of the unit offered behind the sent ones, where it is added to the wait queue.
+fn lengths_offered(event: u8, sender: sender_values::SenderState, length: u16) -> [u16; PLACES]
+    ensures { λ r. ⌜ r ≡ lengthsOffered event sender length ⌝ }
+{
+    let mut next = sender.lengths;
+    if adds(event, sender) {
+        set_length(&mut next, sender.queues.sent as usize, length);
+    }
+    next
+}
+
 // An AD request, judged: the frame is written, then the unit offered goes into the store.
 fn offer_work(
-    sender: fop_actions::SenderState,
+    sender: sender_values::SenderState,
     event: u8,
     work: Work,
     unit: &[u8],
     store: &mut [u8],
     output: &mut [u8],
 ) -> Answer
+    requires { ⌜ length (now unit) ≤ largestUnit ⌝ }
     ensures answer { λ r. ⌜ r ≡ offeredBy event sender work (now (unit .entry)) (now (store .entry)) (now (output .entry)) .answer ⌝ }
     ensures store { λ r. ⌜ now (store .exit) ≡ offeredBy event sender work (now (unit .entry)) (now (store .entry)) (now (output .entry)) .store ⌝ }
     ensures output { λ r. ⌜ now (output .exit) ≡ offeredBy event sender work (now (unit .entry)) (now (store .entry)) (now (output .entry)) .output ⌝ }
 {
     let written = write_offered(sender, work, unit, store, output);
-    let answer = conclude(sender, event, work, written);
+    let lengths = lengths_offered(event, sender, unit.len() as u16);
+    let answer = conclude(sender, event, work, lengths, written);
     if answer.refusal == 0 {
         if adds(event, sender) {
-            put_unit(store, begin(sender), unit);
+            put_unit(store, sender.queues.sent, unit);
         }
     }
     answer
 }
 
-// Writes the frame that an AD request hands down: of the unit offered, or of an older unit that is marked.
-fn write_offered(
-    sender: fop_actions::SenderState,
-    work: Work,
-    unit: &[u8],
-    store: &[u8],
-    output: &mut [u8],
-) -> FrameWritten
-    ensures answer { λ r. ⌜ writtenAnswer r ≡ answer (handedWriting (sender .settings) (work .told .handed) (unitOffered sender work (now (unit .entry)) (now (store .entry))) (length (now (output .entry)))) ⌝ }
-    ensures memory { λ r. ⌜ now (output .exit) ≡ after (handedWriting (sender .settings) (work .told .handed) (unitOffered sender work (now (unit .entry)) (now (store .entry))) (length (now (output .entry)))) (now (output .entry)) ⌝ }
-{
-    let told = work.told;
-    let handed = told.handed;
-    let settings = sender.settings;
-    let place = place_handed(handed);
-    if place == sender.queues.sent {
-        return write_handed(settings, handed, unit, output);
-    }
-    let lengths = sender.queues.lengths;
-    let older = unit_at(store, lengths, place as usize);
-    write_handed(settings, handed, older, output)
-}
-
 // A BD request, judged: the frame is written.
 fn bypass_work(
-    sender: fop_actions::SenderState,
+    sender: sender_values::SenderState,
     event: u8,
     work: Work,
     unit: &[u8],
     output: &mut [u8],
 ) -> Answer
-    ensures answer { λ r. ⌜ r ≡ concluded event sender work (answer (handedWriting (sender .settings) (work .told .handed) (now (unit .entry)) (length (now (output .entry))))) ⌝ }
+    ensures answer { λ r. ⌜ r ≡ concluded event sender work (sender .lengths) (answer (handedWriting (sender .settings) (work .told .handed) (now (unit .entry)) (length (now (output .entry))))) ⌝ }
     ensures output { λ r. ⌜ now (output .exit) ≡ after (handedWriting (sender .settings) (work .told .handed) (now (unit .entry)) (length (now (output .entry)))) (now (output .entry)) ⌝ }
 {
     let told = work.told;
     let handed = told.handed;
     let settings = sender.settings;
     let written = write_handed(settings, handed, unit, output);
-    conclude(sender, event, work, written)
-}
-
-// The refusal of a request, 0 where there is none: 10 for the length of its unit, then 11 for the lent store.
-fn request_refusal(unit: &[u8], store: &[u8]) -> u8
-    ensures number { λ r. ⌜ r ≡ mustBeUnit (now (unit .entry)) 10 (must (leb smallestStore (length (now (store .entry)))) 11 0) ⌝ }
-    ensures fits { λ r. ⌜ (r ≡ 0 → length (now (unit .entry)) ≤ largestUnit) ⌝ }
-{
-    let n = unit.len();
-    if n < 1 {
-        return 10;
-    }
-    if LARGEST_UNIT < n {
-        return 10;
-    }
-    if store.len() < SMALLEST_STORE {
-        return 11;
-    }
-    0
+    let lengths = sender.lengths;
+    conclude(sender, event, work, lengths, written)
 }
 
 // The state after a tick lowered a running timer by one.
-fn lower_timer(sender: fop_actions::SenderState) -> fop_actions::SenderState
+fn lower_timer(sender: sender_values::SenderState) -> sender_values::SenderState
     ensures { λ r. ⌜ r ≡ ticked sender ⌝ }
 {
     let ticks = sender.variables.timer;
@@ -257,7 +229,7 @@ fn lower_timer(sender: fop_actions::SenderState) -> fop_actions::SenderState
 }
 
 // The event of a tick: the expiry where it makes the timer zero.
-fn tick_event(sender: fop_actions::SenderState) -> u8
+fn tick_event(sender: sender_values::SenderState) -> u8
     ensures { λ r. ⌜ r ≡ tickNumber sender ⌝ }
 {
     if sender.variables.timer == 1 {
@@ -296,14 +268,14 @@ pub fn refused_state() -> Start
 
 impl Sender {
     // The state, to be kept.
-    pub fn state(self) -> fop_actions::SenderState
+    pub fn state(self) -> sender_values::SenderState
         ensures { λ r. ⌜ r ≡ self .fop ⌝ }
     {
         self.fop
     }
 
     // A sender from a state that was kept; 12 where no sender has it.
-    pub fn restore(state: fop_actions::SenderState) -> Start
+    pub fn restore(state: sender_values::SenderState) -> Start
         ensures { λ r. ⌜ r ≡ restoredOf state ⌝ }
     {
         if !well_formed(state) {
@@ -347,7 +319,7 @@ impl Sender {
             return refused(sender, number);
         }
         let event = ad_event(sender);
-        let work = row(begin(sender), event, 0, unit.len() as u16);
+        let work = row(begin(sender), event, 0);
         offer_work(sender, event, work, unit, store, output)
     }
 
@@ -363,7 +335,7 @@ impl Sender {
             return refused(sender, number);
         }
         let event = bd_event(sender);
-        let work = row(begin(sender), event, 0, 0);
+        let work = row(begin(sender), event, 0);
         bypass_work(sender, event, work, unit, output)
     }
 
@@ -421,6 +393,22 @@ impl Sender {
             WordReading::Invalid => serve(sender, sender, 15, 0, store, output),
             WordReading::Address => refused(sender, 7),
             WordReading::Length => refused(sender, 10),
+        }
+    }
+
+    // Any event; `octets` is the unit or the control word that it brings.
+    pub fn event(self, event: Event, octets: &[u8], store: &mut [u8], output: &mut [u8]) -> Answer
+        ensures answer { λ r. ⌜ r ≡ eventOf event (now (octets .entry)) (self .fop) (now (store .entry)) (now (output .entry)) .answer ⌝ }
+        ensures store { λ r. ⌜ now (store .exit) ≡ eventOf event (now (octets .entry)) (self .fop) (now (store .entry)) (now (output .entry)) .store ⌝ }
+        ensures output { λ r. ⌜ now (output .exit) ≡ eventOf event (now (octets .entry)) (self .fop) (now (store .entry)) (now (output .entry)) .output ⌝ }
+    {
+        match event {
+            Event::RequestAd => self.request_ad(octets, store, output),
+            Event::RequestBd => self.request_bd(octets, store, output),
+            Event::Tick => self.tick(store, output),
+            Event::LowerLayer(answer) => self.lower_layer(answer, store, output),
+            Event::Directive { number, value } => self.directive(number, value, store, output),
+            Event::ControlWord => self.control_word(octets, store, output),
         }
     }
 }

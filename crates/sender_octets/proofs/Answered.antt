@@ -14,17 +14,17 @@ use Rattle.base.specs.Limits.{largestFrame, largestUnit, largestSpacecraft, lar
 use Rattle.base.specs.Outcome.{Outcome, Outcome.done, Outcome.refused, answer, countOf}
 use Rattle.base.specs.Outcome as outcome
 use Rattle.frame.specs.Frame.{rawFrame, rawWriting, unlockCommand, setVrCommand}
-use Rattle.frame.proofs.Emitted.{length-frame}
-use Rattle.fop_actions.specs.Limits.{largestResponses}
-use Rattle.fop_actions.specs.declared.Alert.{Alert}
-use Rattle.fop_actions.specs.declared.Alert.the-variants as alert
-use Rattle.fop_actions.specs.declared.Handed.{Handed}
-use Rattle.fop_actions.specs.declared.Handed.the-variants as handed
-use Rattle.fop_actions.specs.declared.SenderState.{SenderState}
-use Rattle.fop_actions.specs.declared.Settings.{Settings}
-use Rattle.fop_actions.specs.declared.Work.{Work}
+use Rattle.frame.proofs.Lengths.{length-frame}
+use Rattle.sender_values.specs.Limits.{largestResponses}
+use Rattle.fop.specs.declared.Alert.{Alert}
+use Rattle.fop.specs.declared.Alert.the-variants as alert
+use Rattle.sender_values.specs.declared.Handed.{Handed}
+use Rattle.sender_values.specs.declared.Handed.the-variants as handed
+use Rattle.sender_values.specs.declared.SenderState.{SenderState}
+use Rattle.sender_values.specs.declared.Settings.{Settings}
+use Rattle.sender_values.specs.declared.Work.{Work}
 use Rattle.sender.specs.Answers.{answered, refusing, concluded}
-use Rattle.sender.specs.Events.{handedWriting}
+use Rattle.sender_frames.specs.Frames.{handedWriting}
 use Rattle.sender.specs.declared.Answer.{Answer}
 use Rattle.sender.specs.declared.FrameKind.{FrameKind}
 use Rattle.sender.specs.declared.FrameKind.the-variants as kind
@@ -110,11 +110,11 @@ handed-fits g handed.Unlock u lent = written-fits 1 1 0 (g .spacecraft) (g .chan
 handed-fits g (handed.SetVr n) u lent = written-fits 1 1 0 (g .spacecraft) (g .channel) (setVrCommand n) lent
 
 -- an answer tells the count of octets written, none where it refuses
-module _ (event : ℕ) (s : SenderState) (w : Work) where
-  down-written : (x : outcome.Answer (Unit {0})) → concluded event s w x .down ≡ countOf x
+module _ (event : ℕ) (s : SenderState) (w : Work) (lengths : List ℕ) where
+  down-written : (x : outcome.Answer (Unit {0})) → concluded event s w lengths x .down ≡ countOf x
   unfolding answered refusing
   down-written (outcome.Answer.done count more) = refl
   down-written (outcome.Answer.refused number place) = refl
 
-  pub down-fits : (g : Settings) (h : Handed) (u : List ℕ) (lent : ℕ) → concluded event s w (answer (handedWriting g h u lent)) .down ≤ largestFrame
+  pub down-fits : (g : Settings) (h : Handed) (u : List ℕ) (lent : ℕ) → concluded event s w lengths (answer (handedWriting g h u lent)) .down ≤ largestFrame
   down-fits g h u lent = omega (arith, down-written (answer (handedWriting g h u lent)), handed-fits g h u lent)

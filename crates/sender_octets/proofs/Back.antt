@@ -11,13 +11,13 @@ use Rattle.base.specs.Octets.{same}
 use Rattle.base.proofs.Tests.{both-left, no, bit-le}
 use Rattle.base.proofs.Lists.{same-equal, same-self}
 use Rattle.base.specs.Flags.{bitOf, isSet}
-use Rattle.fop_actions.specs.Limits.{places}
-use Rattle.fop_actions.specs.declared.State.{State}
-use Rattle.fop_actions.specs.declared.State.the-variants as state
-use Rattle.fop_actions.specs.declared.Control.{Control}
-use Rattle.fop_actions.specs.declared.Control.the-variants as control
-use Rattle.fop_actions.specs.declared.SenderState.{SenderState}
-use Rattle.sender.specs.State.{wellFormed}
+use Rattle.store.specs.Places.{places}
+use Rattle.fop.specs.declared.State.{State}
+use Rattle.fop.specs.declared.State.the-variants as state
+use Rattle.sender_values.specs.declared.Control.{Control}
+use Rattle.sender_values.specs.declared.Control.the-variants as control
+use Rattle.sender_values.specs.declared.SenderState.{SenderState}
+use Rattle.sender_state.specs.State.{wellFormed}
 use Rattle.sender.specs.Start.{refusedStart}
 use Rattle.sender_octets.specs.Kept.{numberOctets, octetsOf, stateIn, isState, senderIn, stateNumber, stateNumbered, controlNumber, controlValue, controlNumbered, pairsFrom}
 use Rattle.sender_octets.proofs.Pairs.{pair-back, pairs-back}
@@ -26,7 +26,7 @@ use Rattle.sender_octets.proofs.Parts.{settings-by, variables-by, queue
 -- what the struct's type sees to: it has a length for each place. That its other numbers fit their types is not needed: none is cut on
 -- the way to octets, which the contract of `octets_of` says
 pub record Sized (s : SenderState) : Type 0 where
-  pub lengths : length (s .queues .lengths) ≡ places
+  pub lengths : length (s .lengths) ≡ places
 
 pub state-back : (x : State) → stateNumbered (stateNumber x) ≡ x
 state-back state.S1 = refl
@@ -81,9 +81,9 @@ module _ (s : SenderState) where
       variables-by (octetsOf s) (sym (pair-back (v .timer))) (f .0) (f .1) (f .2)
 
   module _ (h : Sized s) where
-    lengths-back : s .queues .lengths ≡ pairsFrom (octetsOf s) numberOctets places
+    lengths-back : s .lengths ≡ pairsFrom (octetsOf s) numberOctets places
     unfolding octetsOf
-    lengths-back = sym (pairs-back (octetsOf s) numberOctets (s .queues .lengths) refl) ∙ ap (pairsFrom (octetsOf s) numberOctets) (h .lengths)
+    lengths-back = sym (pairs-back (octetsOf s) numberOctets (s .lengths) refl) ∙ ap (pairsFrom (octetsOf s) numberOctets) (h .lengths)
 
     queues-back : s .queues ≡ stateIn (octetsOf s) .queues
     unfolding octetsOf
@@ -91,13 +91,13 @@ module _ (s : SenderState) where
         let v = s .variables in
         let q = s .queues in
         let f = flags-back (v .«ad_out») (v .«bc_out») (v .«bd_out») (q .waiting) (q .«control_marked») in
-        queues-by (octetsOf s) (f .3) (sym (control-back (q .control))) (f .4) lengths-back
+        queues-by (octetsOf s) (f .3) (sym (control-back (q .control))) (f .4)
 
     -- the state in the octets of a state is that state
     pub read-back : stateIn (octetsOf s) ≡ s
     unfolding octetsOf
     read-back =
-        sym (state-by (octetsOf s) (sym (state-back (s .state))) settings-back variables-back queues-back)
+        sym (state-by (octetsOf s) (sym (state-back (s .state))) settings-back variables-back queues-back lengths-back)
 
     -- and where the state is well-formed, its octets are a state
     pub octets-back : wellFormed s ≡ true → isState (octetsOf s) ≡ true

@@ -9,17 +9,17 @@ use Rattle.base.specs.Choice.{pick, both}
 use Rattle.base.specs.Octets.{same}
 use Rattle.base.proofs.Lists.{same-length-not}
 use Rattle.base.proofs.Tests.{no}
-use Rattle.fop_actions.specs.Limits.{places}
-use Rattle.fop_actions.specs.declared.SenderState.{SenderState}
-use Rattle.sender.specs.State.{wellFormed, restoredOf}
-use Rattle.sender.specs.Start.{refusedStart}
+use Rattle.store.specs.Places.{places}
+use Rattle.sender_values.specs.declared.SenderState.{SenderState}
+use Rattle.sender_state.specs.State.{wellFormed}
+use Rattle.sender.specs.Start.{restoredOf, refusedStart}
 use Rattle.sender.specs.declared.Start.{Start}
 use Rattle.sender_octets.specs.Kept.{numberOctets, stateOctets, octetsOf, stateIn, isState, senderIn}
 use Rattle.sender_octets.proofs.Pairs.{length-pairs, length-from}
 
-pub length-octets : (s : SenderState) → length (s .queues .lengths) ≡ places → length (octetsOf s) ≡ stateOctets
+pub length-octets : (s : SenderState) → length (s .lengths) ≡ places → length (octetsOf s) ≡ stateOctets
 unfolding octetsOf
-length-octets s h = omega (arith, length-pairs (s .queues .lengths))
+length-octets s h = omega (arith, length-pairs (s .lengths))
 
 -- a state that is not well-formed is refused where it is restored
 twice : {A : Type 0} (b : Bool) (x y : A) → pick b x y ≡ pick b (pick b x y) y

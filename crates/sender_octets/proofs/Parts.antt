@@ -5,13 +5,13 @@ use mathlib.Core.List.{List, [], _∷_, _++_}
 use Prim.Native.Nat.{ℕ, _/_, _%_}
 use lib.ListN.{getD}
 use Rattle.base.specs.Flags.{bitOf, isSet}
-use Rattle.fop_actions.specs.Limits.{places}
-use Rattle.fop_actions.specs.declared.State.{State}
-use Rattle.fop_actions.specs.declared.Settings.{Settings}
-use Rattle.fop_actions.specs.declared.Variables.{Variables}
-use Rattle.fop_actions.specs.declared.Queues.{Queues}
-use Rattle.fop_actions.specs.declared.Control.{Control}
-use Rattle.fop_actions.specs.declared.SenderState.{SenderState}
+use Rattle.store.specs.Places.{places}
+use Rattle.fop.specs.declared.State.{State}
+use Rattle.sender_values.specs.declared.Settings.{Settings}
+use Rattle.sender_values.specs.declared.Variables.{Variables}
+use Rattle.sender_values.specs.declared.Queues.{Queues}
+use Rattle.sender_values.specs.declared.Control.{Control}
+use Rattle.sender_values.specs.declared.SenderState.{SenderState}
 use Rattle.sender.specs.declared.Answer.{Answer}
 use Rattle.sender_octets.specs.Kept.{numberOctets, octetsOf, stateIn, stateNumber, stateNumbered, controlNumber, controlValue, controlNumbered, flagsOf, pairs, pairAt, pairsFrom}
 use Rattle.sender_octets.specs.Answer.{octetsOfAnswer, alertNumber, kindNumber}
@@ -26,12 +26,12 @@ numbersWith s number flags control value =
     ∷ flags ∷ s .variables .«suspend_state» ∷ s .queues .sent ∷ s .queues .marked ∷ control ∷ value ∷ []
 
 pub numbers-by : (s : SenderState) {number flags control value : ℕ} → number ≡ stateNumber (s .state) → flags ≡ flagsOf s
-    → control ≡ controlNumber (s .queues .control) → value ≡ controlValue (s .queues .control) → numbersWith s number flags control value ++ pairs (s .queues .lengths) ≡ octetsOf s
+    → control ≡ controlNumber (s .queues .control) → value ≡ controlValue (s .queues .control) → numbersWith s number flags control value ++ pairs (s .lengths) ≡ octetsOf s
 unfolding octetsOf
 numbers-by s {number} {flags} {control} {value} en ef ec ev =
-    ap (λ (n : ℕ). numbersWith s n flags control value ++ pairs (s .queues .lengths)) en
-    ∙ ap (λ (n : ℕ). numbersWith s (stateNumber (s .state)) n control value ++ pairs (s .queues .lengths)) ef
-    ∙ ap₂ (λ (n m : ℕ). numbersWith s (stateNumber (s .state)) (flagsOf s) n m ++ pairs (s .queues .lengths)) ec ev
+    ap (λ (n : ℕ). numbersWith s n flags control value ++ pairs (s .lengths)) en
+    ∙ ap (λ (n : ℕ). numbersWith s (stateNumber (s .state)) n control value ++ pairs (s .lengths)) ef
+    ∙ ap₂ (λ (n m : ℕ). numbersWith s (stateNumber (s .state)) (flagsOf s) n m ++ pairs (s .lengths)) ec ev
 
 -- the octets of an answer, with the state's number, the alert's, the kind's and the bits given
 abbrev pub answerWith : Answer → ℕ → ℕ → ℕ → ℕ → ℕ → List ℕ
@@ -82,28 +82,31 @@ module _ (o : List ℕ) where
   variables-by {bc = bc} {bd = bd} et ea ec ed =
       ap₂ (λ (t : ℕ) (a : Bool). variablesWith t a bc bd) et ea ∙ ap₂ (λ (c d : Bool). variablesWith (pairAt o 13) (isSet (getD o 16 0) 1) c d) ec ed
 
-  abbrev pub queuesWith : Bool → Control → Bool → List ℕ → Queues
-  queuesWith waiting control marked lengths = record {
+  abbrev pub queuesWith : Bool → Control → Bool → Queues
+  queuesWith waiting control marked = record {
     sent = getD o 18 0;
     marked = getD o 19 0;
     waiting = waiting;
     control = control;
     «control_marked» = marked;
-    lengths = lengths;
   }
 
-  pub queues-by : {waiting : Bool} {control : Control} {marked : Bool} {lengths : List ℕ} → waiting ≡ isSet (getD o 16 0) 8
-      → control ≡ controlNumbered (getD o 20 0) (getD o 21 0) → marked ≡ isSet (getD o 16 0) 16 → lengths ≡ pairsFrom o numberOctets places
-      → queuesWith waiting control marked lengths ≡ stateIn o .queues
+  pub queues-by : {waiting : Bool} {control : Control} {marked : Bool} → waiting ≡ isSet (getD o 16 0) 8
+      → control ≡ controlNumbered (getD o 20 0) (getD o 21 0) → marked ≡ isSet (getD o 16 0) 16 → queuesWith waiting control marked ≡ stateIn o .queues
   unfolding stateIn
-  queues-by {marked = marked} {lengths = lengths} ew ec em el =
-      ap₂ (λ (w : Bool) (c : Control). queuesWith w c marked lengths) ew ec
-      ∙ ap₂ (λ (m : Bool) (l : List ℕ). queuesWith (isSet (getD o 16 0) 8) (controlNumbered (getD o 20 0) (getD o 21 0)) m l) em el
+  queues-by {marked = marked} ew ec em =
+      ap₂ (λ (w : Bool) (c : Control). queuesWith w c marked) ew ec
+      ∙ ap (queuesWith (isSet (getD o 16 0) 8) (controlNumbered (getD o 20 0) (getD o 21 0))) em
 
-  pub state-by : {state : State} {settings : Settings} {variables : Variables} {queues : Queues} → state ≡ stateNumbered (getD o 2 0)
-      → settings ≡ stateIn o .settings → variables ≡ stateIn o .variables → queues ≡ stateIn o .queues
-      → record { state = state; settings = settings; variables = variables; queues = queues } ≡ stateIn o
+  -- the state with these parts
+  abbrev stateWith : State → Settings → Variables → Queues → List ℕ → SenderState
+  stateWith s g v q ls = record { state = s; settings = g; variables = v; queues = q; lengths = ls }
+
+  pub state-by : {state : State} {settings : Settings} {variables : Variables} {queues : Queues} {lengths : List ℕ} → state ≡ stateNumbered (getD o 2 0)
+      → settings ≡ stateIn o .settings → variables ≡ stateIn o .variables → queues ≡ stateIn o .queues → lengths ≡ pairsFrom o numberOctets places
+      → stateWith state settings variables queues lengths ≡ stateIn o
   unfolding stateIn
-  state-by {variables = variables} {queues = queues} es eg ev eq =
-      ap₂ (λ (s : State) (g : Settings). record { state = s; settings = g; variables = variables; queues = queues }) es eg
-      ∙ ap₂ (λ (v : Variables) (q : Queues). record { state = stateIn o .state; settings = stateIn o .settings; variables = v; queues = q }) ev eq
+  state-by {variables = variables} {queues = queues} {lengths = lengths} es eg ev eq el =
+      ap₂ (λ (s : State) (g : Settings). stateWith s g variables queues lengths) es eg
+      ∙ ap₂ (λ (v : Variables) (q : Queues). stateWith (stateIn o .state) (stateIn o .settings) v q lengths) ev eq
+      ∙ ap (stateWith (stateIn o .state) (stateIn o .settings) (stateIn o .variables) (stateIn o .queues)) el

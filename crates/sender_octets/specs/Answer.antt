@@ -14,12 +14,12 @@ use lib.Dec.{eqb}
 use lib.ListN.{take, drop, getD}
 use Rattle.base.specs.Choice.{pick}
 use Rattle.base.specs.Flags.{bitOf, isSet}
-use Rattle.fop_actions.specs.Limits.{largestResponses}
-use Rattle.fop_actions.specs.declared.Alert.{Alert}
-use Rattle.fop_actions.specs.declared.Alert.the-variants as alert
-use Rattle.fop_actions.specs.declared.Responses.{Responses}
-use Rattle.fop_actions.specs.declared.Run.{Run}
-use Rattle.fop_actions.specs.declared.State.{State as FopState}
+use Rattle.sender_values.specs.Limits.{largestResponses}
+use Rattle.fop.specs.declared.Alert.{Alert}
+use Rattle.fop.specs.declared.Alert.the-variants as alert
+use Rattle.sender_values.specs.declared.Responses.{Responses}
+use Rattle.fop.specs.declared.Run.{Run}
+use Rattle.fop.specs.declared.State.{State as FopState}
 use Rattle.sender.specs.declared.Answer.{Answer}
 use Rattle.sender.specs.declared.FrameKind.{FrameKind}
 use Rattle.sender.specs.declared.FrameKind.the-variants as kind

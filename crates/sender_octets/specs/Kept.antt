@@ -14,14 +14,14 @@ use lib.ListN.{getD}
 use Rattle.base.specs.Choice.{pick, both}
 use Rattle.base.specs.Octets.{same}
 use Rattle.base.specs.Flags.{bitOf, isSet}
-use Rattle.fop_actions.specs.Limits.{places}
-use Rattle.fop_actions.specs.declared.State.{State}
-use Rattle.fop_actions.specs.declared.State.the-variants as state
-use Rattle.fop_actions.specs.declared.Control.{Control}
-use Rattle.fop_actions.specs.declared.Control.the-variants as control
-use Rattle.fop_actions.specs.declared.SenderState.{SenderState}
-use Rattle.sender.specs.State.{wellFormed, restoredOf}
-use Rattle.sender.specs.Start.{refusedStart}
+use Rattle.store.specs.Places.{places}
+use Rattle.fop.specs.declared.State.{State}
+use Rattle.fop.specs.declared.State.the-variants as state
+use Rattle.sender_values.specs.declared.Control.{Control}
+use Rattle.sender_values.specs.declared.Control.the-variants as control
+use Rattle.sender_values.specs.declared.SenderState.{SenderState}
+use Rattle.sender_state.specs.State.{wellFormed}
+use Rattle.sender.specs.Start.{restoredOf, refusedStart}
 use Rattle.sender.specs.declared.Start.{Start}
 
 -- the octets of a state before its lengths
@@ -91,7 +91,7 @@ octetsOf s =
     ∷ s .variables .vs ∷ s .variables .nnr ∷ s .variables .timer / 256 ∷ s .variables .timer % 256 ∷ s .variables .«transmission_count»
     ∷ flagsOf s ∷ s .variables .«suspend_state»
     ∷ s .queues .sent ∷ s .queues .marked ∷ controlNumber (s .queues .control) ∷ controlValue (s .queues .control)
-    ∷ pairs (s .queues .lengths)
+    ∷ pairs (s .lengths)
 
 -- the state that octets would hold
 unfoldable pub stateIn : List ℕ → SenderState
@@ -121,8 +121,8 @@ stateIn o = record {
     waiting = isSet (getD o 16 0) 8;
     control = controlNumbered (getD o 20 0) (getD o 21 0);
     «control_marked» = isSet (getD o 16 0) 16;
-    lengths = pairsFrom o numberOctets places;
   };
+  lengths = pairsFrom o numberOctets places;
 }
 
 -- octets are a state where they are those of the state that they would hold, and that is well-formed

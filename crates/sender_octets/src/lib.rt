@@ -7,13 +7,13 @@ use crate::writer::join;
 use crate::writer::numbers_of;
 use crate::writer::state_number;
 use crate::writer::truth;
-use fop_actions::Alert;
-use fop_actions::PLACES;
+use fop::Alert;
 use sender::Answer;
 use sender::FrameKind;
 use sender::Sender;
 use sender::Start;
 use sender::refused_state;
+use store::PLACES;
 use text::same;
 ghost use mathlib.Core.Path.{_≡_};
 ghost use Rattle.sender_octets.specs.Kept.{octetsOf, senderIn};
@@ -29,11 +29,11 @@ pub const STATE_OCTETS: usize = NUMBER_OCTETS + 2 * PLACES;
 pub const ANSWER_OCTETS: usize = 18;
 
 // A state as octets.
-pub fn octets_of(state: fop_actions::SenderState) -> [u8; STATE_OCTETS]
+pub fn octets_of(state: sender_values::SenderState) -> [u8; STATE_OCTETS]
     ensures { λ r. ⌜ r ≡ octetsOf state ⌝ }
 {
     let numbers = numbers_of(state);
-    let lengths = state.queues.lengths;
+    let lengths = state.lengths;
     join(numbers, lengths)
 }
 

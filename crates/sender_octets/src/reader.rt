@@ -1,17 +1,17 @@
 // The state that octets would hold.
 use crate::NUMBER_OCTETS;
-use fop_actions::Control;
-use fop_actions::PLACES;
-use fop_actions::Queues;
-use fop_actions::SenderState;
-use fop_actions::Settings;
-use fop_actions::State;
-use fop_actions::Variables;
+use fop::State;
+use sender_values::Control;
+use sender_values::Queues;
+use sender_values::SenderState;
+use sender_values::Settings;
+use sender_values::Variables;
+use store::PLACES;
 ghost use mathlib.Core.Path.{_≡_};
 ghost use Prim.Native.Nat.{_+_, _*_, _<_};
 ghost use lib.ListN.{length};
 ghost use Rattle.base.specs.Flags.{isSet};
-ghost use Rattle.fop_actions.specs.Limits.{places};
+ghost use Rattle.store.specs.Places.{places};
 ghost use Rattle.sender_octets.specs.Kept.{numberOctets, stateOctets, stateIn, stateNumbered, controlNumbered, pairAt, pairsFrom};
 
 // A number of two octets.
@@ -135,14 +135,12 @@ fn queues_in(octets: &[u8]) -> Queues
     let waiting = is_set(flags, 8);
     let control_marked = is_set(flags, 16);
     let control = control_numbered(octets[20], octets[21]);
-    let lengths = lengths_in(octets);
     Queues {
         sent: octets[18],
         marked: octets[19],
         waiting: waiting,
         control: control,
         control_marked: control_marked,
-        lengths: lengths,
     }
 }
 
@@ -155,10 +153,12 @@ pub(crate) fn state_in(octets: &[u8]) -> SenderState
     let settings = settings_in(octets);
     let variables = variables_in(octets);
     let queues = queues_in(octets);
+    let lengths = lengths_in(octets);
     SenderState {
         state: state,
         settings: settings,
         variables: variables,
         queues: queues,
+        lengths: lengths,
     }
 }

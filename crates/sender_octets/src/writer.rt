@@ -1,16 +1,16 @@
 // A state as octets: numbers and flags, then two for each length, the most significant first.
 use crate::NUMBER_OCTETS;
 use crate::STATE_OCTETS;
-use fop_actions::Control;
-use fop_actions::PLACES;
-use fop_actions::SenderState;
-use fop_actions::State;
+use fop::State;
+use sender_values::Control;
+use sender_values::SenderState;
+use store::PLACES;
 ghost use mathlib.Core.Path.{_≡_};
 ghost use mathlib.Core.List.{_++_};
 ghost use Prim.Native.Nat.{_*_, _<_, _≤_, _/_, _%_};
 ghost use lib.ListN.{getD};
 ghost use Rattle.base.specs.Flags.{bitOf};
-ghost use Rattle.fop_actions.specs.Limits.{places};
+ghost use Rattle.store.specs.Places.{places};
 ghost use Rattle.sender_octets.specs.Kept.{stateOctets, octetsOf, stateNumber, controlNumber, controlValue, flagsOf, pairs};
 
 // The first octet of a state, and the number of its layout.
@@ -79,7 +79,7 @@ fn flags_of(state: SenderState) -> u8
 
 // The octets of a state before its lengths.
 pub fn numbers_of(state: SenderState) -> [u8; NUMBER_OCTETS]
-    ensures { λ r. ⌜ r ++ pairs (state .queues .lengths) ≡ octetsOf state ⌝ }
+    ensures { λ r. ⌜ r ++ pairs (state .lengths) ≡ octetsOf state ⌝ }
 {
     let fop_state = state.state;
     let queues = state.queues;

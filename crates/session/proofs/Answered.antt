@@ -18,11 +18,12 @@ use Rattle.session.specs.Ends.{Settings, Within, Ends, Tied, tables}
 use Rattle.session.specs.Session.{Linked}
 use Rattle.session.specs.Stronger.{LimitOnly, InSession}
 use Rattle.fop.specs.Events as fop
-use Rattle.fop.specs.Table.{Reason}
+use Rattle.fop.specs.declared.Alert.{Alert}
+use Rattle.fop.specs.declared.Alert.the-variants.{None, Synch, Clcw, Limit, Nnr, Lockout, T1, Term, Llif}
 use Rattle.session.specs.Stronger.{KnownAlert}
 use Rattle.session.proofs.Choices.{by-pick}
 use Rattle.session.proofs.Alerts.{Allowed, ownAlert, ad-alerts, bd-alerts, tick-alerts, lower-alerts, terminate-alerts}
-use Rattle.session.proofs.Inv.{in-mode, Inv, word-read, fine, alerting}
+use Rattle.session.proofs.Inv.{in-mode, Inv, word-read, fine}
 use Rattle.session.proofs.Core.{Session, goes, used, isHeld}
 use Rattle.session.proofs.Chan.{Wds}
 use Rattle.session.proofs.Receiver.{at}
@@ -34,25 +35,27 @@ use Rattle.session.proofs.Received.{receiverOf, received-is, released-i
 use Rattle.session.proofs.Refusals.{refusal-is, Mild, mild}
 use Rattle.base.specs.Choice.{must}
 use Rattle.fop.specs.Answers as ans
-use Rattle.farm.specs.Receiver as farm
+use Rattle.receiver.specs.Channel as channel
+use Rattle.receiver.specs.Receiver as farm
 use Rattle.farm.specs.declared.Event.the-variants.{E10}
-use Rattle.farm.specs.declared.Receiver.{Receiver}
-use Rattle.farm.specs.declared.Received.{Received}
-use Rattle.farm.specs.declared.Released.the-variants.{Done, NoneTaken}
+use Rattle.receiver.specs.declared.Receiver.{Receiver}
+use Rattle.receiver.specs.declared.Received.{Received}
+use Rattle.receiver.specs.declared.Released.the-variants.{Done, NoneTaken}
 use Rattle.session.specs.Receiver.{frameArrives, releaseBuffer, ReceiverAnswer, releaseAnswer, receiverAnswer}
 
-own-known : (l : ℕ) (r : Option Reason) → Allowed ownAlert r → KnownAlert l r
+own-known : (l : ℕ) (r : Alert) → Allowed ownAlert r → KnownAlert l r
 own-known l r (inl e) = inl e
-own-known l r (inr (Reason.term, e, t)) = inr (inl e)
-own-known l r (inr (Reason.t1, e, t)) = inr (inr (inl e))
-own-known l r (inr (Reason.llif, e, t)) = inr (inr (inr (inl e)))
-own-known l r (inr (Reason.synch, e, t)) = absurd t
-own-known l r (inr (Reason.clcw, e, t)) = absurd t
-own-known l r (inr (Reason.nnr, e, t)) = absurd t
-own-known l r (inr (Reason.lockout, e, t)) = absurd t
-own-known l r (inr (Reason.limit, e, t)) = absurd t
+own-known l r (inr (Term, e, t)) = inr (inl e)
+own-known l r (inr (T1, e, t)) = inr (inr (inl e))
+own-known l r (inr (Llif, e, t)) = inr (inr (inr (inl e)))
+own-known l r (inr (None, e, t)) = absurd t
+own-known l r (inr (Synch, e, t)) = absurd t
+own-known l r (inr (Clcw, e, t)) = absurd t
+own-known l r (inr (Nnr, e, t)) = absurd t
+own-known l r (inr (Lockout, e, t)) = absurd t
+own-known l r (inr (Limit, e, t)) = absurd t
 
-limit-known : (l : ℕ) (r : Option Reason) → LimitOnly l r → KnownAlert l r
+limit-known : (l : ℕ) (r : Alert) → LimitOnly l r → KnownAlert l r
 limit-known l r (inl e) = inl e
 limit-known l r (inr e) = inr (inr (inr (inr e)))
 
@@ -93,17 +96,17 @@ module _ (set : Settings) (vw : Within set) (m : Ends) (t : Tied set m) (σ : Li
   word-alert s ws lent e =
       let l = oldest-read s ws e in
       answer-ways (λ a. LimitOnly (set .limit) (a .alert)) (wordArrives s) lent
-      (λ g. subst (λ (w : Work). LimitOnly (set .limit) (w .alert)) (sym (l .5)) (word-alerts set κ I Q (l .0) (l .1) (l .2))) (inl refl)
+      (λ g. subst (λ (w : Work). LimitOnly (set .limit) (w .notices .alert)) (sym (l .5)) (word-alerts set κ I Q (l .0) (l .1) (l .2))) (inl refl)
 
   -- the alerts
-  known : (e : SenderEvent) (lent : ℕ) → Allowed ownAlert ((work (set .own) e (κ .fop)) .alert) → KnownAlert (set .limit) ((m .answer e lent (σ .sender)) .alert)
+  known : (e : SenderEvent) (lent : ℕ) → Allowed ownAlert ((work (set .own) e (κ .fop)) .notices .alert) → KnownAlert (set .limit) ((m .answer e lent (σ .sender)) .alert)
   known e lent h = answer-ways (λ a. KnownAlert (set .limit) (a .alert)) e lent (λ g. own-known (set .limit) _ h) (inl refl)
 
   pub alerts : (e : SenderEvent) (lent : ℕ) → InSession (σ .words) e → KnownAlert (set .limit) ((m .answer e lent (σ .sender)) .alert)
   unfolding work
   alerts (requestAd o) lent h = known (requestAd o) lent (ad-alerts (κ .fop) (in-mode set κ I) o)
   alerts (requestBd o) lent h = known (requestBd o) lent (bd-alerts (κ .fop) (in-mode set κ I) o)
-  alerts fop.tick lent h = known fop.tick lent (tick-alerts (κ .fop) (in-mode set κ I) (alerting set κ I))
+  alerts fop.tick lent h = known fop.tick lent (tick-alerts (κ .fop) (in-mode set κ I))
   alerts (lower l) lent h = known (lower l) lent (lower-alerts (κ .fop) (in-mode set κ I) l)
   alerts (directive d v) lent h =
       subst (λ (x : ℕ). KnownAlert (set .limit) ((m .answer (directive x v) lent (σ .sender)) .alert)) (sym h)
@@ -127,7 +130,7 @@ module _ (set : Settings) (vw : Within set) (m : Ends) (t : Tied set m) (σ : Li
 
   oldest : (l : List Frame) (s : List ℕ) (fs : List (List ℕ)) → Reads l → s ∷ fs ≡ map (written (set .own)) l
       → (receiverAnswer (frameArrives s) (receiverOf set (used κ) (κ .farm))) .refusal ≡ 0
-  unfolding receiverAnswer farm.answered
+  unfolding receiverAnswer farm.answered channel.answered
   oldest [] s fs h e = let z : _≡_ {A = ℕ} 0 1 = cc in absurd (omega arith)
   oldest (x ∷ xs) s fs h e =
       let a : s ≡ written (set .own) x = cc in
@@ -144,7 +147,7 @@ module _ (set : Settings) (vw : Within set) (m : Ends) (t : Tied set m) (σ : Li
   Released-or-not a = ((a .refusal ≡ 0) × (κ .released < length (κ .accepted))) ⊎ ((a .refusal ≡ 13) × (κ .released ≡ length (κ .accepted)))
 
   pub release-refusal : Released-or-not (m .answerReceiver releaseBuffer (σ .receiver))
-  unfolding receiverAnswer farm.answered
+  unfolding receiverAnswer farm.answered channel.answered
   release-refusal =
       subst Released-or-not
       (sym (t .answerReceiver releaseBuffer (σ .receiver) (R .goodReceiver) ∙ ap (λ (f : Receiver). receiverAnswer releaseBuffer f) (R .farm)

@@ -11,7 +11,9 @@ use borrow.Author.Tests.{ltb-true, ltb-false}
 use Rattle.base.specs.Choice.{pick}
 use Rattle.base.specs.Modulo.{advanced}
 use Rattle.fop.specs.Units.{Fdu, Frame, AD, BD, legal}
-use Rattle.fop.specs.Table.{State, S1, S2, S3, S4, S5, S6, FopEvent, table78, cell78}
+use Rattle.fop.specs.declared.State.{State}
+use Rattle.fop.specs.declared.State.the-variants.{S1, S2, S3, S4, S5, S6}
+use Rattle.fop.specs.Table.{FopEvent, table78, cell78}
 use Rattle.fop.specs.Variables.{Fop, Work, begin}
 use Rattle.fop.specs.Machine.{fopDo, performCell, performAll, perform}
 use Rattle.fop.specs.Events.{fopBd, first, when, requestBd}
@@ -27,9 +29,8 @@ use Rattle.session.proofs.Receiver.{ad-cases}
 use Rattle.session.proofs.Next.{historyOf, sender-is}
 use Rattle.base.specs.Choice.{both}
 use Rattle.base.proofs.Tests.{both-left, both-true}
-use Rattle.farm.specs.Table.{table, accepts as acceptsCell}
+use Rattle.farm.specs.Table.{table, accepts as acceptsCell, unitOf}
 use Rattle.farm.specs.Window.{notWait}
-use Rattle.farm.specs.Receiver.{unitOf}
 use Rattle.farm.proofs.Units.{no-unit}
 use Rattle.farm.specs.declared.State.{State as FarmState}
 use Rattle.farm.specs.declared.State.the-variants.{Open, Wait, Lockout}
@@ -109,7 +110,7 @@ accepts set vw σ I u fs e =
     )
 
 -- a BD unit is offered, and arrives
-bd-cell : (s : State) (w : Work) → w .frames ≡ [] → (performCell (cell78 (table78 FopEvent.E21) s) w) .frames ≡ BD (w .octets) ∷ []
+bd-cell : (s : State) (w : Work) → w .frames ≡ [] → (performCell (cell78 (table78 FopEvent.E21) s) w) .frames ≡ BD (w .asked .octets) ∷ []
 unfolding performCell performAll perform table78
 bd-cell S1 w e = rw e
 bd-cell S2 w e = rw e

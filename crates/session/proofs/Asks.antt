@@ -10,10 +10,13 @@ use lib.ListN.{length, getD}
 use borrow.Author.Tests.{lt-ltb, le-ltb, ne-eqb}
 use Rattle.base.specs.Modulo.{advanced, offset}
 use Rattle.fop.specs.Units.{Fdu, Word, legal, wordOctets}
-use Rattle.fop.specs.Table.{State, S1, S2, S3, S4, S5, S6, FopEvent, table78, cell78, InitiateAdRetransmission}
+use Rattle.fop.specs.declared.State.{State}
+use Rattle.fop.specs.declared.State.the-variants.{S1, S2, S3, S4, S5, S6}
+use Rattle.fop.specs.Table.{FopEvent, table78, cell78, InitiateAdRetransmission}
 use Rattle.fop.specs.Variables.{Fop, Work, Preset, begin}
 use Rattle.fop.specs.Machine.{firstMarked, fopDo, performCell, performAll, perform, lookForFdu}
-use Rattle.fop.specs.Variables.{setState, onFop, acceptAdUnit}
+use Rattle.fop.specs.declared.Response.the-variants.{AcceptAdUnit}
+use Rattle.fop.specs.Variables.{setState, onFop}
 use Rattle.fop.specs.Machine.{sendWaiting, transmitAd}
 use Rattle.fop.specs.Events.{fopWord, wordEvent, requestAd}
 use Rattle.fop.specs.Events.{wordArrives, work}
@@ -28,9 +31,9 @@ use Rattle.session.proofs.Next.{historyOf, Resent, lv, off-is, out-from
 
 -- a unit that is sent at once is accepted, and starts the timer
 pub responds : (set : Settings) (σ : Session) → Inv set σ → (o : List ℕ) (lent : ℕ) → legal o ≡ true → needed (set .own) (requestAd o) (σ .fop) ≤ lent
-    → σ .fop .state ≡ S1 → σ .fop .out .ad ≡ true → σ .fop .waitQueue ≡ none → firstMarked (σ .fop .sentQueue) ≡ none
+    → σ .fop .state ≡ S1 → σ .fop .out .ad ≡ true → σ .fop .queues .waitQueue ≡ none → firstMarked (σ .fop .queues .sentQueue) ≡ none
     → length (outstanding (historyOf σ)) < set .k
-    → (senderAnswer (set .own) (requestAd o) lent (σ .fop)) .responses ≡ acceptAdUnit ∷ []
+    → (senderAnswer (set .own) (requestAd o) lent (σ .fop)) .responses ≡ AcceptAdUnit ∷ []
 unfolding senderAnswer work judged sentAtOnce sendWaiting transmitAd perform
 responds set σ I o lent g r s a w m k =
     let sv : inService (σ .fop .state) ≡ true = rw s in
@@ -39,7 +42,7 @@ responds set σ I o lent g r s a w m k =
     (ap (λ (v : Work). v .responses) (ad-is o (σ .fop) s a w m (room-is set σ I sv k)))
 
 pub starts : (set : Settings) (σ : Session) → Inv set σ → (o : List ℕ) (lent : ℕ) → legal o ≡ true → needed (set .own) (requestAd o) (σ .fop) ≤ lent
-    → σ .fop .state ≡ S1 → σ .fop .out .ad ≡ true → σ .fop .waitQueue ≡ none → firstMarked (σ .fop .sentQueue) ≡ none
+    → σ .fop .state ≡ S1 → σ .fop .out .ad ≡ true → σ .fop .queues .waitQueue ≡ none → firstMarked (σ .fop .queues .sentQueue) ≡ none
     → length (outstanding (historyOf σ)) < set .k
     → (step set (adRequest o lent) σ) .fop .clock .timer ≡ set .t1
 unfolding step stepWith work judged answered sentAtOnce sendWaiting transmitAd perform
@@ -70,7 +73,7 @@ asked S5 e = e
 asked S6 e = e
 
 ask-is : (w : Word) (f : Fop) → asking (f .state) ≡ true → w .lockout ≡ false → w .wait ≡ false → w .retransmit ≡ true
-    → offset (w .nr) (f .nnr) ≡ 0 → 0 < offset (f .vs) (f .nnr) → 1 < f .preset .transmissionLimit → f .clock .transmissionCount < f .preset .transmissionLimit
+    → offset (w .nr) (f .numbers .nnr) ≡ 0 → 0 < offset (f .numbers .vs) (f .numbers .nnr) → 1 < f .preset .transmissionLimit → f .clock .transmissionCount < f .preset .transmissionLimit
     → fopWord w f ≡ onFop (setState S2 ((expired FopEvent.E10 (w .nr) f) .fop)) (expired FopEvent.E10 (w .nr) f)
 unfolding fopWord wordEvent fopDo expired
 ask-is w f s a b c e p l k =
@@ -79,8 +82,8 @@ ask-is w f s a b c e p l k =
       b,
       c,
       e,
-      le-ltb (offset (f .vs) (f .nnr)) 0 (omega arith),
-      ne-eqb 0 (offset (f .vs) (f .nnr)) (omega arith),
+      le-ltb (offset (f .numbers .vs) (f .numbers .nnr)) 0 (omega arith),
+      ne-eqb 0 (offset (f .numbers .vs) (f .numbers .nnr)) (omega arith),
       ne-eqb (f .preset .transmissionLimit) 1 (omega arith),
       lt-ltb (f .clock .transmissionCount) (f .preset .transmissionLimit) k,
     )
@@ -104,8 +107,8 @@ module _ (set : Settings) (vw : Within set) (σ : Session) (I : Inv set σ) (w :
       let from : length (σ .confirmed) ≤ i = out-from set σ I sv i o in
       let lm : σ .fop .preset .transmissionLimit ≡ set .limit = ap (λ (p : Preset). p .transmissionLimit) (I .isSet) in
       let lv0 = lv set σ I sv in
-      let z : offset (w .nr) (σ .fop .nnr) ≡ 0 = omega (arith, nr, lv0, I .base) in
+      let z : offset (w .nr) (σ .fop .numbers .nnr) ≡ 0 = omega (arith, nr, lv0, I .base) in
       let e = ask-is w (σ .fop) s a b c z (omega (arith, off-is set σ I sv, from, o .0)) (omega arith) (omega arith) in
       rw (word-step set vw σ I w ws lent comes r) (over (getD (σ .sent) i noUnit)
-      (ticked set σ I sv FopEvent.E10 (w .nr) (σ .fop) refl i (σ .fop .sentQueue) refl (fopWord w (σ .fop)) (ap (λ (x : Work). x .fop .sentQueue) e)
+      (ticked set σ I sv FopEvent.E10 (w .nr) (σ .fop) refl i (σ .fop .queues .sentQueue) refl (fopWord w (σ .fop)) (ap (λ (x : Work). x .fop .queues .sentQueue) e)
       (ap (λ (x : Work). x .frames) e) o (σ .fop .out .ad) refl))

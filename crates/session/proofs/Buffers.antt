@@ -13,9 +13,8 @@ use Rattle.base.proofs.Tests.{both-left, both-true, both-false}
 use Rattle.fop.specs.Units.{Fdu, Frame, AD, BD, Unlock, SetVR, Refused, Word, wordOctets}
 use Rattle.fop.specs.Events.{SenderEvent, requestAd, requestBd, lower, directive, wordArrives}
 use Rattle.fop.specs.Events as fop
-use Rattle.farm.specs.Table.{table, perform, performAll, stepOf, accepts}
+use Rattle.farm.specs.Table.{table, perform, performAll, stepOf, accepts, unitOf}
 use Rattle.farm.specs.Window.{notWait}
-use Rattle.farm.specs.Receiver.{unitOf}
 use Rattle.farm.specs.declared.State.{State as FarmState}
 use Rattle.farm.specs.declared.State.the-variants.{Open, Wait, Lockout}
 use Rattle.farm.specs.declared.Event.{Event as FarmEvent}

@@ -9,7 +9,9 @@ use lib.ListN.{length, take, drop, length-append, length-take, length-drop}
 use borrow.Author.Tests.{le-ltb, eq-eqb, ne-eqb}
 use Rattle.base.specs.Modulo.{advanced, offset}
 use Rattle.fop.specs.Units.{Fdu, AD, Word, wordOctets}
-use Rattle.fop.specs.Table.{State, S1, FopEvent, table78, cell78}
+use Rattle.fop.specs.declared.State.{State}
+use Rattle.fop.specs.declared.State.the-variants.{S1}
+use Rattle.fop.specs.Table.{FopEvent, table78, cell78}
 use Rattle.fop.specs.Table.{RemoveAcknowledgedFrames, CancelTimer}
 use Rattle.fop.specs.Variables.{Fop, Work, Entry, Preset, begin}
 use Rattle.fop.specs.Machine.{fdus, firstMarked, fopDo, performCell, performAll, perform, lookForFdu, sendNext}
@@ -57,7 +59,7 @@ clear-cell v =
     (lookForFdu (perform CancelTimer (perform RemoveAcknowledgedFrames v)))) refl refl
 
 clear-is : (w : Word) (f : Fop) → serves (f .state) ≡ true → w .lockout ≡ false → w .wait ≡ false → w .retransmit ≡ false
-    → offset (w .nr) (f .nnr) ≡ offset (f .vs) (f .nnr) → 0 < offset (f .vs) (f .nnr)
+    → offset (w .nr) (f .numbers .nnr) ≡ offset (f .numbers .vs) (f .numbers .nnr) → 0 < offset (f .numbers .vs) (f .numbers .nnr)
     → fopWord w f ≡ onFop (setState S1 ((lookForFdu (cleared w f)) .fop)) (lookForFdu (cleared w f))
 unfolding fopWord wordEvent fopDo cleared began
 clear-is w f s a b c e p =
@@ -66,13 +68,13 @@ clear-is w f s a b c e p =
       b,
       c,
       e,
-      le-ltb (offset (f .vs) (f .nnr)) (offset (f .vs) (f .nnr)) (omega arith),
-      eq-eqb (offset (f .vs) (f .nnr)) (offset (f .vs) (f .nnr)) refl,
-      ne-eqb (offset (f .vs) (f .nnr)) 0 (omega arith),
+      le-ltb (offset (f .numbers .vs) (f .numbers .nnr)) (offset (f .numbers .vs) (f .numbers .nnr)) (omega arith),
+      eq-eqb (offset (f .numbers .vs) (f .numbers .nnr)) (offset (f .numbers .vs) (f .numbers .nnr)) refl,
+      ne-eqb (offset (f .numbers .vs) (f .numbers .nnr)) 0 (omega arith),
     )
     (clear-cell (begin (some FopEvent.E2) [] (w .nr) f) (f .state) s)
 
-cleared-conf : (w : Word) (f : Fop) → (cleared w f) .confirmed ≡ acknowledged (f .nnr) (w .nr) (f .sentQueue)
+cleared-conf : (w : Word) (f : Fop) → (cleared w f) .confirmed ≡ acknowledged (f .numbers .nnr) (w .nr) (f .queues .sentQueue)
 unfolding cleared perform removeAcknowledged began
 cleared-conf w f = refl
 
@@ -80,11 +82,11 @@ none-marked : (q : List Entry) → length (fdus q) ≡ 0 → firstMarked q ≡ n
 none-marked [] e = refl
 none-marked (x ∷ q) e = absurd (omega arith)
 
-cleared-sends : (w : Word) (f : Fop) (o : List ℕ) → f .out .ad ≡ true → f .waitQueue ≡ some o
-    → length (fdus (unacknowledged (f .nnr) (w .nr) (f .sentQueue))) ≡ 0
-    → offset (f .vs) (w .nr) < f .preset .k → (lookForFdu (cleared w f)) .frames ≡ AD (record { ns = f .vs; octets = o }) ∷ []
+cleared-sends : (w : Word) (f : Fop) (o : List ℕ) → f .out .ad ≡ true → f .queues .waitQueue ≡ some o
+    → length (fdus (unacknowledged (f .numbers .nnr) (w .nr) (f .queues .sentQueue))) ≡ 0
+    → offset (f .numbers .vs) (w .nr) < f .preset .k → (lookForFdu (cleared w f)) .frames ≡ AD (record { ns = f .numbers .vs; octets = o }) ∷ []
 unfolding cleared perform removeAcknowledged began
-cleared-sends w f o a e l k = look-new (cleared w f) o a (none-marked (unacknowledged (f .nnr) (w .nr) (f .sentQueue)) l) k e
+cleared-sends w f o a e l k = look-new (cleared w f) o a (none-marked (unacknowledged (f .numbers .nnr) (w .nr) (f .queues .sentQueue)) l) k e
 
 module _ (set : Settings) (vw : Within set) (σ : Session) (I : Inv set σ) (sv : serves (σ .fop .state) ≡ true) (w : Word) (ws : List Word) (lent : ℕ)
     (comes : σ .words ≡ w ∷ ws) (r : needed (set .own) (wordArrives (wordOctets (set .own) w)) (σ .fop) ≤ lent)
@@ -95,26 +97,26 @@ module _ (set : Settings) (vw : Within set) (σ : Session) (I : Inv set σ) (sv 
   come-is : step set (wordIn lent) σ ≡ answered (set .n) (fopWord w (σ .fop)) (channels (σ .frames) ws σ)
   come-is = word-step set vw σ I w ws lent comes r
 
-  new-is : offset (w .nr) (σ .fop .nnr) ≡ offset (σ .fop .vs) (σ .fop .nnr)
-  new-is = ap (λ (v : ℕ). offset v (σ .fop .nnr)) (nr ∙ sym (lv set σ I (served (σ .fop .state) sv) .isVs))
+  new-is : offset (w .nr) (σ .fop .numbers .nnr) ≡ offset (σ .fop .numbers .vs) (σ .fop .numbers .nnr)
+  new-is = ap (λ (v : ℕ). offset v (σ .fop .numbers .nnr)) (nr ∙ sym (lv set σ I (served (σ .fop .state) sv) .isVs))
 
   answer-is : 0 < length (σ .sent) - length (σ .confirmed)
       → fopWord w (σ .fop) ≡ onFop (setState S1 ((lookForFdu (cleared w (σ .fop))) .fop)) (lookForFdu (cleared w (σ .fop)))
   answer-is p = clear-is w (σ .fop) sv c1 c2 c3 new-is (omega (arith, p, off-is set σ I (served (σ .fop .state) sv)))
 
-  acked-is : (acknowledged (σ .fop .nnr) (w .nr) (σ .fop .sentQueue) ≡ take (offset (w .nr) (σ .fop .nnr)) (fdus (σ .fop .sentQueue)))
-      × (fdus (unacknowledged (σ .fop .nnr) (w .nr) (σ .fop .sentQueue)) ≡ drop (offset (w .nr) (σ .fop .nnr)) (fdus (σ .fop .sentQueue)))
+  acked-is : (acknowledged (σ .fop .numbers .nnr) (w .nr) (σ .fop .queues .sentQueue) ≡ take (offset (w .nr) (σ .fop .numbers .nnr)) (fdus (σ .fop .queues .sentQueue)))
+      × (fdus (unacknowledged (σ .fop .numbers .nnr) (w .nr) (σ .fop .queues .sentQueue)) ≡ drop (offset (w .nr) (σ .fop .numbers .nnr)) (fdus (σ .fop .queues .sentQueue)))
   acked-is =
       acked set σ I (served (σ .fop .state) sv) (wd .0) (w .nr) (wd .2) (wd .1) (wds-le (set .n) (wd .0) (length (σ .accepted)) ws (wd .4))
 
   conf-all : 0 < length (σ .sent) - length (σ .confirmed) → length ((step set (wordIn lent) σ) .confirmed) ≡ length (σ .sent)
   unfolding answered channels
   conf-all p =
-      let ln = queue-length (length (σ .confirmed)) (σ .sent) [] (fdus (σ .fop .sentQueue)) (lv set σ I (served (σ .fop .state) sv) .cut) in
-      let e : (fopWord w (σ .fop)) .confirmed ≡ take (offset (w .nr) (σ .fop .nnr)) (fdus (σ .fop .sentQueue)) =
+      let ln = queue-length (length (σ .confirmed)) (σ .sent) [] (fdus (σ .fop .queues .sentQueue)) (lv set σ I (served (σ .fop .state) sv) .cut) in
+      let e : (fopWord w (σ .fop)) .confirmed ≡ take (offset (w .nr) (σ .fop .numbers .nnr)) (fdus (σ .fop .queues .sentQueue)) =
       ap (λ (x : Work). x .confirmed) (answer-is p) ∙ look-conf (cleared w (σ .fop)) ∙ cleared-conf w (σ .fop) ∙ acked-is .0 in
       let le : length ((fopWord w (σ .fop)) .confirmed) ≡ length (σ .sent) - length (σ .confirmed) =
-      ap length e ∙ length-take (offset (w .nr) (σ .fop .nnr)) (fdus (σ .fop .sentQueue))
+      ap length e ∙ length-take (offset (w .nr) (σ .fop .numbers .nnr)) (fdus (σ .fop .queues .sentQueue))
       ∙ omega (arith, new-is, off-is set σ I (served (σ .fop .state) sv), ln) in
       ap (λ (x : Session). length (x .confirmed)) come-is ∙ length-append (σ .confirmed) _
       ∙ ap (λ (x : ℕ). length (σ .confirmed) + x) (length-places _ _ _ ∙ le) ∙ omega (arith, I .base)
@@ -126,16 +128,16 @@ module _ (set : Settings) (vw : Within set) (σ : Session) (I : Inv set σ) (sv 
       let l = conf-all (omega (arith, from, o .0)) in
       ap (member i) (J .places) ∙ member-in i 0 (length ((step set (wordIn lent) σ) .confirmed)) (omega arith) (omega (arith, l, o .0))
 
-  pub clears-sends : (o : List ℕ) → 0 < length (outstanding (historyOf σ)) → σ .fop .out .ad ≡ true → σ .fop .waitQueue ≡ some o
+  pub clears-sends : (o : List ℕ) → 0 < length (outstanding (historyOf σ)) → σ .fop .out .ad ≡ true → σ .fop .queues .waitQueue ≡ some o
       → Sent (nextUnit set (historyOf σ) o) σ (step set (wordIn lent) σ)
   unfolding answered channels
   clears-sends o p a e =
       let p' : 0 < length (σ .sent) - length (σ .confirmed) = omega (arith, p, out-count set σ I (served (σ .fop .state) sv)) in
       let l = lv set σ I (served (σ .fop .state) sv) in
-      let ln = queue-length (length (σ .confirmed)) (σ .sent) [] (fdus (σ .fop .sentQueue)) (l .cut) in
+      let ln = queue-length (length (σ .confirmed)) (σ .sent) [] (fdus (σ .fop .queues .sentQueue)) (l .cut) in
       let pk : σ .fop .preset .k ≡ set .k = ap (λ (x : Preset). x .k) (I .isSet) in
-      let z : length (fdus (unacknowledged (σ .fop .nnr) (w .nr) (σ .fop .sentQueue))) ≡ 0 =
-      ap length (acked-is .1) ∙ length-drop (offset (w .nr) (σ .fop .nnr)) (fdus (σ .fop .sentQueue))
+      let z : length (fdus (unacknowledged (σ .fop .numbers .nnr) (w .nr) (σ .fop .queues .sentQueue))) ≡ 0 =
+      ap length (acked-is .1) ∙ length-drop (offset (w .nr) (σ .fop .numbers .nnr)) (fdus (σ .fop .queues .sentQueue))
       ∙ omega (arith, ln, new-is, off-is set σ I (served (σ .fop .state) sv)) in
       let s = next-sends set σ I (served (σ .fop .state) sv) (fopWord w (σ .fop)) o
       (ap (λ (x : Work). x .frames) (answer-is p') ∙ cleared-sends w (σ .fop) o a e z (omega (arith, l, nr, vw .windowLeast, pk))) in

@@ -13,9 +13,8 @@ use Rattle.fop.specs.Variables.{Fop, Work}
 use Rattle.fop.specs.Events.{SenderEvent, requestAd, requestBd, directive, wordArrives, work}
 use Rattle.fop.specs.Events as fop
 use Rattle.fop.specs.Answers.{senderRefusal}
-use Rattle.farm.specs.Table.{stepOf}
+use Rattle.farm.specs.Table.{stepOf, unitOf}
 use Rattle.farm.specs.Window.{adEvent}
-use Rattle.farm.specs.Receiver.{unitOf}
 use Rattle.farm.specs.declared.Event.{Event as FarmEvent}
 use Rattle.farm.specs.declared.Event.the-variants as farm
 use Rattle.farm.specs.declared.Variables.{Variables}

@@ -1,21 +1,24 @@
 -- A control word that reaches a sender in service makes the count of confirmed units what it reports: no more is confirmed (Inv); no less,
 -- since by a computed test the cell that it meets first removes acknowledged frames, and no action takes a confirmed unit back.
-use mathlib.Core.Path.{_≡_, refl, ap, _∙_}
+use mathlib.Core.Path.{_≡_, refl, ap, subst, _∙_}
 use mathlib.Core.Bool.{Bool, true, false, not, false≢true}
 use mathlib.Core.List.{List, [], _∷_}
 use mathlib.Core.Option.{Option, none, some}
-use Prim.Native.Nat.{_+_, _-_, _≤_}
+use Prim.Native.Nat.{_+_, _-_, _*_, _≤_}
 use native.Mathlib.Omega.{arith}
 use lib.Dec.{eqb, T}
 use lib.ListN.{length, length-take, length-append}
 use borrow.Author.Tests.{eqb-true, not-false}
 use Rattle.base.specs.Modulo.{advanced, offset}
 use Rattle.fop.specs.Units.{Word}
-use Rattle.fop.specs.Table.{State, S1, S2, S3, S4, S5, S6, Action, Cell, cell, ifNotSuspended, NotApplicable, table78, cell78, Ignore, Accept, Reject, Confirm}
+use Rattle.fop.specs.declared.State.{State}
+use Rattle.fop.specs.declared.State.the-variants.{S1, S2, S3, S4, S5, S6}
+use Rattle.fop.specs.Table.{Action, Cell, cell, ifNotSuspended, NotApplicable, table78, cell78, Ignore, Accept, Reject, Confirm}
 use Rattle.fop.specs.Table.{RejectAd, AcceptBd, RejectBd, AddToWaitQueue, LookForFdu, LookForDirective, RemoveAcknowledgedFrames, InitiateAdRetransmission}
 use Rattle.fop.specs.Table.{InitiateBcRetransmission, ReleaseBcFrame, CancelTimer, StartTimer, Alert, Initialise, TransmitUnlock, TransmitSetVr, TransmitBd, SetSuspendState}
 use Rattle.fop.specs.Table.{Suspend, Resume, SetVs, SetNnr, SetK, SetT1Initial, SetTransmissionLimit, SetTimeoutType, AdOutReady, BcOutReady, BdOutReady}
 use Rattle.fop.specs.Variables.{Work, begin}
+use Rattle.fop.specs.Effective.{effective}
 use Rattle.fop.specs.Machine.{perform, performAll, performCell, removeAcknowledged, acknowledged, transmitBc, purge, fdus, fopDo}
 use Rattle.fop.specs.Events.{Seen, seen, wordEvent, fopWord}
 use Rattle.session.specs.Ends.{Settings}
@@ -25,11 +28,11 @@ use Rattle.session.proofs.Test.{isThere}
 use Rattle.session.proofs.Core.{Session}
 use Rattle.session.proofs.Chan.{Wds, wds-le}
 use Rattle.session.proofs.Values.{word, queue-length}
-use Rattle.session.proofs.Rows.{word-ok}
+use Rattle.session.proofs.Rows.{any, word-ok}
 use Rattle.session.proofs.Inv.{Inv, row-bound}
-use Rattle.session.proofs.Next.{lv, acked}
+use Rattle.session.proofs.Next.{serves-as, lv, acked}
 use Rattle.session.proofs.Clear.{look-conf}
-use Rattle.session.proofs.Keys.{Tidy}
+use Rattle.session.proofs.Keys.{bit, floor, Keys, Tidy}
 use Rattle.session.proofs.Every.{implies, implied, everySeen, seen-at}
 use Rattle.session.proofs.WordAlerts.{fitting, live-fits}
 
@@ -48,8 +51,8 @@ act-grows AcceptBd w = omega arith
 act-grows RejectBd w = omega arith
 act-grows AddToWaitQueue w = omega arith
 act-grows LookForFdu w = omega (arith, ap length (look-conf w))
-act-grows LookForDirective w = directive-ways (λ v. length (w .confirmed) ≤ length (v .confirmed)) w (omega arith) (λ b. omega arith) (w .fop .bcFrame)
-act-grows RemoveAcknowledgedFrames w = omega (arith, length-append (w .confirmed) (acknowledged (w .fop .nnr) (w .value) (w .fop .sentQueue)))
+act-grows LookForDirective w = directive-ways (λ v. length (w .confirmed) ≤ length (v .confirmed)) w (omega arith) (λ b. omega arith) (w .fop .queues .bcFrame)
+act-grows RemoveAcknowledgedFrames w = omega (arith, length-append (w .confirmed) (acknowledged (w .fop .numbers .nnr) (w .asked .value) (w .fop .queues .sentQueue)))
 act-grows InitiateAdRetransmission w = omega arith
 act-grows InitiateBcRetransmission w = omega arith
 act-grows ReleaseBcFrame w = omega arith
@@ -152,27 +155,33 @@ module _ (set : Settings) (σ : Session) (I : Inv set σ) (Q : Tidy (set .n) σ)
   reports = rw comes at (I .words)
 
   -- what it reports that is new
-  new-is : offset (w .nr) (σ .fop .nnr) ≡ reports .0 - length (σ .confirmed)
+  new-is : offset (w .nr) (σ .fop .numbers .nnr) ≡ reports .0 - length (σ .confirmed)
   new-is = omega (arith, lv set σ I sv, I .base, reports .1, reports .2, wds-le (set .n) (reports .0) _ ws (reports .4))
 
   most : length (σ .confirmed) + length ((fopWord w (σ .fop)) .confirmed) ≤ reports .0
   unfolding fopWord
   most =
-      row-bound set σ word (reports .0) (wordEvent (seen w (σ .fop))) [] (w .nr) I (word-ok (seen w (σ .fop))) (reports .2)
+      row-bound set σ word (reports .0) (wordEvent (seen w (σ .fop))) [] (w .nr) I (any word _ (word-ok (seen w (σ .fop)))) (reports .2)
       (reports .1, wds-le (set .n) (reports .0) _ ws (reports .4))
 
-  removed : length (acknowledged (σ .fop .nnr) (w .nr) (σ .fop .sentQueue)) ≡ offset (w .nr) (σ .fop .nnr)
+  removed : length (acknowledged (σ .fop .numbers .nnr) (w .nr) (σ .fop .queues .sentQueue)) ≡ offset (w .nr) (σ .fop .numbers .nnr)
   removed =
-      let ln = queue-length (length (σ .confirmed)) (σ .sent) [] (fdus (σ .fop .sentQueue)) (lv set σ I sv .cut) in
+      let ln = queue-length (length (σ .confirmed)) (σ .sent) [] (fdus (σ .fop .queues .sentQueue)) (lv set σ I sv .cut) in
       let a = acked set σ I sv (reports .0) (w .nr) (reports .2) (reports .1) (wds-le (set .n) (reports .0) (length (σ .accepted)) ws (reports .4)) in
-      ap length (a .0) ∙ length-take (offset (w .nr) (σ .fop .nnr)) (fdus (σ .fop .sentQueue))
+      ap length (a .0) ∙ length-take (offset (w .nr) (σ .fop .numbers .nnr)) (fdus (σ .fop .queues .sentQueue))
       ∙ omega (arith, new-is, ln, I .base, wds-le (set .n) (reports .0) _ ws (reports .4))
 
-  least : (b : Bool) → not (eqb (offset (w .nr) (σ .fop .nnr)) 0) ≡ b → offset (w .nr) (σ .fop .nnr) ≤ length ((fopWord w (σ .fop)) .confirmed)
+  state-keys : Keys (set .n) (length (σ .sent)) (floor (effective (σ .fop)) (length (σ .confirmed))) (2 * length (σ .accepted) + bit (σ .farm .retransmit)) (w ∷ ws)
+      → Keys (set .n) (length (σ .sent)) (floor (σ .fop .state) (length (σ .confirmed))) (2 * length (σ .accepted) + bit (σ .farm .retransmit)) (w ∷ ws)
+  state-keys =
+      subst (λ (s : State). Keys (set .n) (length (σ .sent)) (floor s (length (σ .confirmed))) (2 * length (σ .accepted) + bit (σ .farm .retransmit)) (w ∷ ws))
+      (serves-as (σ .fop .state) (σ .fop .suspendState) sv)
+
+  least : (b : Bool) → not (eqb (offset (w .nr) (σ .fop .numbers .nnr)) 0) ≡ b → offset (w .nr) (σ .fop .numbers .nnr) ≤ length ((fopWord w (σ .fop)) .confirmed)
   unfolding fopWord fopDo removeAcknowledged
-  least false e = omega (arith, eqb-true (offset (w .nr) (σ .fop .nnr)) 0 (not-false _ e))
+  least false e = omega (arith, eqb-true (offset (w .nr) (σ .fop .numbers .nnr)) 0 (not-false _ e))
   least true e =
-      let f = live-fits set σ I w ws (σ .fop .state) (lv set σ I sv) (rw comes at (Q .keys)) in
+      let f = live-fits set σ I w ws (σ .fop .state) (lv set σ I sv) (state-keys (rw comes at (Q .keys))) in
       let t = implied (fitting (σ .fop .state) (seen w (σ .fop))) _ (seen-at (removesAt (σ .fop .state)) (seen w (σ .fop))
       (removes-all (σ .fop .state) sv)) f in
       let r = implied ((seen w (σ .fop)) .new) _ t e in
@@ -186,5 +195,5 @@ module _ (set : Settings) (σ : Session) (I : Inv set σ) (Q : Tidy (set .n) σ)
   pub exact : w .nr ≡ advanced (set .n) (length (σ .confirmed) + length ((fopWord w (σ .fop)) .confirmed))
   exact =
       let c : reports .0 ≡ length (σ .confirmed) + length ((fopWord w (σ .fop)) .confirmed) =
-      omega (arith, most, least (not (eqb (offset (w .nr) (σ .fop .nnr)) 0)) refl, new-is, reports .2) in
+      omega (arith, most, least (not (eqb (offset (w .nr) (σ .fop .numbers .nnr)) 0)) refl, new-is, reports .2) in
       reports .1 ∙ ap (advanced (set .n)) c

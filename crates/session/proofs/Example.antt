@@ -7,9 +7,11 @@ use Prim.Native.Nat.{ℕ}
 use Rattle.farm.specs.declared.Event.the-variants as farm
 use Rattle.session.specs.Session as ses
 use Rattle.fop.specs.Units.{Fdu}
-use Rattle.fop.specs.Table.{S1, S2, S3, S6, limit, t1, term, E1, E2, E5, E9, E10, E16, E17, E19, E21, E22, E29, E41, E45, E101}
-use Rattle.fop.specs.Variables.{acceptAdUnit, rejectAdUnit, acceptBdUnit, rejectBdUnit, acceptDirective, confirmDirective}
-use Rattle.fop.specs.Events.{adAccept, bdAccept}
+use Rattle.fop.specs.declared.State.the-variants.{S1, S2, S3, S6}
+use Rattle.fop.specs.declared.Alert.the-variants.{Limit, T1, Term}
+use Rattle.fop.specs.Table.{E1, E2, E5, E9, E10, E16, E17, E19, E21, E22, E29, E41, E45, E101}
+use Rattle.fop.specs.declared.Response.the-variants.{AcceptAdUnit, RejectAdUnit, AcceptBdUnit, RejectBdUnit, AcceptDirective, ConfirmDirective}
+use Rattle.fop.specs.declared.Lower.the-variants.{AdAccept, BdAccept}
 use Rattle.session.specs.Ends.{Settings, tables}
 use Rattle.session.specs.Session.{Event, History, adRequest, bdRequest, ticks, lowerSays, terminate, wordIn, wordMade, frameIn, frameLost, release}
 use Rattle.session.proofs.Trace.{computing, settings, Said, S, R, N, trace, by, noEvent, down, aborting, responding, alerting, confirming, denying, discarding, handing}
@@ -53,7 +55,7 @@ frame-0 = 0 ∷ 5 ∷ 36 ∷ 7 ∷ 0 ∷ 51 ∷ 83 ∷ 88 ∷ []
 
 -- a unit is sent at once
 abbrev sends : List ℕ → Said
-sends frame = S (responding (acceptAdUnit ∷ []) (down frame (by E19 S1)))
+sends frame = S (responding (AcceptAdUnit ∷ []) (down frame (by E19 S1)))
 
 -- the histories of a session without BD units: sent, accepted, confirmed, denied, and the releases done
 abbrev adHistory : List Fdu → List Fdu → List (Option ℕ) → List (Option ℕ) → ℕ → History
@@ -72,9 +74,9 @@ adHistory sent accepted confirmed denied released = record {
 -- resent and confirmed; Terminate denies the last, and a BD unit still passes
 abbrev whole-list : List Event
 whole-list =
-    adRequest (17 ∷ []) 256 ∷ frameLost ∷ lowerSays adAccept 256 ∷ ticks 256 ∷ ticks 256 ∷ frameIn
-    ∷ lowerSays adAccept 256 ∷ adRequest (34 ∷ 35 ∷ []) 256 ∷ lowerSays adAccept 256 ∷ frameIn ∷ wordMade 4
-    ∷ wordIn 256 ∷ release ∷ wordMade 4 ∷ wordIn 256 ∷ frameIn ∷ wordMade 4 ∷ wordIn 256 ∷ lowerSays adAccept 256
+    adRequest (17 ∷ []) 256 ∷ frameLost ∷ lowerSays AdAccept 256 ∷ ticks 256 ∷ ticks 256 ∷ frameIn
+    ∷ lowerSays AdAccept 256 ∷ adRequest (34 ∷ 35 ∷ []) 256 ∷ lowerSays AdAccept 256 ∷ frameIn ∷ wordMade 4
+    ∷ wordIn 256 ∷ release ∷ wordMade 4 ∷ wordIn 256 ∷ frameIn ∷ wordMade 4 ∷ wordIn 256 ∷ lowerSays AdAccept 256
     ∷ adRequest (51 ∷ []) 256 ∷ terminate 7 256 ∷ bdRequest (51 ∷ []) 256 ∷ frameLost ∷ frameIn ∷ []
 
 abbrev Whole : Type 0
@@ -100,7 +102,7 @@ Whole =
     ∷ S (confirming 255 1 (by E2 S1))
     ∷ S (by E41 S1)
     ∷ sends frame-0
-    ∷ S (denying 0 1 (alerting term (responding (acceptDirective ∷ confirmDirective ∷ []) (by E29 S6))))
+    ∷ S (denying 0 1 (alerting Term (responding (AcceptDirective ∷ ConfirmDirective ∷ []) (by E29 S6))))
     ∷ S (down (32 ∷ 5 ∷ 36 ∷ 7 ∷ 0 ∷ 51 ∷ 102 ∷ 80 ∷ []) (by E21 S6))
     ∷ N
     ∷ R (handing (51 ∷ []) farm.E6)
@@ -119,7 +121,7 @@ Whole =
 -- a unit is lost; the timer resends it; it is accepted and confirmed
 abbrev lost-list : List Event
 lost-list =
-    adRequest (17 ∷ []) 256 ∷ frameLost ∷ lowerSays adAccept 256 ∷ ticks 256 ∷ ticks 256 ∷ frameIn ∷ wordMade 4
+    adRequest (17 ∷ []) 256 ∷ frameLost ∷ lowerSays AdAccept 256 ∷ ticks 256 ∷ ticks 256 ∷ frameIn ∷ wordMade 4
     ∷ wordIn 256 ∷ []
 
 abbrev Lost : Type 0
@@ -139,8 +141,8 @@ Lost =
 -- the first of two units is lost; a word asks for it; both are resent, accepted and confirmed
 abbrev gap-list : List Event
 gap-list =
-    adRequest (17 ∷ []) 256 ∷ lowerSays adAccept 256 ∷ adRequest (34 ∷ 35 ∷ []) 256 ∷ lowerSays adAccept 256
-    ∷ frameLost ∷ frameIn ∷ wordMade 4 ∷ wordIn 256 ∷ lowerSays adAccept 256 ∷ frameIn ∷ frameIn ∷ wordMade 4
+    adRequest (17 ∷ []) 256 ∷ lowerSays AdAccept 256 ∷ adRequest (34 ∷ 35 ∷ []) 256 ∷ lowerSays AdAccept 256
+    ∷ frameLost ∷ frameIn ∷ wordMade 4 ∷ wordIn 256 ∷ lowerSays AdAccept 256 ∷ frameIn ∷ frameIn ∷ wordMade 4
     ∷ wordIn 256 ∷ []
 
 abbrev Gap : Type 0
@@ -165,7 +167,7 @@ Gap =
 -- no buffer is free: the receiver waits until one is released
 abbrev full-list : List Event
 full-list =
-    adRequest (17 ∷ []) 256 ∷ lowerSays adAccept 256 ∷ adRequest (34 ∷ 35 ∷ []) 256 ∷ lowerSays adAccept 256
+    adRequest (17 ∷ []) 256 ∷ lowerSays AdAccept 256 ∷ adRequest (34 ∷ 35 ∷ []) 256 ∷ lowerSays AdAccept 256
     ∷ frameIn ∷ frameIn ∷ wordMade 4 ∷ wordIn 256 ∷ release ∷ wordMade 4 ∷ wordIn 256 ∷ frameIn ∷ wordMade 4 ∷ wordIn 256
     ∷ []
 
@@ -192,15 +194,15 @@ Full =
 -- BD units
 abbrev expedited-list : List Event
 expedited-list =
-    bdRequest (17 ∷ []) 256 ∷ bdRequest (34 ∷ 35 ∷ []) 256 ∷ lowerSays bdAccept 256 ∷ bdRequest (51 ∷ []) 256
+    bdRequest (17 ∷ []) 256 ∷ bdRequest (34 ∷ 35 ∷ []) 256 ∷ lowerSays BdAccept 256 ∷ bdRequest (51 ∷ []) 256
     ∷ frameIn ∷ frameIn ∷ wordMade 4 ∷ []
 
 abbrev Expedited : Type 0
 Expedited =
     Runs usual expedited-list
     (S (down (32 ∷ 5 ∷ 36 ∷ 7 ∷ 0 ∷ 17 ∷ 98 ∷ 112 ∷ []) (by E21 S1))
-    ∷ S (responding (rejectBdUnit ∷ []) (by E22 S1))
-    ∷ S (responding (acceptBdUnit ∷ []) (by E45 S1))
+    ∷ S (responding (RejectBdUnit ∷ []) (by E22 S1))
+    ∷ S (responding (AcceptBdUnit ∷ []) (by E45 S1))
     ∷ S (down (32 ∷ 5 ∷ 36 ∷ 7 ∷ 0 ∷ 51 ∷ 102 ∷ 80 ∷ []) (by E21 S1))
     ∷ R (handing (17 ∷ []) farm.E6)
     ∷ R (handing (51 ∷ []) farm.E6)
@@ -220,8 +222,8 @@ Expedited =
 -- at a transmission limit of 1, one word confirms one unit and denies two
 abbrev both-list : List Event
 both-list =
-    adRequest (17 ∷ []) 256 ∷ lowerSays adAccept 256 ∷ adRequest (34 ∷ 35 ∷ []) 256 ∷ lowerSays adAccept 256
-    ∷ adRequest (51 ∷ []) 256 ∷ lowerSays adAccept 256 ∷ frameIn ∷ frameLost ∷ frameIn ∷ wordMade 4 ∷ wordIn 256 ∷ []
+    adRequest (17 ∷ []) 256 ∷ lowerSays AdAccept 256 ∷ adRequest (34 ∷ 35 ∷ []) 256 ∷ lowerSays AdAccept 256
+    ∷ adRequest (51 ∷ []) 256 ∷ lowerSays AdAccept 256 ∷ frameIn ∷ frameLost ∷ frameIn ∷ wordMade 4 ∷ wordIn 256 ∷ []
 
 abbrev Both : Type 0
 Both =
@@ -236,7 +238,7 @@ Both =
     ∷ N
     ∷ R (discarding farm.E3)
     ∷ N
-    ∷ S (denying 255 2 (confirming 254 1 (alerting limit (by E101 S6))))
+    ∷ S (denying 255 2 (confirming 254 1 (alerting Limit (by E101 S6))))
     ∷ [])
     (adHistory (unit-254 ∷ unit-255 ∷ unit-0 ∷ []) (unit-254 ∷ []) (some 0 ∷ []) (some 1 ∷ some 2 ∷ []) 0)
 
@@ -250,15 +252,15 @@ Ended =
     Runs usual ended-list
     (sends frame-254
     ∷ S (by E19 S1)
-    ∷ S (denying 254 1 (alerting term (responding (acceptDirective ∷ rejectAdUnit ∷ confirmDirective ∷ []) (by E29 S6))))
-    ∷ S (responding (rejectAdUnit ∷ []) (by E19 S6))
+    ∷ S (denying 254 1 (alerting Term (responding (AcceptDirective ∷ RejectAdUnit ∷ ConfirmDirective ∷ []) (by E29 S6))))
+    ∷ S (responding (RejectAdUnit ∷ []) (by E19 S6))
     ∷ [])
     (adHistory (unit-254 ∷ []) [] [] (some 0 ∷ []) 0)
 
 -- words that acknowledge nothing new
 abbrev early-list : List Event
 early-list =
-    adRequest (17 ∷ []) 256 ∷ lowerSays adAccept 256 ∷ wordMade 4 ∷ wordIn 256 ∷ frameIn ∷ wordMade 4 ∷ wordMade 4
+    adRequest (17 ∷ []) 256 ∷ lowerSays AdAccept 256 ∷ wordMade 4 ∷ wordIn 256 ∷ frameIn ∷ wordMade 4 ∷ wordMade 4
     ∷ wordIn 256 ∷ wordIn 256 ∷ []
 
 abbrev Early : Type 0
@@ -279,7 +281,7 @@ Early =
 -- the timer at the transmission limit
 abbrev given-up-list : List Event
 given-up-list =
-    adRequest (17 ∷ []) 256 ∷ lowerSays adAccept 256 ∷ ticks 256 ∷ lowerSays adAccept 256 ∷ ticks 256 ∷ []
+    adRequest (17 ∷ []) 256 ∷ lowerSays AdAccept 256 ∷ ticks 256 ∷ lowerSays AdAccept 256 ∷ ticks 256 ∷ []
 
 abbrev GivenUp : Type 0
 GivenUp =
@@ -288,7 +290,7 @@ GivenUp =
     ∷ S (by E41 S1)
     ∷ S (aborting (down frame-254 (by E16 S1)))
     ∷ S (by E41 S1)
-    ∷ S (denying 254 1 (alerting t1 (by E17 S6)))
+    ∷ S (denying 254 1 (alerting T1 (by E17 S6)))
     ∷ [])
     (adHistory (unit-254 ∷ []) [] [] (some 0 ∷ []) 0)
 

@@ -17,7 +17,8 @@ use Rattle.fop.specs.Variables.{Fop, Work}
 use Rattle.fop.specs.Machine.{perform, performAll, performCell, lookForFdu, sendNext, sendWaiting, transmitAd, transmitBc}
 use Rattle.fop.specs.Variables.{begin}
 use Rattle.fop.specs.Machine.{purge, removeAcknowledged, fopDo}
-use Rattle.fop.specs.Events.{when, expiryLines, wordLines, wordEvent, seen, fopWord, fopAd, fopBd, fopExpiry, fopTick, fopLower, Lower, fopDirective, directiveLines}
+use Rattle.fop.specs.declared.Lower.{Lower}
+use Rattle.fop.specs.Events.{when, expiryLines, wordLines, wordEvent, seen, fopWord, fopAd, fopBd, fopExpiry, fopTick, fopLower, fopDirective, directiveLines}
 use Rattle.fop.specs.Events.{directiveEvent, isEmpty, fopReceived, SenderEvent, requestAd, requestBd, lower, directive, wordArrives, work}
 use Rattle.fop.specs.Events as fop
 use Rattle.session.proofs.Choices.{by-pick, and-l, and-r}
@@ -52,7 +53,7 @@ sends Suspend = (0, λ w. omega arith)
 sends Resume = (0, λ w. omega arith)
 sends AddToWaitQueue = (0, λ w. omega arith)
 sends LookForFdu = (1, look-few)
-sends LookForDirective = (1, λ w. directive-ways (Most (length (w .frames) + 1)) w (omega arith) (λ b. one-more w (b .frame)) (w .fop .bcFrame))
+sends LookForDirective = (1, λ w. directive-ways (Most (length (w .frames) + 1)) w (omega arith) (λ b. one-more w (b .frame)) (w .fop .queues .bcFrame))
 sends RemoveAcknowledgedFrames = (0, λ w. omega arith)
 sends InitiateAdRetransmission = (0, λ w. omega arith)
 sends InitiateBcRetransmission = (0, λ w. omega arith)
@@ -125,7 +126,7 @@ received-few (other r) f = omega arith
 
 ad-few : (o : List ℕ) (f : Fop) → Most 1 (fopAd o f)
 unfolding fopAd table78 sends
-ad-few o f = do-few _ o 0 f (first-all rowFew (when (isEmpty (f .waitQueue)) FopEvent.E19 ∷ []) FopEvent.E20 tt)
+ad-few o f = do-few _ o 0 f (first-all rowFew (when (isEmpty (f .queues .waitQueue)) FopEvent.E19 ∷ []) FopEvent.E20 tt)
 
 bd-few : (o : List ℕ) (f : Fop) → Most 1 (fopBd o f)
 unfolding fopBd table78 sends

@@ -13,13 +13,16 @@ use borrow.Author.Tests.{eqb-true}
 use Rattle.base.specs.Choice.{pick}
 use Rattle.base.specs.Modulo.{offset, advanced}
 use Rattle.fop.specs.Units.{Fdu, Frame, AD, BD, Unlock, SetVR, Refused}
-use Rattle.fop.specs.Table.{State, S1, S2, S3, S4, S5, S6, Action, Cell, cell, NotApplicable, FopEvent, table78, cell78, Accept, Reject, Confirm, RejectAd}
+use Rattle.fop.specs.declared.State.{State}
+use Rattle.fop.specs.declared.State.the-variants.{S1, S2, S3, S4, S5, S6}
+use Rattle.fop.specs.Table.{Action, Cell, cell, NotApplicable, FopEvent, table78, cell78, Accept, Reject, Confirm, RejectAd}
 use Rattle.fop.specs.Table.{AcceptBd, RejectBd, AddToWaitQueue, LookForFdu, LookForDirective, RemoveAcknowledgedFrames, InitiateAdRetransmission, InitiateBcRetransmission}
 use Rattle.fop.specs.Table.{ReleaseBcFrame, CancelTimer, StartTimer, Alert, Initialise, TransmitUnlock, TransmitSetVr, TransmitBd, SetVs, SetNnr, SetK}
 use Rattle.fop.specs.Table.{SetT1Initial, SetTransmissionLimit, SetTimeoutType, AdOutReady, BcOutReady, BdOutReady}
 use Rattle.fop.specs.Variables.{Work, Preset}
 use Rattle.fop.specs.Machine.{fdus, firstMarked, perform, performAll, performCell, lookForFdu, sendNext, sendWaiting, transmitAd, removeAcknowledged, fopDo}
 use Rattle.fop.specs.Variables.{begin}
+use Rattle.fop.specs.Effective.{effectiveOf, effective}
 use Rattle.session.specs.Ends.{Settings}
 use Rattle.session.specs.Session.{noUnit}
 use Rattle.session.specs.Claims.{IsOutstanding, member}
@@ -29,11 +32,12 @@ use Rattle.session.proofs.Ways.{look-ways}
 use Rattle.session.proofs.Core.{Session, addAll}
 use Rattle.session.proofs.Lists.{addAll-append, member-out}
 use Rattle.session.proofs.Values.{Mode, live, dead, bad, Given, word, unit, nothing, Reports, same-sent, new-sent, queue-length, queue-at}
-use Rattle.session.proofs.Rows.{after, afterAll, modeOf, matched, sound, cellOk, rowOk, do-sound, at-cell}
+use Rattle.session.proofs.Rows.{after, afterAll, modeOf, sound, cellOk, leads, Tested}
+use Rattle.session.proofs.Suspended.{suspend-all}
 use Rattle.session.proofs.Sender.{WInv, keeps}
 use Rattle.session.proofs.Queue.{found}
 use Rattle.session.proofs.Few.{purge-few}
-use Rattle.session.proofs.Inv.{Inv, Side, presetOf, in-mode, row-begins}
+use Rattle.session.proofs.Inv.{Inv, Side, presetOf, row-passes, row-sound, row-begins}
 use Rattle.session.proofs.Next.{historyOf}
 
 -- each AD frame of the list is a unit sent, at a place from C on; and there is one only where m is live
@@ -82,22 +86,22 @@ module _ (n : ℕ) (P : Preset) (C : ℕ) (gone : List (Option ℕ)) (acc sent0 
       s : List Fdu
       s = addAll n sent0 (w .frames)
 
-      again : (u : Fdu) → firstMarked (w .fop .sentQueue) ≡ some u → D live (sendNext (some u) w)
+      again : (u : Fdu) → firstMarked (w .fop .queues .sentQueue) ≡ some u → D live (sendNext (some u) w)
       again u e =
-          let i = found (w .fop .sentQueue) u e in
-          let ln = queue-length C s (w .confirmed) (fdus (w .fop .sentQueue)) (h .1 .cut) in
+          let i = found (w .fop .queues .sentQueue) u e in
+          let ln = queue-length C s (w .confirmed) (fdus (w .fop .queues .sentQueue)) (h .1 .cut) in
           let j : ℕ = C + (length (w .confirmed) + i .0) in
           let b : j < length s = omega (arith, ln, i .1) in
-          let eu : u ≡ getD s j noUnit = i .2 ∙ queue-at C s (w .confirmed) (fdus (w .fop .sentQueue)) (h .1 .cut) (i .0) in
+          let eu : u ≡ getD s j noUnit = i .2 ∙ queue-at C s (w .confirmed) (fdus (w .fop .queues .sentQueue)) (h .1 .cut) (i .0) in
           let same : addAll n s (AD u ∷ []) ≡ s = same-sent n s u j (h .0 .num) b (omega (arith, h .0)) eu in (
             d .0,
             rw (addAll-append n sent0 (w .frames) (AD u ∷ []), same)
                 (from-append m0 C s (w .frames) (AD u ∷ []) (d .1) ((d .0, j, omega arith, b, eu), tt)),
           )
 
-      new : (o : List ℕ) → offset (w .fop .vs) (w .fop .nnr) < w .fop .preset .k → w .fop .waitQueue ≡ some o → D live (sendWaiting (some o) w)
+      new : (o : List ℕ) → offset (w .fop .numbers .vs) (w .fop .numbers .nnr) < w .fop .preset .k → w .fop .queues .waitQueue ≡ some o → D live (sendWaiting (some o) w)
       new o r e =
-          let u : Fdu = record { ns = w .fop .vs; octets = o } in
+          let u : Fdu = record { ns = w .fop .numbers .vs; octets = o } in
           let more : addAll n s (AD u ∷ []) ≡ s ++ (u ∷ []) = new-sent n s u (h .1 .isVs) in (
             d .0,
             rw (addAll-append n sent0 (w .frames) (AD u ∷ []), more)
@@ -108,8 +112,8 @@ module _ (n : ℕ) (P : Preset) (C : ℕ) (gone : List (Option ℕ)) (acc sent0 
   bd-from : (m : Mode) (w : Work) → D m w → D m (perform TransmitBd w)
   unfolding perform
   bd-from live w d =
-      (d .0, rw (addAll-append n sent0 (w .frames) (BD (w .octets) ∷ [])) (from-append m0 C _ (w .frames) (BD (w .octets) ∷ []) (d .1) tt))
-  bd-from dead w d = rw (addAll-append n sent0 (w .frames) (BD (w .octets) ∷ [])) (from-append m0 C _ (w .frames) (BD (w .octets) ∷ []) d tt)
+      (d .0, rw (addAll-append n sent0 (w .frames) (BD (w .asked .octets) ∷ [])) (from-append m0 C _ (w .frames) (BD (w .asked .octets) ∷ []) (d .1) tt))
+  bd-from dead w d = rw (addAll-append n sent0 (w .frames) (BD (w .asked .octets) ∷ [])) (from-append m0 C _ (w .frames) (BD (w .asked .octets) ∷ []) d tt)
   bd-from bad w d = tt
 
   purged : (w : Work) → From m0 C (addAll n sent0 (w .frames)) (w .frames) → From m0 C (addAll n sent0 ((purge w) .frames)) ((purge w) .frames)
@@ -183,13 +187,16 @@ module _ (n : ℕ) (P : Preset) (C : ℕ) (gone : List (Option ℕ)) (acc sent0 
   from-all (x ∷ xs) m w h d =
       from-all xs (after given x m) (perform x w) (keeps n P C gone acc sent0 fr0 given a x m w h) (from x m w h d)
 
-  cell-from : (c : Cell) (w : Work) → T (cellOk given (w .fop .state) c) → I (modeOf (w .fop .state)) w → D (modeOf (w .fop .state)) w
-      → D (modeOf ((performCell c w) .fop .state)) (performCell c w)
+  cell-from : (c : Cell) (w : Work) → T (cellOk given (w .fop .suspendState) (w .fop .state) c) → I (modeOf (effective (w .fop))) w
+      → D (modeOf (effective (w .fop))) w
+      → D (modeOf (effective ((performCell c w) .fop))) (performCell c w)
   unfolding performCell
   cell-from NotApplicable w t h d = d
   cell-from (ifNotSuspended xs ys s) w t h d = absurd t
   cell-from (cell xs s) w t h d =
-      rw (← matched (afterAll given xs (modeOf (w .fop .state))) (modeOf s) t) (from-all xs (modeOf (w .fop .state)) w h d)
+      subst (λ (n : ℕ). D (modeOf (effectiveOf s n)) (performCell (cell xs s) w)) (sym (suspend-all xs w))
+      (subst (λ (m : Mode). D m (performCell (cell xs s) w)) (leads given (w .fop .suspendState) (w .fop .state) xs s t)
+      (from-all xs (modeOf (effective (w .fop))) w h d))
 
 start-from : (n C : ℕ) (P : Preset) (gone : List (Option ℕ)) (acc sent0 : List Fdu) (fr0 : List Frame) (given : Given) (a : ℕ) (m : Mode) (w : Work)
     → w .frames ≡ []
@@ -205,23 +212,22 @@ end-from n C P gone acc sent0 fr0 given a m0 dead w g d = d
 end-from n C P gone acc sent0 fr0 given a m0 bad w g d = absurd g
 
 module _ (set : Settings) (σ : Session) (I : Inv set σ) where
-  pub row-from : (given : Given) (a : ℕ) (e : FopEvent) (o : List ℕ) (v : ℕ) → T (rowOk given e) → length (σ .confirmed) ≤ a
+  pub row-from : (given : Given) (a : ℕ) (e : FopEvent) (o : List ℕ) (v : ℕ) → Tested given e (σ .fop .suspendState) → length (σ .confirmed) ≤ a
       → Reports given (set .n) a (length (σ .accepted)) v o
-      → From (modeOf (σ .fop .state)) (length (σ .confirmed)) (addAll (set .n) (σ .sent) ((fopDo e o v (σ .fop)) .frames)) ((fopDo e o v (σ .fop)) .frames)
+      → From (modeOf (effective (σ .fop))) (length (σ .confirmed)) (addAll (set .n) (σ .sent) ((fopDo e o v (σ .fop)) .frames)) ((fopDo e o v (σ .fop)) .frames)
   unfolding fopDo
   row-from given a e o v t l r =
-      let g : T (sound (modeOf (σ .fop .state))) = in-mode set σ I in
-      end-from (set .n) (length (σ .confirmed)) (presetOf set) (σ .denied) (σ .accepted) (σ .sent) (σ .frames) given a (modeOf (σ .fop .state))
-      (modeOf ((fopDo e o v (σ .fop)) .fop .state)) (fopDo e o v (σ .fop))
-      (do-sound given e o v (σ .fop) t g)
-      (cell-from (set .n) (presetOf set) (length (σ .confirmed)) (σ .denied) (σ .accepted) (σ .sent) (σ .frames) given a (modeOf (σ .fop .state))
+      end-from (set .n) (length (σ .confirmed)) (presetOf set) (σ .denied) (σ .accepted) (σ .sent) (σ .frames) given a (modeOf (effective (σ .fop)))
+      (modeOf (effective ((fopDo e o v (σ .fop)) .fop))) (fopDo e o v (σ .fop))
+      (row-sound set σ I given e t o v)
+      (cell-from (set .n) (presetOf set) (length (σ .confirmed)) (σ .denied) (σ .accepted) (σ .sent) (σ .frames) given a (modeOf (effective (σ .fop)))
       (cell78 (table78 e) (σ .fop .state)) (begin (some e) o v (σ .fop))
-      (at-cell (cellOk given) (table78 e) (σ .fop .state) t g) (row-begins set σ I given a o v l r (some e))
-      (start-from (set .n) (length (σ .confirmed)) (presetOf set) (σ .denied) (σ .accepted) (σ .sent) (σ .frames) given a (modeOf (σ .fop .state))
+      (row-passes set σ I given e t) (row-begins set σ I given a o v l r (some e))
+      (start-from (set .n) (length (σ .confirmed)) (presetOf set) (σ .denied) (σ .accepted) (σ .sent) (σ .frames) given a (modeOf (effective (σ .fop)))
       (begin (some e) o v (σ .fop)) refl))
 
   -- a sender in service has denied nothing
-  serving : (s : State) → Side (modeOf s) (set .n) (length (σ .confirmed)) (σ .sent) (σ .denied) (fdus (σ .fop .sentQueue)) (σ .fop .vs) (σ .fop .nnr)
+  serving : (s : State) → Side (modeOf s) (set .n) (length (σ .confirmed)) (σ .sent) (σ .denied) (fdus (σ .fop .queues .sentQueue)) (σ .fop .numbers .vs) (σ .fop .numbers .nnr)
       → modeOf s ≡ live → σ .denied ≡ []
   serving S1 h e = h .fresh
   serving S2 h e = h .fresh
@@ -231,14 +237,14 @@ module _ (set : Settings) (σ : Session) (I : Inv set σ) where
   serving S6 h e = let z : _≡_ {A = ℕ} 0 1 = cc in absurd (omega arith)
 
   -- the one AD frame handed down
-  pub is-handed : (u : Fdu) → From (modeOf (σ .fop .state)) (length (σ .confirmed)) (addAll (set .n) (σ .sent) (AD u ∷ [])) (AD u ∷ [])
+  pub is-handed : (u : Fdu) → From (modeOf (effective (σ .fop))) (length (σ .confirmed)) (addAll (set .n) (σ .sent) (AD u ∷ [])) (AD u ∷ [])
       → (u .ns ≡ advanced (set .n) (length (σ .sent))) ⊎ ((i : ℕ) × IsOutstanding (historyOf σ) i × (u ≡ getD (σ .sent) i noUnit))
   is-handed u h = go (eqb (u .ns) (advanced (set .n) (length (σ .sent)))) refl h
     where
       go : (b : Bool) → eqb (u .ns) (advanced (set .n) (length (σ .sent))) ≡ b
-          → From (modeOf (σ .fop .state)) (length (σ .confirmed)) (pick b (σ .sent ++ (u ∷ [])) (σ .sent)) (AD u ∷ [])
+          → From (modeOf (effective (σ .fop))) (length (σ .confirmed)) (pick b (σ .sent ++ (u ∷ [])) (σ .sent)) (AD u ∷ [])
           → (u .ns ≡ advanced (set .n) (length (σ .sent))) ⊎ ((i : ℕ) × IsOutstanding (historyOf σ) i × (u ≡ getD (σ .sent) i noUnit))
       go true e h = inl (eqb-true _ _ e)
       go false e h =
-          let f = serving (σ .fop .state) (I .side) (h .0 .0) in
+          let f = serving (effective (σ .fop)) (I .side) (h .0 .0) in
           inr (h .0 .1, (h .0 .3, ap (member (h .0 .1)) (I .places) ∙ member-out (h .0 .1) 0 (length (σ .confirmed)) (omega (arith, h .0 .2)), rw f), h .0 .4)

@@ -18,13 +18,14 @@ use Rattle.fop.specs.Variables.{Fop, Work}
 use Rattle.fop.specs.Machine.{perform, performCell, sendNext, sendWaiting, transmitAd, transmitBc}
 use Rattle.fop.specs.Variables.{begin}
 use Rattle.fop.specs.Machine.{removeAcknowledged, fopDo}
-use Rattle.fop.specs.Events.{Line, when, first, wordLines, wordEvent, seen, fopWord, fopAd, fopBd, fopTick, fopLower, Lower, directiveLines, directiveEvent, validDirective, fopDirective, SenderEvent, requestAd, requestBd, lower, directive, wordArrives, work}
+use Rattle.fop.specs.declared.Lower.{Lower}
+use Rattle.fop.specs.Events.{Line, when, first, wordLines, wordEvent, seen, fopWord, fopAd, fopBd, fopTick, fopLower, directiveLines, directiveEvent, validDirective, fopDirective, SenderEvent, requestAd, requestBd, lower, directive, wordArrives, work}
 use Rattle.fop.specs.Events.{isEmpty, fopReceived}
 use Rattle.fop.specs.Events as fop
 use Rattle.base.proofs.Computed.{is-true}
 use Rattle.session.proofs.Choices.{by-pick, and-l, and-r, and-both, unrefused, upto, _also_}
 use Rattle.session.proofs.Ways.{look-ways, directive-ways, purge-ways}
-use Rattle.session.proofs.Test.{everyCell, every-cell, allLines, first-all, lower-all, lowered, tick-ways, Keeps, where-so, allKeep, all-keep}
+use Rattle.session.proofs.Test.{everyCell, every-cell, allLines, first-all, lower-all, lowered, tick-ways, never-suspends, Keeps, where-so, allKeep, all-keep}
 use Rattle.session.proofs.Inv.{fit}
 
 -- Suspend_State, Timeout_Type and the notification; z says that the value in hand is 0
@@ -32,7 +33,7 @@ abbrev Still : Bool → ℕ → ℕ → Bool → ℕ → Type 0
 Still z s t n v = (s ≡ 0) × (t ≡ 0) × (n ≡ false) × (z ≡ true → v ≡ 0)
 
 abbrev J : Bool → Work → Type 0
-J z w = Still z (w .fop .suspendState) (w .fop .preset .timeoutType) (w .suspended) (w .value)
+J z w = Still z (w .fop .suspendState) (w .fop .preset .timeoutType) (w .notices .suspended) (w .asked .value)
 
 -- every action but those of suspension, SS := n and Suspend, each with its proof; Set TT needs the value 0
 unfoldable still : (z : Bool) (x : Action) → Option (Keeps (J z) x)
@@ -46,7 +47,7 @@ still z AcceptBd = some (λ w h. h)
 still z RejectBd = some (λ w h. h)
 still z AddToWaitQueue = some (λ w h. h)
 still z LookForFdu = some (λ w h. look-ways (J z) w h (λ u e. h) (λ o r e. h))
-still z LookForDirective = some (λ w h. directive-ways (J z) w h (λ b. h) (w .fop .bcFrame))
+still z LookForDirective = some (λ w h. directive-ways (J z) w h (λ b. h) (w .fop .queues .bcFrame))
 still z RemoveAcknowledgedFrames = some (λ w h. h)
 still z InitiateAdRetransmission = some (λ w h. h)
 still z InitiateBcRetransmission = some (λ w h. h)
@@ -92,7 +93,7 @@ pub record Idle (f : Fop) : Type 0 where
   pub alerting : f .preset .timeoutType ≡ 0
 
 abbrev Stays : Work → Type 0
-Stays w = Idle (w .fop) × (w .suspended ≡ false)
+Stays w = Idle (w .fop) × (w .notices .suspended ≡ false)
 
 do-still : (z : Bool) (e : FopEvent) (o : List ℕ) (v : ℕ) (f : Fop) → T (rowStill z e) → (z ≡ true → v ≡ 0) → Idle f → Stays (fopDo e o v f)
 unfolding fopDo
@@ -104,7 +105,7 @@ tick-still : (f : Fop) → Idle f → Stays (fopTick f)
 unfolding table78 still
 tick-still f h =
     let k : Idle (lowered f) = record { notSuspended = h .notSuspended; alerting = h .alerting } in
-    tick-ways (rowStill false) tt Stays f (eq-eqb (f .preset .timeoutType) 0 (h .alerting))
+    tick-ways (rowStill false) tt Stays f (never-suspends f (eq-eqb (f .preset .timeoutType) 0 (h .alerting)))
     (λ e t. do-still false e [] 0 (lowered f) t (λ y. absurd (false≢true y)) k) (k, refl)
 
 lower-still : (l : Lower) (f : Fop) → Idle f → Stays (fopLower l f)
@@ -121,7 +122,7 @@ received-still (other r) f h = (h, refl)
 ad-still : (o : List ℕ) (f : Fop) → Idle f → Stays (fopAd o f)
 unfolding fopAd table78 still
 ad-still o f h =
-    do-still false _ o 0 f (first-all (rowStill false) (when (isEmpty (f .waitQueue)) FopEvent.E19 ∷ []) FopEvent.E20 tt) (λ e. absurd (false≢true e)) h
+    do-still false _ o 0 f (first-all (rowStill false) (when (isEmpty (f .queues .waitQueue)) FopEvent.E19 ∷ []) FopEvent.E20 tt) (λ e. absurd (false≢true e)) h
 
 bd-still : (o : List ℕ) (f : Fop) → Idle f → Stays (fopBd o f)
 unfolding fopBd table78 still

@@ -1,4 +1,5 @@
 -- The session's invariant, and that every event of the sender keeps it.
+use mathlib.Core.Logic.{inl}
 use mathlib.Core.Path.{_≡_, refl, sym, ap, _∙_}
 use mathlib.Core.Bool.{Bool, true, false, false≢true}
 use mathlib.Core.List.{List, [], _∷_, _++_, append-nil}
@@ -12,12 +13,16 @@ use lib.Seq.{drop-drop, drop-append-seam}
 use borrow.Author.Tests.{eq-eqb, eqb-true, leb-true, le-leb}
 use Rattle.base.specs.Choice.{pick}
 use Rattle.base.specs.Modulo.{advanced}
+use Rattle.fop.specs.Limits.{largestTimeoutType}
 use Rattle.fop.specs.Units.{Fdu, Frame, Word, Own, legal, wordOctets}
+use Rattle.fop.specs.declared.State.{State}
 use Rattle.fop.specs.Table.{FopEvent}
 use Rattle.fop.specs.Variables.{Fop, Work, Preset, begin, setClock}
+use Rattle.fop.specs.Effective.{effective}
 use Rattle.fop.specs.Machine.{fdus, fopDo}
 use Rattle.fop.specs.Events.{fopWord, fopAd, fopBd, fopTick, fopLower, fopDirective, directiveEvent, fopReceived, isEmpty, SenderEvent, requestAd}
-use Rattle.fop.specs.Events.{requestBd, lower, directive, wordArrives, work, Lower, seen}
+use Rattle.fop.specs.declared.Lower.{Lower}
+use Rattle.fop.specs.Events.{requestBd, lower, directive, wordArrives, work, lowerEvent, seen}
 use Rattle.fop.specs.Answers.{judged, senderRefusal, needed}
 use Rattle.farm.specs.declared.State.{State as FarmState}
 use Rattle.farm.specs.declared.State.the-variants.{Open, Wait, Lockout}
@@ -28,19 +33,20 @@ use Rattle.session.specs.Session.{places}
 use Rattle.session.specs.Stronger.{Sub}
 use Rattle.fop.specs.Events as fop
 use Rattle.session.proofs.Choices.{by-pick, unrefused}
-use Rattle.session.proofs.Test.{lowered, tick-ways}
+use Rattle.session.proofs.Test.{lowered, tick-ways, never-suspends}
+use Rattle.session.proofs.Suspended.{unsuspended}
 use Rattle.session.proofs.Core.{Session, addAll, firstOf, answered, sender, goes, channels, wordCome}
 use Rattle.session.proofs.Lists.{iota, iota-append, length-iota}
 use Rattle.session.proofs.Chan.{Wds, wds-le, wds-lower}
 use Rattle.session.proofs.Values.{Base, Live, Dead, Mode, live, dead, bad, Given, word, unit, nothing, Reports, WaitOk, WI, run-places}
-use Rattle.session.proofs.Rows.{modeOf, sound, rowOk, do-sound, word-ok, timer-ok, ad-ok, bd-ok, lower-ok, terminate-ok}
+use Rattle.session.proofs.Rows.{modeOf, sound, rowAny, Tested, any, Passes, passes, do-stays, do-sound, do-unsuspended, word-ok, timer-ok, ad-ok, bd-ok, lower-ok, terminate-ok}
 use Rattle.session.proofs.Sender.{do-keeps, WInv}
 use Rattle.session.proofs.Octets.{word-back}
 use Rattle.session.proofs.Bds.{bdsOf, bd-handed}
 
 -- the sender's part of the settings
 abbrev pub presetOf : Settings → Preset
-presetOf s = record { k = s .k; transmissionLimit = s .limit; t1Initial = s .t1; timeoutType = 0 }
+presetOf s = record { k = s .k; transmissionLimit = s .limit; t1Initial = s .t1; timeoutType = s .timeoutType }
 
 -- the sender's part
 abbrev pub Side : Mode → ℕ → ℕ → List Fdu → List (Option ℕ) → List Fdu → ℕ → ℕ → Type 0
@@ -61,12 +67,19 @@ pub record Rcv (set : Settings) (v : Variables) (A D : ℕ) : Type 0 where
   pub noLock : v .lockout ≡ false
   pub counted : v .counter ≡ (set .counter + D) % 4
 
+-- Suspend_State is 0 but in Initial. For now it "stays 0", with Timeout_Type within its limit.
+pub record Suspension (set : Settings) (state : State) (suspendState : ℕ) : Type 0 where
+  pub outside : T (unsuspended state suspendState)
+  pub serving : suspendState ≡ 0
+  pub type-most : set .timeoutType ≤ largestTimeoutType
+
 -- the invariant; it knows nothing of buffers
 pub record Inv (set : Settings) (σ : Session) : Type 0 where
   pub base : Base (set .n) (set .k) (length (σ .confirmed)) (σ .accepted) (σ .sent) (σ .frames) []
-  pub side : Side (modeOf (σ .fop .state)) (set .n) (length (σ .confirmed)) (σ .sent) (σ .denied) (fdus (σ .fop .sentQueue)) (σ .fop .vs) (σ .fop .nnr)
+  pub side : Side (modeOf (effective (σ .fop))) (set .n) (length (σ .confirmed)) (σ .sent) (σ .denied) (fdus (σ .fop .queues .sentQueue)) (σ .fop .numbers .vs) (σ .fop .numbers .nnr)
+  pub suspension : Suspension set (σ .fop .state) (σ .fop .suspendState)
   pub isSet : σ .fop .preset ≡ presetOf set
-  pub waiting : WaitOk (σ .fop .waitQueue)
+  pub waiting : WaitOk (σ .fop .queues .waitQueue)
   pub places : σ .confirmed ≡ iota 0 (length (σ .confirmed))
   pub words : Wds (set .n) (length (σ .confirmed)) (length (σ .accepted)) (σ .words)
   pub receiver : Rcv set (σ .farm) (length (σ .accepted)) (length (σ .acceptedBd))
@@ -148,19 +161,19 @@ leave dead n P C D gone acc given a sent fr conf den q vs nn p v wt o e g h =
 leave bad n P C D gone acc given a sent fr conf den q vs nn p v wt o e g h = absurd g
 
 -- an answer, with ws the words left, and a the count that the word in hand reports, or the count confirmed
-answered-keeps : (set : Settings) (σ : Session) (ws : List Word) (given : Given) (a : ℕ) (w : Work) → Inv set σ → T (sound (modeOf (w .fop .state)))
-    → WInv (set .n) (presetOf set) (length (σ .confirmed)) (σ .denied) (σ .accepted) (σ .sent) (σ .frames) given a (modeOf (w .fop .state)) w
+answered-keeps : (set : Settings) (σ : Session) (ws : List Word) (given : Given) (a : ℕ) (w : Work) → Inv set σ → Suspension set (w .fop .state) (w .fop .suspendState) → T (sound (modeOf (effective (w .fop))))
+    → WInv (set .n) (presetOf set) (length (σ .confirmed)) (σ .denied) (σ .accepted) (σ .sent) (σ .frames) given a (modeOf (effective (w .fop))) w
     → Wds (set .n) a (length (σ .accepted)) ws → Inv set (answered (set .n) w (channels (σ .frames) ws σ))
 unfolding answered channels
-answered-keeps set σ ws given a w I g h ww =
+answered-keeps set σ ws given a w I ss g h ww =
     let n : ℕ = set .n in
     let P : Preset = presetOf set in
     let C : ℕ = length (σ .confirmed) in
     let s : List Fdu = addAll (set .n) (σ .sent) (w .frames) in
     let b : Left (set .n) (presetOf set) (length (σ .confirmed)) (σ .accepted) a (addAll (set .n) (σ .sent) (w .frames)) (σ .frames ++ w .frames)
-    (w .confirmed) (w .fop .preset) (w .fop .waitQueue) =
-    base-of (modeOf (w .fop .state)) n P C (σ .denied) (σ .accepted) given a s (σ .frames ++ w .frames) (w .confirmed) (w .denied) (fdus (w .fop .sentQueue))
-    (w .fop .vs) (w .fop .nnr) (w .fop .preset) (w .value) (w .fop .waitQueue) (w .octets) g h in
+    (w .confirmed) (w .fop .preset) (w .fop .queues .waitQueue) =
+    base-of (modeOf (effective (w .fop))) n P C (σ .denied) (σ .accepted) given a s (σ .frames ++ w .frames) (w .confirmed) (w .denied) (fdus (w .fop .queues .sentQueue))
+    (w .fop .numbers .vs) (w .fop .numbers .nnr) (w .fop .preset) (w .asked .value) (w .fop .queues .waitQueue) (w .asked .octets) g h in
     let most = b .most in
     let wide : length (addAll (set .n) (σ .sent) (w .frames)) ≤ length (σ .confirmed) + 0 + 256 = omega (arith, b .base, I .base) in
     let p0 : places (addAll (set .n) (σ .sent) (w .frames)) (firstOf (w .confirmed)) (length (w .confirmed))
@@ -172,9 +185,10 @@ answered-keeps set σ ws given a w I g h ww =
     length-append (σ .confirmed) _ ∙ ap (λ (x : ℕ). C + x) (ap length p ∙ length-iota C (length (w .confirmed))) in
     record {
       base = rebase n (set .k) C _ (σ .accepted) s (σ .frames ++ w .frames) (w .confirmed) D (b .base);
-      side = leave (modeOf (w .fop .state)) n P C _ (σ .denied) (σ .accepted) given a s (σ .frames ++ w .frames) (w .confirmed) (w .denied)
-          (fdus (w .fop .sentQueue))
-          (w .fop .vs) (w .fop .nnr) (w .fop .preset) (w .value) (w .fop .waitQueue) (w .octets) D g h;
+      side = leave (modeOf (effective (w .fop))) n P C _ (σ .denied) (σ .accepted) given a s (σ .frames ++ w .frames) (w .confirmed) (w .denied)
+          (fdus (w .fop .queues .sentQueue))
+          (w .fop .numbers .vs) (w .fop .numbers .nnr) (w .fop .preset) (w .asked .value) (w .fop .queues .waitQueue) (w .asked .octets) D g h;
+      suspension = ss;
       isSet = b .isSet;
       waiting = b .waiting;
       places = conf-iota (σ .confirmed) _ (length (w .confirmed)) (I .places) p;
@@ -184,8 +198,23 @@ answered-keeps set σ ws given a w I g h ww =
     }
 
 -- the sender's mode is one of the session
-pub in-mode : (set : Settings) (σ : Session) → Inv set σ → T (sound (modeOf (σ .fop .state)))
-in-mode set σ I = is-sound (modeOf (σ .fop .state)) (set .n) _ _ _ _ _ _ (I .side)
+pub in-mode : (set : Settings) (σ : Session) → Inv set σ → T (sound (modeOf (effective (σ .fop))))
+in-mode set σ I = is-sound (modeOf (effective (σ .fop))) (set .n) _ _ _ _ _ _ (I .side)
+
+-- a row that passes the test does so for the sender, and keeps what is known of Suspend_State
+module _ (set : Settings) (σ : Session) (I : Inv set σ) (given : Given) (e : FopEvent) (t : Tested given e (σ .fop .suspendState)) where
+  pub row-passes : Passes given e (σ .fop)
+  row-passes = passes given e (σ .fop) t (in-mode set σ I) (I .suspension .outside)
+
+  pub row-sound : (o : List ℕ) (v : ℕ) → T (sound (modeOf (effective ((fopDo e o v (σ .fop)) .fop))))
+  row-sound o v = do-sound given e o v (σ .fop) row-passes (in-mode set σ I)
+
+  row-suspension : (o : List ℕ) (v : ℕ) → Suspension set ((fopDo e o v (σ .fop)) .fop .state) ((fopDo e o v (σ .fop)) .fop .suspendState)
+  row-suspension o v = record {
+    outside = do-unsuspended given e o v (σ .fop) row-passes (I .suspension .outside);
+    serving = do-stays given e (σ .fop) t (in-mode set σ I) (I .suspension .serving) o v;
+    type-most = I .suspension .type-most;
+  }
 
 -- the work on an event, as it begins and after its row; a is what the word in hand reports, or the count confirmed
 module _ (set : Settings) (σ : Session) (I : Inv set σ) (given : Given) (a : ℕ) (o : List ℕ) (v : ℕ) (l : length (σ .confirmed) ≤ a)
@@ -193,31 +222,32 @@ module _ (set : Settings) (σ : Session) (I : Inv set σ) (given : Given) (a : �
   abbrev W : Mode → Work → Type 0
   W m w = WInv (set .n) (presetOf set) (length (σ .confirmed)) (σ .denied) (σ .accepted) (σ .sent) (σ .frames) given a m w
 
-  pub row-begins : (e : Option FopEvent) → W (modeOf (σ .fop .state)) (begin e o v (σ .fop))
+  pub row-begins : (e : Option FopEvent) → W (modeOf (effective (σ .fop))) (begin e o v (σ .fop))
   row-begins e =
-      enter (modeOf (σ .fop .state)) (set .n) (presetOf set) _ (σ .accepted) (σ .sent) (σ .frames) (σ .denied) _ _ _ (σ .fop .preset) given a v
-      (σ .fop .waitQueue) o (I .base) (I .side) l rp (I .isSet) (I .waiting)
+      enter (modeOf (effective (σ .fop))) (set .n) (presetOf set) _ (σ .accepted) (σ .sent) (σ .frames) (σ .denied) _ _ _ (σ .fop .preset) given a v
+      (σ .fop .queues .waitQueue) o (I .base) (I .side) l rp (I .isSet) (I .waiting)
 
-  row-does : (e : FopEvent) → T (rowOk given e) → W (modeOf ((fopDo e o v (σ .fop)) .fop .state)) (fopDo e o v (σ .fop))
+  row-does : (e : FopEvent) → Tested given e (σ .fop .suspendState) → W (modeOf (effective ((fopDo e o v (σ .fop)) .fop))) (fopDo e o v (σ .fop))
   row-does e t =
-      do-keeps (set .n) (presetOf set) (length (σ .confirmed)) (σ .denied) (σ .accepted) (σ .sent) (σ .frames) given a e o v (σ .fop) t
-      (in-mode set σ I) (row-begins (some e))
+      do-keeps (set .n) (presetOf set) (length (σ .confirmed)) (σ .denied) (σ .accepted) (σ .sent) (σ .frames) given a e o v (σ .fop) (row-passes set σ I given e t)
+      (row-begins (some e))
 
 -- a row of the table keeps the invariant
 row-keeps : (set : Settings) (σ : Session) (ws : List Word) (given : Given) (a : ℕ) (e : FopEvent) (o : List ℕ) (v : ℕ) → Inv set σ
-    → T (rowOk given e) → length (σ .confirmed) ≤ a → Reports given (set .n) a (length (σ .accepted)) v o → Wds (set .n) a (length (σ .accepted)) ws
+    → Tested given e (σ .fop .suspendState) → length (σ .confirmed) ≤ a → Reports given (set .n) a (length (σ .accepted)) v o → Wds (set .n) a (length (σ .accepted)) ws
     → Inv set (answered (set .n) (fopDo e o v (σ .fop)) (channels (σ .frames) ws σ))
 row-keeps set σ ws given a e o v I t l rp ww =
-    answered-keeps set σ ws given a (fopDo e o v (σ .fop)) I (do-sound given e o v (σ .fop) t (in-mode set σ I)) (row-does set σ I given a o v l rp e t) ww
+    answered-keeps set σ ws given a (fopDo e o v (σ .fop)) I (row-suspension set σ I given e t o v) (row-sound set σ I given e t o v)
+    (row-does set σ I given a o v l rp e t) ww
 
 -- no more is confirmed than what is reported
-pub row-bound : (set : Settings) (σ : Session) (given : Given) (a : ℕ) (e : FopEvent) (o : List ℕ) (v : ℕ) → Inv set σ → T (rowOk given e)
+pub row-bound : (set : Settings) (σ : Session) (given : Given) (a : ℕ) (e : FopEvent) (o : List ℕ) (v : ℕ) → Inv set σ → Tested given e (σ .fop .suspendState)
     → length (σ .confirmed) ≤ a → Reports given (set .n) a (length (σ .accepted)) v o
     → length (σ .confirmed) + length ((fopDo e o v (σ .fop)) .confirmed) ≤ a
 row-bound set σ given a e o v I t l rp =
     let w : Work = fopDo e o v (σ .fop) in
-    base-of (modeOf (w .fop .state)) (set .n) (presetOf set) (length (σ .confirmed)) (σ .denied) (σ .accepted) given a _ _ _ _ _ _ _
-    (w .fop .preset) (w .value) (w .fop .waitQueue) (w .octets) (do-sound given e o v (σ .fop) t (in-mode set σ I)) (row-does set σ I given a o v l rp e t)
+    base-of (modeOf (effective (w .fop))) (set .n) (presetOf set) (length (σ .confirmed)) (σ .denied) (σ .accepted) given a _ _ _ _ _ _ _
+    (w .fop .preset) (w .asked .value) (w .fop .queues .waitQueue) (w .asked .octets) (row-sound set σ I given e t o v) (row-does set σ I given a o v l rp e t)
     .most
 
 -- The events of the sender, each by its rows. `work` is what the table does, whether or not the event is then refused.
@@ -242,17 +272,17 @@ withFop f σ =
 -- another timer and Transmission_Count
 pub timed : (set : Settings) (t c : ℕ) (σ : Session) → Inv set σ → Inv set (withFop (setClock t c (σ .fop)) σ)
 timed set t c σ I =
-    record { base = I .base; side = I .side; isSet = I .isSet; waiting = I .waiting; places = I .places; words = I .words; receiver = I .receiver; bd = I .bd }
+    record { base = I .base; side = I .side; suspension = I .suspension; isSet = I .isSet; waiting = I .waiting; places = I .places; words = I .words; receiver = I .receiver; bd = I .bd }
 
 -- other words under way
 pub words-are : (set : Settings) (σ : Session) (ws : List Word) → Inv set σ → Wds (set .n) (length (σ .confirmed)) (length (σ .accepted)) ws
     → Inv set (channels (σ .frames) ws σ)
 unfolding channels
 words-are set σ ws I h =
-    record { base = I .base; side = I .side; isSet = I .isSet; waiting = I .waiting; places = I .places; words = h; receiver = I .receiver; bd = I .bd }
+    record { base = I .base; side = I .side; suspension = I .suspension; isSet = I .isSet; waiting = I .waiting; places = I .places; words = h; receiver = I .receiver; bd = I .bd }
 
 -- a row that no word brings
-plain-keeps : (set : Settings) (σ : Session) (given : Given) (e : FopEvent) (o : List ℕ) (v : ℕ) → Inv set σ → T (rowOk given e)
+plain-keeps : (set : Settings) (σ : Session) (given : Given) (e : FopEvent) (o : List ℕ) (v : ℕ) → Inv set σ → Tested given e (σ .fop .suspendState)
     → Reports given (set .n) (length (σ .confirmed)) (length (σ .accepted)) v o
     → Inv set (answered (set .n) (fopDo e o v (σ .fop)) σ)
 unfolding channels
@@ -260,16 +290,16 @@ plain-keeps set σ given e o v I t r = row-keeps set σ (σ .words) given (lengt
 
 -- Timeout_Type is 0
 pub alerting : (set : Settings) (σ : Session) → Inv set σ → eqb (σ .fop .preset .timeoutType) 0 ≡ true
-alerting set σ I = eq-eqb (σ .fop .preset .timeoutType) 0 (ap (λ (p : Preset). p .timeoutType) (I .isSet))
+alerting set σ I = eq-eqb (σ .fop .preset .timeoutType) 0 (omega (arith, ap (λ (p : Preset). p .timeoutType) (I .isSet), I .suspension .type-most))
 
 tick-keeps : (set : Settings) (σ : Session) → Inv set σ → Inv set (answered (set .n) (fopTick (σ .fop)) σ)
 unfolding answered channels
 tick-keeps set σ I =
     let τ : Session = withFop (lowered (σ .fop)) σ in
     let J : Inv set τ = timed set _ _ σ I in
-    tick-ways (rowOk nothing) timer-ok (λ w. Inv set (answered (set .n) w σ)) (σ .fop) (alerting set σ I)
-    (λ e t. row-keeps set τ (σ .words) nothing (length (σ .confirmed)) e [] 0 J t (omega arith) tt (I .words))
-    (answered-keeps set τ (σ .words) nothing (length (σ .confirmed)) (begin none [] 0 (τ .fop)) J (in-mode set σ I)
+    tick-ways (rowAny nothing) timer-ok (λ w. Inv set (answered (set .n) w σ)) (σ .fop) (never-suspends (σ .fop) (alerting set σ I))
+    (λ e t. row-keeps set τ (σ .words) nothing (length (σ .confirmed)) e [] 0 J (any nothing e t) (omega arith) tt (I .words))
+    (answered-keeps set τ (σ .words) nothing (length (σ .confirmed)) (begin none [] 0 (τ .fop)) J (J .suspension) (in-mode set σ I)
     (row-begins set σ I nothing (length (σ .confirmed)) [] 0 (omega arith) tt none) (I .words))
 
 -- an event that goes through was judged fit, and had its room
@@ -307,15 +337,15 @@ sender-keeps set e lent σ I h =
 
 pub ad-keeps : (set : Settings) (lent : ℕ) (o : List ℕ) (σ : Session) → Inv set σ → Inv set (sender set (requestAd o) lent σ)
 unfolding fopAd judged work
-ad-keeps set lent o σ I = sender-keeps set (requestAd o) lent σ I (λ j. plain-keeps set σ unit _ o 0 I (ad-ok (isEmpty (σ .fop .waitQueue))) (legal-of o j))
+ad-keeps set lent o σ I = sender-keeps set (requestAd o) lent σ I (λ j. plain-keeps set σ unit _ o 0 I (any unit _ (ad-ok (isEmpty (σ .fop .queues .waitQueue)))) (legal-of o j))
 
 pub bd-keeps : (set : Settings) (lent : ℕ) (o : List ℕ) (σ : Session) → Inv set σ → Inv set (sender set (requestBd o) lent σ)
 unfolding fopBd judged work
-bd-keeps set lent o σ I = sender-keeps set (requestBd o) lent σ I (λ j. plain-keeps set σ unit _ o 0 I (bd-ok (σ .fop .out .bd)) (legal-of o j))
+bd-keeps set lent o σ I = sender-keeps set (requestBd o) lent σ I (λ j. plain-keeps set σ unit _ o 0 I (any unit _ (bd-ok (σ .fop .out .bd))) (legal-of o j))
 
 pub lower-keeps : (set : Settings) (lent : ℕ) (l : Lower) (σ : Session) → Inv set σ → Inv set (sender set (lower l) lent σ)
 unfolding fopLower work
-lower-keeps set lent l σ I = sender-keeps set (lower l) lent σ I (λ j. plain-keeps set σ nothing _ [] 0 I (lower-ok l) tt)
+lower-keeps set lent l σ I = sender-keeps set (lower l) lent σ I (λ j. plain-keeps set σ nothing (lowerEvent l) [] 0 I (lower-ok l, inl (I .suspension .serving)) tt)
 
 pub ticks-keeps : (set : Settings) (lent : ℕ) (σ : Session) → Inv set σ → Inv set (sender set fop.tick lent σ)
 unfolding work
@@ -323,7 +353,7 @@ ticks-keeps set lent σ I = sender-keeps set fop.tick lent σ I (λ j. tick-keep
 
 pub terminate-keeps : (set : Settings) (v lent : ℕ) (σ : Session) → Inv set σ → Inv set (sender set (directive 5 v) lent σ)
 unfolding fopDirective directiveEvent work
-terminate-keeps set v lent σ I = sender-keeps set (directive 5 v) lent σ I (λ j. plain-keeps set σ nothing FopEvent.E29 [] v I terminate-ok tt)
+terminate-keeps set v lent σ I = sender-keeps set (directive 5 v) lent σ I (λ j. plain-keeps set σ nothing FopEvent.E29 [] v I (any nothing FopEvent.E29 terminate-ok) tt)
 
 -- a word under way is read as it was reported
 pub word-read : (set : Settings) → Within set → (w : Word) (f : Fop) → w .counter ≤ 3 → w .nr < 256
@@ -344,4 +374,4 @@ word-keeps set vw lent σ [] I h = I
 word-keeps set vw lent σ (w ∷ ws) I h =
     sender-keeps set _ lent (channels (σ .frames) ws σ) (words-are set σ ws I (wds-lower (set .n) (h .0) _ _ ws (h .2) (h .4)))
     (λ j. rw (word-read set vw w (σ .fop) (h .3) (omega (arith, h .1)))
-    (row-keeps set σ ws word (h .0) _ [] (w .nr) I (word-ok (seen w (σ .fop))) (h .2) (h .1, wds-le (set .n) (h .0) _ ws (h .4)) (h .4)))
+    (row-keeps set σ ws word (h .0) _ [] (w .nr) I (any word _ (word-ok (seen w (σ .fop)))) (h .2) (h .1, wds-le (set .n) (h .0) _ ws (h .4)) (h .4)))

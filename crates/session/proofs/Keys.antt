@@ -7,7 +7,9 @@ use native.Mathlib.Omega.{arith}
 use lib.ListN.{length}
 use Rattle.base.specs.Modulo.{advanced}
 use Rattle.fop.specs.Units.{Word}
-use Rattle.fop.specs.Table.{State, S1, S2, S3, S4, S5, S6}
+use Rattle.fop.specs.declared.State.{State}
+use Rattle.fop.specs.declared.State.the-variants.{S1, S2, S3, S4, S5, S6}
+use Rattle.fop.specs.Effective.{effective}
 use Rattle.session.proofs.Core.{Session, report}
 use Rattle.farm.specs.declared.State.{State as FarmState}
 use Rattle.farm.specs.declared.State.the-variants.{Open, Wait, Lockout}
@@ -72,8 +74,8 @@ keys-add n S lo A v [] e l w r h = (A, e, h, l, w, r, omega arith)
 keys-add n S lo A v (x ∷ ws) e l w r h = (h .0, h .1, h .2, h .3, h .4, h .5, keys-add n S _ A v ws e l w r (h .6))
 
 pub record Tidy (n : ℕ) (σ : Session) : Type 0 where
-  pub keys : Keys n (length (σ .sent)) (floor (σ .fop .state) (length (σ .confirmed))) (2 * length (σ .accepted) + bit (σ .farm .retransmit)) (σ .words)
+  pub keys : Keys n (length (σ .sent)) (floor (effective (σ .fop)) (length (σ .confirmed))) (2 * length (σ .accepted) + bit (σ .farm .retransmit)) (σ .words)
   pub waitFlag : bit (σ .farm .wait) ≤ waits (σ .farm .state)
   pub waitMissing : waits (σ .farm .state) ≤ bit (σ .farm .retransmit)
   pub missing : length (σ .accepted) + bit (σ .farm .retransmit) ≤ length (σ .sent)
-  pub below : floor (σ .fop .state) (length (σ .confirmed)) ≤ 2 * length (σ .sent)
+  pub below : floor (effective (σ .fop)) (length (σ .confirmed)) ≤ 2 * length (σ .sent)

@@ -1,6 +1,7 @@
 pub mod Choices
 pub mod Ways
 pub mod Test
+pub mod Suspended
 pub mod Core
 pub mod Lists
 pub mod Chan

@@ -14,13 +14,14 @@ use Rattle.fop.specs.Events.{SenderEvent, requestAd, requestBd, directive, word
 use Rattle.fop.specs.Answers.{runOf, octetsDown, senderAnswer, senderNext, senderRefusal, refused}
 use Rattle.fop.specs.Answers as ans
 use Rattle.farm.specs.Table.{stepOf}
-use Rattle.farm.specs.Receiver as farm
-use Rattle.farm.specs.Receiver.{wordOf}
+use Rattle.receiver.specs.Channel as channel
+use Rattle.receiver.specs.Receiver as farm
+use Rattle.receiver.specs.Receiver.{wordOf}
 use Rattle.farm.specs.declared.Event.the-variants.{E10}
-use Rattle.farm.specs.declared.Receiver.{Receiver}
-use Rattle.farm.specs.declared.Received.{Received}
-use Rattle.farm.specs.declared.Released.{Released}
-use Rattle.farm.specs.declared.Released.the-variants.{Done, NoneTaken}
+use Rattle.receiver.specs.declared.Receiver.{Receiver}
+use Rattle.receiver.specs.declared.Received.{Received}
+use Rattle.receiver.specs.declared.Released.{Released}
+use Rattle.receiver.specs.declared.Released.the-variants.{Done, NoneTaken}
 use Rattle.session.specs.Receiver as rcv
 use Rattle.session.specs.Receiver.{frameArrives, releaseBuffer, ReceiverAnswer, receiverNext, releaseAnswer, receiverAnswer, wordLength, receiverWord}
 use Rattle.session.specs.Frames.{read}
@@ -226,7 +227,7 @@ module _ (set : Settings) (vw : Within set) where
         → Fly (set .k) (κ .sent) (length (κ .accepted)) (length (κ .accepted)) (x ∷ fs)
         → Readable x → Stocked set (core.frameCome set (free set κ) (x ∷ fs) κ)
         → Rel (ses.frameCome set m (map (written (set .own)) (x ∷ fs)) σ) (core.frameCome set (free set κ) (x ∷ fs) κ)
-    unfolding ses.frameCome core.frameCome core.receiver receiverNext receiverAnswer farm.answered
+    unfolding ses.frameCome core.frameCome core.receiver receiverNext receiverAnswer farm.answered channel.answered
     arrives σ κ x fs R I h rx S =
         let rd : read (set .own) (written (set .own) x) ≡ x = reads set vw x rx in
         let got = received-is set vw (used κ) (κ .farm) x rx in
@@ -267,7 +268,7 @@ module _ (set : Settings) (vw : Within set) where
         → m .answerReceiver releaseBuffer (σ .receiver) ≡ releaseAnswer
         (must b NoneTaken (Done (farm.answered 0 E10 0 (receiverOf set (used κ - 1) (κ .farm)))))
         → Rel (ses.releases m σ) (core.releases b κ)
-    unfolding ses.releases core.releases core.receiver afterRelease farm.answered
+    unfolding ses.releases core.releases core.receiver afterRelease farm.answered channel.answered
     gave true σ κ R S f a =
         let z : used κ - 1 + 0 ≡ length (κ .accepted) - (κ .released + 1) = omega arith in
         record {

@@ -84,11 +84,11 @@ count-least : (q : List Entry) (c : ℕ) → 1 ≤ c → 1 ≤ countFor q c
 count-least [] c h = omega arith
 count-least (e ∷ q) c h = h
 
--- Transmission_Limit 1, Timeout_Type 0, Transmission_Count at least 1, nothing marked, no type-BC frame; and the frames handed down from V(S) = v on
+-- Transmission_Limit 1, Transmission_Count at least 1, nothing marked, no type-BC frame; and the frames handed down from V(S) = v on
 abbrev J : ℕ → Work → Type 0
 J v w =
-    (w .fop .preset .transmissionLimit ≡ 1) × (w .fop .preset .timeoutType ≡ 0) × (1 ≤ w .fop .clock .transmissionCount) × Unmarked (w .fop .sentQueue)
-    × (w .fop .bcFrame ≡ none) × Run v (w .frames) (w .fop .vs)
+    (w .fop .preset .transmissionLimit ≡ 1) × (1 ≤ w .fop .clock .transmissionCount) × Unmarked (w .fop .queues .sentQueue)
+    × (w .fop .queues .bcFrame ≡ none) × Run v (w .frames) (w .fop .numbers .vs)
 
 -- every action but Initiate AD retransmission, which marks, and those of directives that the session does not have
 unfoldable once : (v : ℕ) (x : Action) → Option (Keeps (J v) x)
@@ -101,20 +101,20 @@ once v RejectAd = some (λ w h. h)
 once v AcceptBd = some (λ w h. h)
 once v RejectBd = some (λ w h. h)
 once v AddToWaitQueue = some (λ w h. h)
-once v LookForFdu = some (λ w h. look-ways (J v) w h (λ u e. absurd (none-some (sym (h .3) ∙ e)))
-    (λ o r e. (h .0, h .1, count-least (w .fop .sentQueue) _ (h .2), more-unmarked (w .fop .sentQueue) _ (h .3), h .4, run-ad (w .frames) v _ _ refl (h .5))))
-once v LookForDirective = some (λ w h. subst (λ (o : Option _). J v (lookForDirective o w)) (sym (h .4)) h)
-once v RemoveAcknowledgedFrames = some (λ w h. (h .0, h .1, omega arith, rest-unmarked (w .fop .nnr) (w .value) (w .fop .sentQueue) (h .3), h .4, h .5))
+once v LookForFdu = some (λ w h. look-ways (J v) w h (λ u e. absurd (none-some (sym (h .2) ∙ e)))
+    (λ o r e. (h .0, count-least (w .fop .queues .sentQueue) _ (h .1), more-unmarked (w .fop .queues .sentQueue) _ (h .2), h .3, run-ad (w .frames) v _ _ refl (h .4))))
+once v LookForDirective = some (λ w h. subst (λ (o : Option _). J v (lookForDirective o w)) (sym (h .3)) h)
+once v RemoveAcknowledgedFrames = some (λ w h. (h .0, omega arith, rest-unmarked (w .fop .numbers .nnr) (w .asked .value) (w .fop .queues .sentQueue) (h .2), h .3, h .4))
 once v InitiateAdRetransmission = none
-once v InitiateBcRetransmission = some (λ w h. (h .0, h .1, omega arith, h .3, ap markBc (h .4), h .5))
-once v ReleaseBcFrame = some (λ w h. (h .0, h .1, h .2, h .3, refl, h .5))
+once v InitiateBcRetransmission = some (λ w h. (h .0, omega arith, h .2, ap markBc (h .3), h .4))
+once v ReleaseBcFrame = some (λ w h. (h .0, h .1, h .2, refl, h .4))
 once v CancelTimer = some (λ w h. h)
 once v StartTimer = some (λ w h. h)
-once v (Alert r) = some (λ w h. purge-ways (J v) w (h .0, h .1, h .2, refl, refl, h .5) (λ r x k. k))
+once v (Alert r) = some (λ w h. purge-ways (J v) w (h .0, h .1, refl, refl, h .4) (λ r x k. k))
 once v Initialise = none
 once v TransmitUnlock = none
 once v TransmitSetVr = none
-once v TransmitBd = some (λ w h. (h .0, h .1, h .2, h .3, h .4, run-bd (w .frames) v _ (w .octets) (h .5)))
+once v TransmitBd = some (λ w h. (h .0, h .1, h .2, h .3, run-bd (w .frames) v _ (w .asked .octets) (h .4)))
 once v (SetSuspendState n) = some (λ w h. h)
 once v Suspend = some (λ w h. h)
 once v Resume = some (λ w h. h)
@@ -145,35 +145,34 @@ rowOnce v e = everyCell (cellOnce v) (table78 e)
 -- a sender at a transmission limit of 1
 pub record Once (f : Fop) : Type 0 where
   pub limit : f .preset .transmissionLimit ≡ 1
-  pub alerting : f .preset .timeoutType ≡ 0
   pub counted : 1 ≤ f .clock .transmissionCount
-  pub unmarked : Unmarked (f .sentQueue)
-  pub noBc : f .bcFrame ≡ none
+  pub unmarked : Unmarked (f .queues .sentQueue)
+  pub noBc : f .queues .bcFrame ≡ none
 
 -- what an event leaves of it, and the frames that it hands down
 abbrev pub Stays : ℕ → Work → Type 0
-Stays v w = Once (w .fop) × Run v (w .frames) (w .fop .vs)
+Stays v w = Once (w .fop) × Run v (w .frames) (w .fop .numbers .vs)
 
-do-once : (e : FopEvent) (o : List ℕ) (n : ℕ) (f : Fop) → T (rowOnce (f .vs) e) → Once f → Stays (f .vs) (fopDo e o n f)
+do-once : (e : FopEvent) (o : List ℕ) (n : ℕ) (f : Fop) → T (rowOnce (f .numbers .vs) e) → Once f → Stays (f .numbers .vs) (fopDo e o n f)
 unfolding fopDo
 do-once e o n f t h =
-    let j = cell-once (f .vs) (cell78 (table78 e) (f .state)) (begin (some e) o n f) (every-cell (cellOnce (f .vs)) (table78 e) (f .state) t)
-    (h .limit, h .alerting, h .counted, h .unmarked, h .noBc, refl) in
-    (record { limit = j .0; alerting = j .1; counted = j .2; unmarked = j .3; noBc = j .4 }, j .5)
+    let j = cell-once (f .numbers .vs) (cell78 (table78 e) (f .state)) (begin (some e) o n f) (every-cell (cellOnce (f .numbers .vs)) (table78 e) (f .state) t)
+    (h .limit, h .counted, h .unmarked, h .noBc, refl) in
+    (record { limit = j .0; counted = j .1; unmarked = j .2; noBc = j .3 }, j .4)
 
--- the expiry at the limit is E17
-expiry-once : (v : ℕ) (short alerting : Bool) → short ≡ false → alerting ≡ true → T (rowOnce v (first (expiryLines short alerting) FopEvent.E18))
+-- the expiry at the limit is E17 or E18
+expiry-once : (v : ℕ) (short alerting : Bool) → short ≡ false → T (rowOnce v (first (expiryLines short alerting) FopEvent.E18))
 unfolding table78 once
-expiry-once v true alerting s a = absurd (true≢false s)
-expiry-once v false true s a = tt
-expiry-once v false false s a = absurd (false≢true a)
+expiry-once v true alerting s = absurd (true≢false s)
+expiry-once v false true s = tt
+expiry-once v false false s = tt
 
-tick-once : (f : Fop) → Once f → Stays (f .vs) (fopTick f)
+tick-once : (f : Fop) → Once f → Stays (f .numbers .vs) (fopTick f)
 unfolding fopTick fopExpiry
 tick-once f h =
-    let k : Once (lowered f) = record { limit = h .limit; alerting = h .alerting; counted = h .counted; unmarked = h .unmarked; noBc = h .noBc } in
-    by-pick (Stays (f .vs)) (eqb (f .clock .timer) 1)
-    (λ b. do-once _ [] 0 (lowered f) (expiry-once (f .vs) _ _ (le-ltb (f .clock .transmissionCount) (f .preset .transmissionLimit) (omega (arith, h .limit, h .counted))) (eq-eqb (f .preset .timeoutType) 0 (h .alerting))) k)
+    let k : Once (lowered f) = record { limit = h .limit; counted = h .counted; unmarked = h .unmarked; noBc = h .noBc } in
+    by-pick (Stays (f .numbers .vs)) (eqb (f .clock .timer) 1)
+    (λ b. do-once _ [] 0 (lowered f) (expiry-once (f .numbers .vs) _ _ (le-ltb (f .clock .transmissionCount) (f .preset .transmissionLimit) (omega (arith, h .limit, h .counted)))) k)
     (λ b. (k, refl))
 
 -- what a control word shows, with Transmission_Limit = 1 or not
@@ -204,27 +203,27 @@ word-once v s e = go (s .once) e
         FopEvent.E102 tt
     go false q = absurd (false≢true q)
 
-received-once : (x : WordReceived) (f : Fop) → Once f → Stays (f .vs) (fopReceived x f)
+received-once : (x : WordReceived) (f : Fop) → Once f → Stays (f .numbers .vs) (fopReceived x f)
 unfolding fopReceived fopWord wordEvent table78 once
-received-once (valid w) f h = do-once _ [] (w .nr) f (word-once (f .vs) (seen w f) (eq-eqb _ 1 (h .limit))) h
+received-once (valid w) f h = do-once _ [] (w .nr) f (word-once (f .numbers .vs) (seen w f) (eq-eqb _ 1 (h .limit))) h
 received-once invalid f h = do-once _ [] 0 f tt h
 received-once (other r) f h = (h, refl)
 
 -- an event of the session
-pub work-once : (own : Own) (ws : List (List ℕ)) (e : SenderEvent) (f : Fop) → InSession ws e → Once f → Stays (f .vs) (work own e f)
+pub work-once : (own : Own) (ws : List (List ℕ)) (e : SenderEvent) (f : Fop) → InSession ws e → Once f → Stays (f .numbers .vs) (work own e f)
 unfolding work fopAd fopBd fopLower fopDirective directiveEvent table78 once
-work-once own ws (requestAd o) f i h = do-once _ o 0 f (first-all (rowOnce (f .vs)) (when (isEmpty (f .waitQueue)) FopEvent.E19 ∷ []) FopEvent.E20 tt) h
-work-once own ws (requestBd o) f i h = do-once _ o 0 f (first-all (rowOnce (f .vs)) (when (f .out .bd) FopEvent.E21 ∷ []) FopEvent.E22 tt) h
+work-once own ws (requestAd o) f i h = do-once _ o 0 f (first-all (rowOnce (f .numbers .vs)) (when (isEmpty (f .queues .waitQueue)) FopEvent.E19 ∷ []) FopEvent.E20 tt) h
+work-once own ws (requestBd o) f i h = do-once _ o 0 f (first-all (rowOnce (f .numbers .vs)) (when (f .out .bd) FopEvent.E21 ∷ []) FopEvent.E22 tt) h
 work-once own ws fop.tick f i h = tick-once f h
-work-once own ws (lower l) f i h = do-once _ [] 0 f (lower-all (rowOnce (f .vs)) tt l) h
+work-once own ws (lower l) f i h = do-once _ [] 0 f (lower-all (rowOnce (f .numbers .vs)) tt l) h
 work-once own ws (directive d v) f i h =
-    subst (λ (x : ℕ). Stays (f .vs) (fopDirective x v f)) (sym i) (do-once FopEvent.E29 [] v f tt h)
+    subst (λ (x : ℕ). Stays (f .numbers .vs) (fopDirective x v f)) (sym i) (do-once FopEvent.E29 [] v f tt h)
 work-once own ws (wordArrives s) f i h = received-once (readWord own s) f h
 
 -- The session's sender at a limit of 1, at the start and after each event.
 pub start-once : (set : Settings) → 1 ≤ set .count → set .limit ≡ 1 → Once (begun set .fop)
 unfolding startSender
-start-once set k l = record { limit = l; alerting = refl; counted = k; unmarked = refl; noBc = refl }
+start-once set k l = record { limit = l; counted = k; unmarked = refl; noBc = refl }
 
 module _ (set : Settings) where
   sender-once : (ws : List (List ℕ)) (e : SenderEvent) (lent : ℕ) (κ : Session) → InSession ws e → Once (κ .fop) → Once ((sender set e lent κ) .fop)

@@ -12,9 +12,11 @@ use Rattle.fop.specs.Events as events
 use Rattle.session.specs.Frames as frames
 use Rattle.session.specs.Session as ses
 use Rattle.fop.specs.Units.{Fdu, AD, Word, valid, legal}
-use Rattle.fop.specs.Table.{State, S1, S2}
+use Rattle.fop.specs.declared.State.{State}
+use Rattle.fop.specs.declared.State.the-variants.{S1, S2}
 use Rattle.fop.specs.Machine.{firstMarked}
-use Rattle.fop.specs.Events.{requestAd, lower, wordArrives, adAccept}
+use Rattle.fop.specs.declared.Lower.the-variants.{AdAccept}
+use Rattle.fop.specs.Events.{requestAd, lower, wordArrives}
 use Rattle.farm.specs.declared.State.the-variants.{Open}
 use Rattle.session.specs.Ends.{Settings, tables}
 use Rattle.session.specs.Session.{Event, Linked, adRequest, ticks, lowerSays, wordMade, frameIn, frameLost, wordIn}
@@ -48,14 +50,14 @@ accepts-list = adRequest (17 ∷ []) 256 ∷ []
 abbrev Accepts : Type 0
 Accepts =
     (s : List ℕ) × (fs : List (List ℕ)) × ((after set accepts-list) .frames ≡ s ∷ fs) × (frames.read (set .own) s ≡ AD one)
-    × ((after set accepts-list) .receiver .variables .state ≡ Open) × (one .ns ≡ expected set ((after set accepts-list) .history))
+    × ((after set accepts-list) .receiver .farm .channel .variables .state ≡ Open) × (one .ns ≡ expected set ((after set accepts-list) .history))
     × BufferFree set ((after set accepts-list) .history)
 
 -- "An active sender with a ready lower layer ..": at the start
 abbrev Offered : Type 0
 Offered =
     (legal (17 ∷ []) ≡ true) × Lent set (requestAd (17 ∷ [])) 8 ((after set []) .sender) × ((after set []) .sender .state ≡ S1)
-    × ((after set []) .sender .out .ad ≡ true) × ((after set []) .sender .waitQueue ≡ none) × (firstMarked ((after set []) .sender .sentQueue) ≡ none)
+    × ((after set []) .sender .out .ad ≡ true) × ((after set []) .sender .queues .waitQueue ≡ none) × (firstMarked ((after set []) .sender .queues .sentQueue) ≡ none)
     × (length (outstanding ((after set []) .history)) < set .k)
 
 -- The other claims speak of a sender active or resending without wait: each is met in both states, st.
@@ -63,15 +65,15 @@ module _ (s : Settings) (es : List Event) (st : State) where
   -- "When the lower layer comes ready, .. its oldest marked unit"
   abbrev ReadyAgain : Fdu → Type 0
   ReadyAgain u =
-      Lent s (lower adAccept) 9 ((after s es) .sender) × ((after s es) .sender .state ≡ st)
-      × (firstMarked ((after s es) .sender .sentQueue) ≡ some u)
+      Lent s (lower AdAccept) 9 ((after s es) .sender) × ((after s es) .sender .state ≡ st)
+      × (firstMarked ((after s es) .sender .queues .sentQueue) ≡ some u)
 
   -- "with none marked and fewer than K outstanding, .. the unit waiting"
   abbrev ReadyNew : List ℕ → Type 0
   ReadyNew o =
-      Lent s (lower adAccept) 9 ((after s es) .sender) × ((after s es) .sender .state ≡ st)
-      × (firstMarked ((after s es) .sender .sentQueue) ≡ none) × (length (outstanding ((after s es) .history)) < s .k)
-      × ((after s es) .sender .waitQueue ≡ some o)
+      Lent s (lower AdAccept) 9 ((after s es) .sender) × ((after s es) .sender .state ≡ st)
+      × (firstMarked ((after s es) .sender .queues .sentQueue) ≡ none) × (length (outstanding ((after s es) .history)) < s .k)
+      × ((after s es) .sender .queues .waitQueue ≡ some o)
 
   -- "a timer expiry short of the transmission limit": one tick before it, the first unit outstanding
   abbrev Expires : Type 0
@@ -86,7 +88,7 @@ module _ (s : Settings) (es : List Event) (st : State) where
       (w : List ℕ) × (ws : List (List ℕ)) × ((after s es) .words ≡ w ∷ ws) × (units.readWord (s .own) w ≡ valid (clear number))
       × Lent s (wordArrives w) 9 ((after s es) .sender) × ((after s es) .sender .state ≡ st)
       × (number ≡ nextNumber s ((after s es) .history)) × (0 < length (outstanding ((after s es) .history)))
-      × ((after s es) .sender .out .ad ≡ true) × ((after s es) .sender .waitQueue ≡ some o)
+      × ((after s es) .sender .out .ad ≡ true) × ((after s es) .sender .queues .waitQueue ≡ some o)
 
 -- active: the timer expired before the lower layer answered
 abbrev again-list : List Event
@@ -98,21 +100,21 @@ new-list = adRequest (17 ∷ []) 256 ∷ adRequest (34 ∷ 35 ∷ []) 256 ∷ []
 
 -- the timer has one tick left
 abbrev expires-list : List Event
-expires-list = adRequest (17 ∷ []) 256 ∷ lowerSays adAccept 256 ∷ ticks 256 ∷ []
+expires-list = adRequest (17 ∷ []) 256 ∷ lowerSays AdAccept 256 ∷ ticks 256 ∷ []
 
 -- with a window of 1 full
 abbrev clears-list : List Event
-clears-list = adRequest (17 ∷ []) 256 ∷ lowerSays adAccept 256 ∷ adRequest (34 ∷ 35 ∷ []) 256 ∷ frameIn ∷ wordMade 4 ∷ []
+clears-list = adRequest (17 ∷ []) 256 ∷ lowerSays AdAccept 256 ∷ adRequest (34 ∷ 35 ∷ []) 256 ∷ frameIn ∷ wordMade 4 ∷ []
 
 -- resending without wait: the first of two units was lost, a word asked for both, and the first is on its way again
 abbrev resending-list : List Event → List Event
 resending-list es =
-    adRequest (17 ∷ []) 256 ∷ lowerSays adAccept 256 ∷ adRequest (34 ∷ 35 ∷ []) 256 ∷ lowerSays adAccept 256 ∷ frameLost ∷ frameIn ∷ wordMade 4
+    adRequest (17 ∷ []) 256 ∷ lowerSays AdAccept 256 ∷ adRequest (34 ∷ 35 ∷ []) 256 ∷ lowerSays AdAccept 256 ∷ frameLost ∷ frameIn ∷ wordMade 4
     ∷ wordIn 256 ∷ es
 
 -- the second is too, and a third unit is offered
 abbrev resending-new : List Event
-resending-new = resending-list (lowerSays adAccept 256 ∷ adRequest (51 ∷ 52 ∷ []) 256 ∷ [])
+resending-new = resending-list (lowerSays AdAccept 256 ∷ adRequest (51 ∷ 52 ∷ []) 256 ∷ [])
 
 abbrev resending-expires : List Event
 resending-expires = resending-list (ticks 256 ∷ [])
@@ -121,7 +123,7 @@ resending-expires = resending-list (ticks 256 ∷ [])
 abbrev resending-clears : List Event
 resending-clears =
     resending-list
-    (lowerSays adAccept 256 ∷ lowerSays adAccept 256 ∷ adRequest (51 ∷ 52 ∷ []) 256 ∷ frameIn ∷ frameIn ∷ wordMade 4 ∷ [])
+    (lowerSays AdAccept 256 ∷ lowerSays AdAccept 256 ∷ adRequest (51 ∷ 52 ∷ []) 256 ∷ frameIn ∷ frameIn ∷ wordMade 4 ∷ [])
 
 pub premises : Accepts × Offered
     × ReadyAgain set again-list S1 one × ReadyAgain wide (resending-list []) S2 (record { ns = 255; octets = 34 ∷ 35 ∷ [] })

@@ -9,16 +9,18 @@ use lib.Dec.{ltb}
 use lib.ListN.{length, length-append}
 use Rattle.base.specs.Choice.{must}
 use Rattle.fop.specs.Units.{Fdu, Frame, AD, BD, Unlock, SetVR, Refused, legal, written}
-use Rattle.farm.specs.Table.{table, accepts}
-use Rattle.farm.specs.Receiver.{eventOf, unitOf, takes, answered, arrived, byReading, receiveOf, partFor, unitPart, releaseOf}
+use Rattle.farm.specs.Table.{table, accepts, unitOf}
+use Rattle.receiver.specs.Channel.{eventOf, takes}
+use Rattle.receiver.specs.Channel as channel
+use Rattle.receiver.specs.Receiver.{answered, arrived, byReading, receiveOf, partFor, unitPart, releaseOf}
 use Rattle.farm.proofs.Units.{no-unit}
 use Rattle.farm.specs.declared.State.{State as FarmState}
 use Rattle.farm.specs.declared.State.the-variants.{Open, Wait, Lockout}
 use Rattle.farm.specs.declared.Event.{Event as FarmEvent}
 use Rattle.farm.specs.declared.Event.the-variants as farm
 use Rattle.farm.specs.declared.Variables.{Variables}
-use Rattle.farm.specs.declared.Receiver.{Receiver}
-use Rattle.farm.specs.declared.Released.the-variants.{Done, NoneTaken}
+use Rattle.receiver.specs.declared.Receiver.{Receiver}
+use Rattle.receiver.specs.declared.Released.the-variants.{Done, NoneTaken}
 use Rattle.session.specs.Receiver.{ReceiverAnswer, handedOut}
 use Rattle.session.specs.Ends.{Settings, Within}
 use Rattle.session.specs.Session.{addAccepted, addAcceptedBd}
@@ -46,19 +48,18 @@ dataPart (Refused r) = []
 -- the receiver of these settings, with k buffers taken and the variables v
 abbrev pub receiverOf : Settings → ℕ → Variables → Receiver
 receiverOf set k v = record {
-  spacecraft = set .own .spacecraft;
-  channel = set .own .channel;
-  window = set .w;
-  buffers = set .buffers;
-  taken = k;
-  variables = v;
+  farm = record {
+    spacecraft = set .own .spacecraft;
+    buffers = set .buffers;
+    channel = record { number = set .own .channel; window = set .w; held = k; variables = v };
+  };
 }
 
 module _ (set : Settings) (vw : Within set) (k : ℕ) (v : Variables) where
   pub received-is : (x : Frame) → Readable x
       → receiveOf (receiverOf set k v) (written (set .own) x)
       ≡ answered 0 (frameEvent (set .w) (ltb k (set .buffers)) x v) (star x) (receiverOf set k v)
-  unfolding receiveOf byReading arrived eventOf frameEvent
+  unfolding receiveOf byReading arrived answered channel.arrived eventOf frameEvent
   received-is (AD u) h = ap (byReading (receiverOf set k v)) (ad-reading (set .own) (vw .spacecraft) (vw .channel) u (h .0) (h .1))
   received-is (BD o) h = ap (byReading (receiverOf set k v)) (bd-reading (set .own) (vw .spacecraft) (vw .channel) o h)
   received-is Unlock h = absurd h
@@ -68,7 +69,7 @@ module _ (set : Settings) (vw : Within set) (k : ℕ) (v : Variables) where
   pub part-is : (x : Frame) → Readable x
       → unitPart (receiverOf set k v) (written (set .own) x)
       ≡ partFor (unitOf (frameEvent (set .w) (ltb k (set .buffers)) x v) (v .state)) (dataPart x)
-  unfolding unitPart answered
+  unfolding unitPart answered channel.answered
   part-is (AD u) h = rw (received-is (AD u) h, ad-part (set .own) (vw .spacecraft) (vw .channel) u (h .0) (h .1))
   part-is (BD o) h = rw (received-is (BD o) h, bd-part (set .own) (vw .spacecraft) (vw .channel) o h)
   part-is Unlock h = absurd h

@@ -13,9 +13,8 @@ use Rattle.base.specs.Choice.{pick, both}
 use Rattle.base.specs.Modulo.{advanced, offset}
 use Rattle.base.proofs.Modulo.{offset-advanced, offset-back}
 use Rattle.fop.specs.Units.{Fdu, Frame, AD, BD, Unlock, SetVR, Refused, Word}
-use Rattle.farm.specs.Table.{table, perform, performAll, stepOf, accepts}
+use Rattle.farm.specs.Table.{table, perform, performAll, stepOf, accepts, unitOf}
 use Rattle.farm.specs.Window.{notWait, adEvent}
-use Rattle.farm.specs.Receiver.{unitOf}
 use Rattle.farm.specs.declared.State.{State as FarmState}
 use Rattle.farm.specs.declared.State.the-variants.{Open, Wait, Lockout}
 use Rattle.farm.specs.declared.Event.{Event as FarmEvent}
@@ -41,7 +40,7 @@ unchanged : (set : Settings) (σ : Session) (v : Variables) (b : List (List ℕ)
     → Inv set (receiver v (σ .accepted) b r fs σ)
 unfolding receiver
 unchanged set σ v b fs r I f s h =
-    record { base = refly (I .base) f; side = I .side; isSet = I .isSet; waiting = I .waiting; places = I .places; words = I .words; receiver = h; bd = s }
+    record { base = refly (I .base) f; side = I .side; suspension = I .suspension; isSet = I .isSet; waiting = I .waiting; places = I .places; words = I .words; receiver = h; bd = s }
 
 -- one that accepted the expected unit
 accepted : (set : Settings) (σ : Session) (v : Variables) (u : Fdu) (fs : List Frame) → Inv set σ
@@ -63,6 +62,7 @@ accepted set σ v u fs I eu b f s h =
         fly = fly-mono (set .k) (σ .sent) _ _ _ _ fs (omega arith) (omega arith) f;
       };
       side = I .side;
+      suspension = I .suspension;
       isSet = I .isSet;
       waiting = I .waiting;
       places = I .places;
@@ -220,6 +220,7 @@ lost-keeps set σ I =
     record {
       base = refly (I .base) (rest-fly (set .k) (σ .sent) (length (σ .accepted)) (σ .frames) (I .base .fly));
       side = I .side;
+      suspension = I .suspension;
       isSet = I .isSet;
       waiting = I .waiting;
       places = I .places;
@@ -272,7 +273,7 @@ step-keeps set vw e σ I = stepWith-keeps set vw (free set σ) (isHeld σ) e σ 
 abbrev pub begun : Settings → Session
 begun set = record {
   fop = startSender set;
-  farm = (startReceiver set) .variables;
+  farm = (startReceiver set) .farm .channel .variables;
   frames = [];
   words = [];
   sent = [];
@@ -298,6 +299,7 @@ start-inv set vw =
         fly = tt;
       };
       side = record { cut = refl; undenied = refl; fresh = refl; isVs = omega (arith, vw .number); isNn = omega (arith, vw .number) };
+      suspension = record { outside = tt; serving = refl; type-most = vw .timeoutMost };
       isSet = refl;
       waiting = tt;
       places = refl;

@@ -19,14 +19,15 @@ use Rattle.frame.specs.Answers.{readingOf}
 use Rattle.frame.specs.declared.FrameReading.{FrameReading}
 use Rattle.frame.specs.declared.FrameReading.the-variants as reading
 use Rattle.farm.specs.Table.{table, stepOf, perform, performAll}
-use Rattle.farm.specs.Receiver as farm
+use Rattle.receiver.specs.Channel as channel
+use Rattle.receiver.specs.Receiver as farm
 use Rattle.farm.specs.declared.State.{State as FarmState}
 use Rattle.farm.specs.declared.State.the-variants.{Open, Wait, Lockout}
 use Rattle.farm.specs.declared.Event.the-variants.{E9}
 use Rattle.farm.specs.declared.Variables.{Variables}
-use Rattle.farm.specs.declared.Receiver.{Receiver}
-use Rattle.farm.specs.declared.Received.{Received}
-use Rattle.farm.specs.declared.Released.the-variants.{Done, NoneTaken}
+use Rattle.receiver.specs.declared.Receiver.{Receiver}
+use Rattle.receiver.specs.declared.Received.{Received}
+use Rattle.receiver.specs.declared.Released.the-variants.{Done, NoneTaken}
 use Rattle.session.specs.Receiver as rcv
 use Rattle.session.specs.Receiver.{ReceiverEvent, frameArrives, releaseBuffer, receiverNext, releaseAnswer, receiverAnswer}
 
@@ -51,11 +52,14 @@ e9-at v Lockout = refl
 
 -- and the receiver
 e9 : (n : ℕ) (r : Receiver) → (farm.answered n E9 0 r) .next ≡ r
-unfolding farm.answered
-e9 n r = let z : r .taken + 0 ≡ r .taken = omega arith in rw (z, e9-at (r .variables) (r .variables .state))
+unfolding farm.answered channel.answered
+e9 n r =
+    let c = r .farm .channel in
+    let z : c .held + 0 ≡ c .held = omega arith in
+    rw (z, e9-at (c .variables) (c .variables .state))
 
 pub refused-keeps : (own : Own) → RefusedKeeps own
-unfolding senderNext receiverNext receiverAnswer farm.receiveOf farm.byReading farm.arrived farm.answered farm.releaseOf
+unfolding senderNext receiverNext receiverAnswer farm.receiveOf farm.byReading farm.arrived farm.answered channel.answered farm.releaseOf
 refused-keeps own =
     record {
       sender = λ e lent f h.
@@ -73,5 +77,5 @@ refused-keeps own =
     by-held false r x e h = refl
 
     keptR : (e : ReceiverEvent) (r : Receiver) → (receiverAnswer e r) .refusal ≢ 0 → receiverNext e r ≡ r
-    keptR (frameArrives s) r h = by-reading (readingOf s (r .spacecraft) (r .channel)) r h
-    keptR releaseBuffer r h = by-held (ltb 0 (r .taken)) r _ refl h
+    keptR (frameArrives s) r h = by-reading (readingOf s (r .farm .spacecraft) (r .farm .channel .number)) r h
+    keptR releaseBuffer r h = by-held (ltb 0 (r .farm .channel .held)) r _ refl h

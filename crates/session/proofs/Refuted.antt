@@ -10,14 +10,15 @@ use native.Mathlib.Omega.{arith}
 use lib.Dec.{leb→le}
 use lib.ListN.{length}
 use Rattle.clcw.specs.Clcw as clcw
-use Rattle.farm.specs.Receiver as receiver
+use Rattle.receiver.specs.Receiver as receiver
 use Rattle.farm.specs.declared.Event.the-variants as farm
 use Rattle.session.specs.Session as ses
 use Rattle.fop.specs.Units.{Fdu, WordReceived, valid, invalid, other, readWord}
 use Rattle.fop.specs.Variables.{Fop, Entry}
-use Rattle.fop.specs.Events.{SenderEvent, requestAd, requestBd, tick, lower, directive, wordArrives, adAccept}
+use Rattle.fop.specs.declared.Lower.the-variants.{AdAccept}
+use Rattle.fop.specs.Events.{SenderEvent, requestAd, requestBd, tick, lower, directive, wordArrives}
 use Rattle.fop.specs.Answers.{Answer, senderAnswer, senderNext}
-use Rattle.farm.specs.declared.Receiver.{Receiver}
+use Rattle.receiver.specs.declared.Receiver.{Receiver}
 use Rattle.clcw.specs.declared.Clcw.{Clcw}
 use Rattle.session.specs.Receiver.{ReceiverEvent, frameArrives, releaseBuffer, ReceiverAnswer, wordLength, WordAnswer, wordTold, receiverNext, receiverAnswer, receiverWord}
 use Rattle.session.specs.Ends.{Settings, Ends, tables, startSender, startReceiver}
@@ -83,7 +84,7 @@ abbrev seven : Fdu
 seven = record { ns = 254; octets = 7 ∷ [] }
 
 abbrev first-sent : List Event
-first-sent = adRequest (7 ∷ []) 256 ∷ lowerSays adAccept 256 ∷ []
+first-sent = adRequest (7 ∷ []) 256 ∷ lowerSays AdAccept 256 ∷ []
 
 refuted-first : Holds sends-first first-sent → ⊥
 unfolding computing

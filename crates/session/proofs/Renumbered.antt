@@ -5,10 +5,12 @@ use mathlib.Core.Path.{_≡_, refl}
 use mathlib.Core.List.{List, [], _∷_}
 use Prim.Native.Nat.{ℕ}
 use Rattle.fop.specs.Units.{Fdu}
-use Rattle.fop.specs.Table.{S1}
+use Rattle.fop.specs.declared.State.the-variants.{S1}
 use Rattle.fop.specs.Machine.{fdus}
-use Rattle.fop.specs.Events.{directive, wordArrives, adAccept, bcAccept}
-use Rattle.fop.specs.Answers.{Answer, Run, senderAnswer}
+use Rattle.fop.specs.declared.Lower.the-variants.{AdAccept, BcAccept}
+use Rattle.fop.specs.Events.{directive, wordArrives}
+use Rattle.fop.specs.declared.Run.{Run}
+use Rattle.fop.specs.Answers.{Answer, senderAnswer}
 use Rattle.farm.specs.declared.Event.the-variants.{E4}
 use Rattle.session.specs.Receiver.{ReceiverAnswer, frameArrives, receiverAnswer}
 use Rattle.session.specs.Ends.{Settings, tables}
@@ -40,7 +42,7 @@ new = record { ns = 254; octets = 2 ∷ [] }
 
 -- the old unit is sent, and denied by Terminate while its frame is under way
 abbrev denied : List Operation
-denied = event (adRequest (1 ∷ []) 256) ∷ event (lowerSays adAccept 256) ∷ event (terminate 0 256) ∷ []
+denied = event (adRequest (1 ∷ []) 256) ∷ event (lowerSays AdAccept 256) ∷ event (terminate 0 256) ∷ []
 
 -- a word reports the number; Set V(S) to it, Initiate with CLCW check, and a clear word ends the check
 abbrev by-check : List Operation
@@ -49,7 +51,7 @@ by-check =
 
 -- or Initiate with Set V(R), which a word made before ends; its frame is lost behind the old unit's
 abbrev by-set-vr : List Operation
-by-set-vr = event (wordMade 4) ∷ direct 4 254 ∷ event (lowerSays bcAccept 256) ∷ event (wordIn 256) ∷ []
+by-set-vr = event (wordMade 4) ∷ direct 4 254 ∷ event (lowerSays BcAccept 256) ∷ event (wordIn 256) ∷ []
 
 -- the new unit is sent, and the old one's frame arrives
 abbrev sent-again : List Operation
@@ -69,7 +71,7 @@ arriving σ (s ∷ fs) = receiverAnswer (frameArrives s) (σ .receiver)
 pub record Accident (σ : Linked (tables set)) : Type 0 where
   pub active : σ .sender .state ≡ S1
   pub on-board : σ .history .accepted ≡ old ∷ []
-  pub queued : fdus (σ .sender .sentQueue) ≡ new ∷ []
+  pub queued : fdus (σ .sender .queues .sentQueue) ≡ new ∷ []
   pub confirmed : confirming σ ((does (event (wordMade 4)) σ) .words) .confirmed ≡ record { number = 254; count = 1 }
   pub discarded : arriving σ (σ .frames) ≡ discarding E4
 

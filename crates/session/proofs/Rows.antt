@@ -1,20 +1,28 @@
--- One computed test of table 7-8: what its actions do to the sender's mode, cell by cell.
-use mathlib.Core.Path.{_≡_, refl}
+-- One computed test of table 7-8: what its actions do to the sender's mode, which is that of its effective state, cell by cell.
+use mathlib.Core.Logic.{_⊎_, inl, inr}
+use mathlib.Core.Path.{_≡_, refl, sym, ap, subst, _∙_}
 use mathlib.Core.Bool.{Bool, true, false, _&&_}
 use mathlib.Core.List.{List, [], _∷_}
 use mathlib.Core.Option.{some}
-use Prim.Native.Nat.{ℕ}
-use lib.Dec.{T}
-use Rattle.fop.specs.Table.{Ignore, SetSuspendState, Suspend, Resume, State, S1, S2, S3, S4, S5, S6, Action, Cell, cell, ifNotSuspended, NotApplicable, Row, row, FopEvent, table78, cell78, Accept, Reject, Confirm}
+use Prim.Native.Nat.{ℕ, zero, suc, _≤_}
+use native.Mathlib.Omega.{arith}
+use lib.Dec.{T, eqb, eqb→eq}
+use borrow.Author.Tests.{ne-eqb}
+use Rattle.fop.specs.declared.State.{State}
+use Rattle.fop.specs.declared.State.the-variants.{S1, S2, S3, S4, S5, S6}
+use Rattle.fop.specs.Table.{Ignore, SetSuspendState, Suspend, Resume, Action, Cell, cell, ifNotSuspended, NotApplicable, Row, row, FopEvent, table78, cell78, Accept, Reject, Confirm}
 use Rattle.fop.specs.Table.{RejectAd, AcceptBd, RejectBd, AddToWaitQueue, LookForFdu, LookForDirective, RemoveAcknowledgedFrames, InitiateAdRetransmission}
 use Rattle.fop.specs.Table.{InitiateBcRetransmission, ReleaseBcFrame, CancelTimer, StartTimer, Alert, Initialise, TransmitUnlock, TransmitSetVr, TransmitBd}
 use Rattle.fop.specs.Table.{SetVs, SetNnr, SetK, SetT1Initial, SetTransmissionLimit, SetTimeoutType, AdOutReady, BcOutReady, BdOutReady}
 use Rattle.fop.specs.Variables.{Fop}
 use Rattle.fop.specs.Variables.{begin}
+use Rattle.fop.specs.Effective.{suspendedIn, effectiveOf, effective}
 use Rattle.fop.specs.Machine.{performCell, fopDo}
-use Rattle.fop.specs.Events.{when, first, Seen, wordLines, wordEvent, Lower, lowerEvent}
+use Rattle.fop.specs.declared.Lower.{Lower}
+use Rattle.fop.specs.Events.{when, first, Seen, wordLines, wordEvent, lowerEvent}
 use Rattle.session.proofs.Choices.{and-l, and-r}
 use Rattle.session.proofs.Test.{first-all, lower-all}
+use Rattle.session.proofs.Suspended.{suspendAll, suspend-all, unsuspended}
 use Rattle.session.proofs.Values.{Mode, live, dead, bad, Given, word, unit, nothing}
 
 -- what an action does to the mode; bad: the invariant does not cover it
@@ -89,7 +97,7 @@ match bad live = false
 match bad dead = false
 match bad bad = false
 
-pub matched : (a b : Mode) → T (match a b) → a ≡ b
+matched : (a b : Mode) → T (match a b) → a ≡ b
 matched live live t = refl
 matched live dead t = absurd t
 matched live bad t = absurd t
@@ -109,22 +117,105 @@ sound bad = false
 abbrev pub atAll : (State → Cell → Bool) → Row → Bool
 atAll t (row a b c d e f) = t S1 a && (t S2 b && (t S3 c && t S6 f))
 
-pub at-cell : (t : State → Cell → Bool) (r : Row) (s : State) → T (atAll t r) → T (sound (modeOf s)) → T (t s (cell78 r s))
-at-cell t (row a b c d e f) S1 h g = and-l (t S1 a) _ h
-at-cell t (row a b c d e f) S2 h g = and-l (t S2 b) _ (and-r (t S1 a) _ h)
-at-cell t (row a b c d e f) S3 h g = and-l (t S3 c) _ (and-r (t S2 b) _ (and-r (t S1 a) _ h))
-at-cell t (row a b c d e f) S4 h g = absurd g
-at-cell t (row a b c d e f) S5 h g = absurd g
-at-cell t (row a b c d e f) S6 h g = and-r (t S3 c) _ (and-r (t S2 b) _ (and-r (t S1 a) _ h))
+pub at-cell : (t : State → Cell → Bool) (r : Row) (s : State) (n : ℕ) → T (atAll t r) → T (sound (modeOf (effectiveOf s n))) → T (t s (cell78 r s))
+at-cell t (row a b c d e f) S1 n h g = and-l (t S1 a) _ h
+at-cell t (row a b c d e f) S2 n h g = and-l (t S2 b) _ (and-r (t S1 a) _ h)
+at-cell t (row a b c d e f) S3 n h g = and-l (t S3 c) _ (and-r (t S2 b) _ (and-r (t S1 a) _ h))
+at-cell t (row a b c d e f) S4 n h g = absurd g
+at-cell t (row a b c d e f) S5 n h g = absurd g
+at-cell t (row a b c d e f) S6 n h g = and-r (t S3 c) _ (and-r (t S2 b) _ (and-r (t S1 a) _ h))
 
--- the one test of the table: each cell's actions lead to the mode of its next state
-abbrev pub cellOk : Given → State → Cell → Bool
-cellOk g s NotApplicable = true
-cellOk g s (ifNotSuspended xs ys u) = false
-cellOk g s (cell xs u) = match (afterAll g xs (modeOf s)) (modeOf u)
+-- a test that depends on Suspend_State, at Suspend_State 0
+pub at-zero : (t : ℕ → State → Cell → Bool) (r : Row) (s : State) (n : ℕ) → T (atAll (t 0) r) → T (sound (modeOf (effectiveOf s n))) → n ≡ 0
+    → T (t n s (cell78 r s))
+at-zero t r s n h g z = subst (λ (k : ℕ). T (t k s (cell78 r s))) (sym z) (at-cell (t 0) r s n h g)
 
+-- in Initial, suspended in one of the main protocol's states
+abbrev pub atSuspended : (ℕ → State → Cell → Bool) → Row → Bool
+atSuspended t (row a b c d e f) = t 1 S6 f && (t 2 S6 f && t 3 S6 f)
+
+-- a sender suspended in another is not one of the session
+above-three : (n : ℕ) → 4 ≤ n → suspendedIn n ≡ S4
+above-three n h =
+    let no : (k : ℕ) → k ≤ 3 → eqb n k ≡ false = λ k l. ne-eqb n k (λ e. omega (arith, h, l, e)) in
+    rw (no 0 (omega arith), no 1 (omega arith), no 2 (omega arith), no 3 (omega arith))
+
+-- such a test at 0, or where it holds while suspended too
+pub at-any : (t : ℕ → State → Cell → Bool) (r : Row) (s : State) (n : ℕ) → T (atAll (t 0) r) → (n ≡ 0) ⊎ T (atSuspended t r)
+    → T (sound (modeOf (effectiveOf s n))) → T (unsuspended s n) → T (t n s (cell78 r s))
+at-any t r s n h (inl z) g o = at-zero t r s n h g z
+at-any t r S1 n h (inr u) g o = at-zero t r S1 n h g (eqb→eq n 0 o)
+at-any t r S2 n h (inr u) g o = at-zero t r S2 n h g (eqb→eq n 0 o)
+at-any t r S3 n h (inr u) g o = at-zero t r S3 n h g (eqb→eq n 0 o)
+at-any t r S4 n h (inr u) g o = absurd g
+at-any t r S5 n h (inr u) g o = absurd g
+at-any t (row a b c d e f) S6 zero h (inr u) g o = at-cell (t 0) (row a b c d e f) S6 0 h g
+at-any t (row a b c d e f) S6 (suc zero) h (inr u) g o = and-l (t 1 S6 f) _ u
+at-any t (row a b c d e f) S6 (suc (suc zero)) h (inr u) g o = and-l (t 2 S6 f) _ (and-r (t 1 S6 f) _ u)
+at-any t (row a b c d e f) S6 (suc (suc (suc zero))) h (inr u) g o = and-r (t 2 S6 f) _ (and-r (t 1 S6 f) _ u)
+at-any t (row a b c d e f) S6 (suc (suc (suc (suc k)))) h (inr u) g o =
+    absurd (subst (λ (s : State). T (sound (modeOf s))) (above-three (suc (suc (suc (suc k)))) (omega arith)) g)
+
+-- the one test of the table, at a Suspend_State: each cell's actions lead to the mode of its next effective state, with Suspend_State 0 but in
+-- Initial
+abbrev pub cellOk : Given → ℕ → State → Cell → Bool
+cellOk g n s NotApplicable = true
+cellOk g n s (ifNotSuspended xs ys u) = false
+cellOk g n s (cell xs u) =
+    match (afterAll g xs (modeOf (effectiveOf s n))) (modeOf (effectiveOf u (suspendAll xs n))) && unsuspended u (suspendAll xs n)
+
+pub leads : (g : Given) (n : ℕ) (s : State) (xs : List Action) (u : State) → T (cellOk g n s (cell xs u))
+    → afterAll g xs (modeOf (effectiveOf s n)) ≡ modeOf (effectiveOf u (suspendAll xs n))
+leads g n s xs u t =
+    let a : Mode = afterAll g xs (modeOf (effectiveOf s n)) in
+    let b : Mode = modeOf (effectiveOf u (suspendAll xs n)) in
+    matched a b (and-l (match a b) (unsuspended u (suspendAll xs n)) t)
+
+-- "Suspend_State stays 0"
+abbrev stays : Cell → Bool
+stays NotApplicable = true
+stays (ifNotSuspended xs ys u) = false
+stays (cell xs u) = eqb (suspendAll xs 0) 0
+
+-- the test of a row, at Suspend_State 0
 abbrev pub rowOk : Given → FopEvent → Bool
-rowOk g e = atAll (cellOk g) (table78 e)
+rowOk g e = atAll (cellOk g 0) (table78 e) && atAll (λ s c. stays c) (table78 e)
+
+-- while suspended
+abbrev pub rowSuspended : Given → FopEvent → Bool
+rowSuspended g e = atSuspended (cellOk g) (table78 e)
+
+-- a row is tested at a Suspend_State
+abbrev pub Tested : Given → FopEvent → ℕ → Type 0
+Tested g e n = T (rowOk g e) × ((n ≡ 0) ⊎ T (rowSuspended g e))
+
+-- at every one
+abbrev pub rowAny : Given → FopEvent → Bool
+rowAny g e = rowOk g e && rowSuspended g e
+
+pub any : (g : Given) (e : FopEvent) {n : ℕ} → T (rowAny g e) → Tested g e n
+any g e t = (and-l (rowOk g e) (rowSuspended g e) t, inr (and-r (rowOk g e) (rowSuspended g e) t))
+
+-- the cell that a sender meets passes the test
+abbrev pub Passes : Given → FopEvent → Fop → Type 0
+Passes g e f = T (cellOk g (f .suspendState) (f .state) (cell78 (table78 e) (f .state)))
+
+module _ (g : Given) (e : FopEvent) (f : Fop) (t : Tested g e (f .suspendState)) (h : T (sound (modeOf (effective f)))) where
+  row-ok : T (atAll (cellOk g 0) (table78 e))
+  row-ok = and-l (atAll (cellOk g 0) (table78 e)) _ (t .0)
+
+  pub passes : T (unsuspended (f .state) (f .suspendState)) → Passes g e f
+  passes o = at-any (cellOk g) (table78 e) (f .state) (f .suspendState) row-ok (t .1) h o
+
+  pub do-stays : f .suspendState ≡ 0 → (o : List ℕ) (v : ℕ) → (fopDo e o v f) .fop .suspendState ≡ 0
+  unfolding fopDo performCell
+  do-stays z o v =
+      go (cell78 (table78 e) (f .state)) (at-cell (λ s c. stays c) (table78 e) (f .state) (f .suspendState) (and-r (atAll (cellOk g 0) (table78 e)) _ (t .0)) h)
+    where
+      go : (c : Cell) → T (stays c) → (performCell c (begin (some e) o v f)) .fop .suspendState ≡ 0
+      go NotApplicable t = z
+      go (ifNotSuspended xs ys s) t = absurd t
+      go (cell xs s) t = suspend-all xs (begin (some e) o v f) ∙ ap (suspendAll xs) z ∙ eqb→eq (suspendAll xs 0) 0 t
 
 match-sound : (a b : Mode) → T (match a b) → T (sound b)
 match-sound a live t = tt
@@ -133,37 +224,54 @@ match-sound live bad t = absurd t
 match-sound dead bad t = absurd t
 match-sound bad bad t = absurd t
 
-pub do-sound : (g : Given) (e : FopEvent) (o : List ℕ) (v : ℕ) (f : Fop) → T (rowOk g e) → T (sound (modeOf (f .state)))
-    → T (sound (modeOf ((fopDo e o v f) .fop .state)))
-unfolding fopDo performCell
-do-sound g e o v f t h = go (cell78 (table78 e) (f .state)) (at-cell (cellOk g) (table78 e) (f .state) t h)
-  where
-    go : (c : Cell) → T (cellOk g (f .state) c) → T (sound (modeOf ((performCell c (begin (some e) o v f)) .fop .state)))
-    go NotApplicable t = h
-    go (ifNotSuspended xs ys s) t = absurd t
-    go (cell xs s) t = match-sound (afterAll g xs (modeOf (f .state))) (modeOf s) t
+-- its mode after the row
+module _ (g : Given) (e : FopEvent) (o : List ℕ) (v : ℕ) (f : Fop) (t : Passes g e f) where
+  pub do-sound : T (sound (modeOf (effective f))) → T (sound (modeOf (effective ((fopDo e o v f) .fop))))
+  unfolding fopDo performCell
+  do-sound h = go (cell78 (table78 e) (f .state)) t
+    where
+      go : (c : Cell) → T (cellOk g (f .suspendState) (f .state) c) → T (sound (modeOf (effective ((performCell c (begin (some e) o v f)) .fop))))
+      go NotApplicable t = h
+      go (ifNotSuspended xs ys s) t = absurd t
+      go (cell xs s) t =
+          subst (λ (n : ℕ). T (sound (modeOf (effectiveOf s n)))) (sym (suspend-all xs (begin (some e) o v f)))
+          (match-sound (afterAll g xs (modeOf (effective f))) (modeOf (effectiveOf s (suspendAll xs (f .suspendState))))
+          (and-l (match (afterAll g xs (modeOf (effective f))) (modeOf (effectiveOf s (suspendAll xs (f .suspendState))))) _ t))
 
-pub word-ok : (s : Seen) → T (rowOk word (wordEvent s))
+  pub do-unsuspended : T (unsuspended (f .state) (f .suspendState)) → T (unsuspended ((fopDo e o v f) .fop .state) ((fopDo e o v f) .fop .suspendState))
+  unfolding fopDo performCell
+  do-unsuspended h = go (cell78 (table78 e) (f .state)) t
+    where
+      go : (c : Cell) → T (cellOk g (f .suspendState) (f .state) c)
+          → T (unsuspended ((performCell c (begin (some e) o v f)) .fop .state) ((performCell c (begin (some e) o v f)) .fop .suspendState))
+      go NotApplicable t = h
+      go (ifNotSuspended xs ys s) t = absurd t
+      go (cell xs s) t =
+          subst (λ (n : ℕ). T (unsuspended s n)) (sym (suspend-all xs (begin (some e) o v f)))
+          (and-r (match (afterAll g xs (modeOf (effective f))) (modeOf (effectiveOf s (suspendAll xs (f .suspendState))))) _ t)
+
+pub word-ok : (s : Seen) → T (rowAny word (wordEvent s))
 unfolding table78 wordEvent
-word-ok s = first-all (rowOk word) (wordLines s) FopEvent.E103 tt
+word-ok s = first-all (rowAny word) (wordLines s) FopEvent.E103 tt
 
+-- the answers of the lower layer: a reject alerts, and while suspended it leaves Suspend_State with nothing to resume
 pub lower-ok : (l : Lower) → T (rowOk nothing (lowerEvent l))
 unfolding table78
 lower-ok = lower-all (rowOk nothing) tt
 
 -- the expiry of the timer, at Timeout_Type 0
-pub timer-ok : T (rowOk nothing FopEvent.E16 && rowOk nothing FopEvent.E17)
+pub timer-ok : T (rowAny nothing FopEvent.E16 && rowAny nothing FopEvent.E17)
 unfolding table78
 timer-ok = tt
 
-pub ad-ok : (c : Bool) → T (rowOk unit (first (when c FopEvent.E19 ∷ []) FopEvent.E20))
+pub ad-ok : (c : Bool) → T (rowAny unit (first (when c FopEvent.E19 ∷ []) FopEvent.E20))
 unfolding table78
-ad-ok c = first-all (rowOk unit) (when c FopEvent.E19 ∷ []) FopEvent.E20 tt
+ad-ok c = first-all (rowAny unit) (when c FopEvent.E19 ∷ []) FopEvent.E20 tt
 
-pub bd-ok : (c : Bool) → T (rowOk unit (first (when c FopEvent.E21 ∷ []) FopEvent.E22))
+pub bd-ok : (c : Bool) → T (rowAny unit (first (when c FopEvent.E21 ∷ []) FopEvent.E22))
 unfolding table78
-bd-ok c = first-all (rowOk unit) (when c FopEvent.E21 ∷ []) FopEvent.E22 tt
+bd-ok c = first-all (rowAny unit) (when c FopEvent.E21 ∷ []) FopEvent.E22 tt
 
-pub terminate-ok : T (rowOk nothing FopEvent.E29)
+pub terminate-ok : T (rowAny nothing FopEvent.E29)
 unfolding table78
 terminate-ok = tt

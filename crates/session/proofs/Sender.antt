@@ -1,5 +1,5 @@
 -- Every row of table 7-8 that the session can meet keeps the sender's invariant, action by action.
-use mathlib.Core.Path.{_≡_, refl, ap, _∙_}
+use mathlib.Core.Path.{_≡_, refl, sym, ap, subst, _∙_}
 use mathlib.Core.Bool.{false}
 use mathlib.Core.List.{List, [], _∷_, _++_, append-assoc, append-nil}
 use mathlib.Core.Option.{Option, some}
@@ -16,6 +16,7 @@ use Rattle.fop.specs.Table.{SetVs, SetNnr, SetK, SetT1Initial, SetTransmissionL
 use Rattle.fop.specs.Variables.{Fop, Work, Preset}
 use Rattle.fop.specs.Machine.{fdus, firstMarked, acknowledged, unacknowledged, perform, performAll}
 use Rattle.fop.specs.Variables.{begin}
+use Rattle.fop.specs.Effective.{effectiveOf, effective}
 use Rattle.fop.specs.Machine.{performCell, transmitAd, sendWaiting, sendNext, lookForFdu, purge, removeAcknowledged, fopDo}
 use Rattle.session.proofs.Ways.{look-ways, purge-ways}
 use Rattle.session.proofs.Core.{addAll}
@@ -23,45 +24,46 @@ use Rattle.session.proofs.Lists.{addAll-append}
 use Rattle.session.proofs.Values.{Mode, live, dead, bad, Given, word, unit, nothing, WI, resent, sent-new, sent-bd, confirmed, queue-length, queue-at}
 use Rattle.session.proofs.Values.{run-places}
 use Rattle.session.proofs.Queue.{fdus-mark, fdus-unmark, fdus-append, found, ack}
-use Rattle.session.proofs.Rows.{after, afterAll, modeOf, matched, sound, at-cell, cellOk, rowOk}
+use Rattle.session.proofs.Rows.{after, afterAll, modeOf, cellOk, leads, Passes}
+use Rattle.session.proofs.Suspended.{suspend-all}
 
 module _ (n : ℕ) (P : Preset) (C : ℕ) (gone : List (Option ℕ)) (acc sent0 : List Fdu) (fr0 : List Frame) (given : Given) (a : ℕ) where
   abbrev pub WInv : Mode → Work → Type 0
   WInv m w =
-      WI n P C gone acc given a m (addAll n sent0 (w .frames)) (fr0 ++ w .frames) (w .confirmed) (w .denied) (fdus (w .fop .sentQueue)) (w .fop .vs)
-      (w .fop .nnr)
-      (w .fop .preset) (w .value) (w .fop .waitQueue) (w .octets)
+      WI n P C gone acc given a m (addAll n sent0 (w .frames)) (fr0 ++ w .frames) (w .confirmed) (w .denied) (fdus (w .fop .queues .sentQueue)) (w .fop .numbers .vs)
+      (w .fop .numbers .nnr)
+      (w .fop .preset) (w .asked .value) (w .fop .queues .waitQueue) (w .asked .octets)
 
   look-keeps : (w : Work) → WInv live w → WInv live (lookForFdu w)
   unfolding sendNext sendWaiting transmitAd
   look-keeps w h = look-ways (WInv live) w h again new
     where
-      again : (u : Fdu) → firstMarked (w .fop .sentQueue) ≡ some u → WInv live (sendNext (some u) w)
+      again : (u : Fdu) → firstMarked (w .fop .queues .sentQueue) ≡ some u → WInv live (sendNext (some u) w)
       again u e =
-          let i = found (w .fop .sentQueue) u e in
-          rw (addAll-append n sent0 (w .frames) (AD u ∷ []), ← append-assoc fr0 (w .frames) (AD u ∷ []), fdus-unmark (w .fop .sentQueue))
-          (resent n P C gone acc given a _ _ _ _ _ _ _ _ (w .value) (w .fop .waitQueue) (w .octets) h u (i .0) (i .1) (i .2))
+          let i = found (w .fop .queues .sentQueue) u e in
+          rw (addAll-append n sent0 (w .frames) (AD u ∷ []), ← append-assoc fr0 (w .frames) (AD u ∷ []), fdus-unmark (w .fop .queues .sentQueue))
+          (resent n P C gone acc given a _ _ _ _ _ _ _ _ (w .asked .value) (w .fop .queues .waitQueue) (w .asked .octets) h u (i .0) (i .1) (i .2))
 
-      new : (o : List ℕ) → offset (w .fop .vs) (w .fop .nnr) < w .fop .preset .k → w .fop .waitQueue ≡ some o → WInv live (sendWaiting (some o) w)
+      new : (o : List ℕ) → offset (w .fop .numbers .vs) (w .fop .numbers .nnr) < w .fop .preset .k → w .fop .queues .waitQueue ≡ some o → WInv live (sendWaiting (some o) w)
       new o r e =
-          let u : Fdu = record { ns = w .fop .vs; octets = o } in
+          let u : Fdu = record { ns = w .fop .numbers .vs; octets = o } in
           rw (
             addAll-append n sent0 (w .frames) (AD u ∷ []),
             ← append-assoc fr0 (w .frames) (AD u ∷ []),
-            fdus-append (w .fop .sentQueue) (record { fdu = u; marked = false } ∷ []),
+            fdus-append (w .fop .queues .sentQueue) (record { fdu = u; marked = false } ∷ []),
           )
-          (sent-new n P C gone acc given a _ _ _ _ _ _ _ _ (w .value) (w .fop .waitQueue) (w .octets) h r u refl (rw e at (h .5)))
+          (sent-new n P C gone acc given a _ _ _ _ _ _ _ _ (w .asked .value) (w .fop .queues .waitQueue) (w .asked .octets) h r u refl (rw e at (h .5)))
 
   purge-live : (w : Work) → WInv live w → WInv dead (purge w)
   purge-live w h =
-      let c : w .confirmed ++ (fdus (w .fop .sentQueue) ++ []) ≡ drop C (addAll n sent0 (w .frames)) = rw (append-nil (fdus (w .fop .sentQueue))) (h .1 .cut) in
+      let c : w .confirmed ++ (fdus (w .fop .queues .sentQueue) ++ []) ≡ drop C (addAll n sent0 (w .frames)) = rw (append-nil (fdus (w .fop .queues .sentQueue))) (h .1 .cut) in
       purge-ways (WInv dead) w (
         h .0,
         record {
-          after = fdus (w .fop .sentQueue);
+          after = fdus (w .fop .queues .sentQueue);
           cut = h .1 .cut;
           empty = refl;
-          denied = rw (h .1 .undenied, h .1 .fresh) (run-places n C _ (w .confirmed) (fdus (w .fop .sentQueue)) [] (h .0 .num) c (omega arith));
+          denied = rw (h .1 .undenied, h .1 .fresh) (run-places n C _ (w .confirmed) (fdus (w .fop .queues .sentQueue)) [] (h .0 .num) c (omega arith));
         },
         h .2,
         h .3,
@@ -83,13 +85,13 @@ module _ (n : ℕ) (P : Preset) (C : ℕ) (gone : List (Option ℕ)) (acc sent0 
 module _ (n : ℕ) (P : Preset) (C : ℕ) (gone : List (Option ℕ)) (acc sent0 : List Fdu) (fr0 : List Frame) where
   -- what is acknowledged, of a sender in service
   pub acks : (a : ℕ) (w : Work) → WInv n P C gone acc sent0 fr0 word a live w
-      → (acknowledged (w .fop .nnr) (w .value) (w .fop .sentQueue) ≡ take (offset (w .value) (w .fop .nnr)) (fdus (w .fop .sentQueue)))
-      × (fdus (unacknowledged (w .fop .nnr) (w .value) (w .fop .sentQueue)) ≡ drop (offset (w .value) (w .fop .nnr)) (fdus (w .fop .sentQueue)))
+      → (acknowledged (w .fop .numbers .nnr) (w .asked .value) (w .fop .queues .sentQueue) ≡ take (offset (w .asked .value) (w .fop .numbers .nnr)) (fdus (w .fop .queues .sentQueue)))
+      × (fdus (unacknowledged (w .fop .numbers .nnr) (w .asked .value) (w .fop .queues .sentQueue)) ≡ drop (offset (w .asked .value) (w .fop .numbers .nnr)) (fdus (w .fop .queues .sentQueue)))
   acks a w h =
-      let ln = queue-length C (addAll n sent0 (w .frames)) (w .confirmed) (fdus (w .fop .sentQueue)) (h .1 .cut) in
-      let z : offset (w .value) (w .fop .nnr) - 0 ≡ offset (w .value) (w .fop .nnr) = omega arith in
-      rw z at (ack n (C + length (w .confirmed)) (w .fop .nnr) (w .value) (h .1 .isNn) (w .fop .sentQueue) 0
-      (λ i l. ap (λ (x : Fdu). x .ns) (queue-at C (addAll n sent0 (w .frames)) (w .confirmed) (fdus (w .fop .sentQueue)) (h .1 .cut) i)
+      let ln = queue-length C (addAll n sent0 (w .frames)) (w .confirmed) (fdus (w .fop .queues .sentQueue)) (h .1 .cut) in
+      let z : offset (w .asked .value) (w .fop .numbers .nnr) - 0 ≡ offset (w .asked .value) (w .fop .numbers .nnr) = omega arith in
+      rw z at (ack n (C + length (w .confirmed)) (w .fop .numbers .nnr) (w .asked .value) (h .1 .isNn) (w .fop .queues .sentQueue) 0
+      (λ i l. ap (λ (x : Fdu). x .ns) (queue-at C (addAll n sent0 (w .frames)) (w .confirmed) (fdus (w .fop .queues .sentQueue)) (h .1 .cut) i)
       ∙ h .0 .num .at (C + (length (w .confirmed) + i)) (omega arith) ∙ ap (λ (x : ℕ). advanced n x) (omega arith))
       (omega arith))
 
@@ -98,7 +100,7 @@ module _ (n : ℕ) (P : Preset) (C : ℕ) (gone : List (Option ℕ)) (acc sent0 
   unfolding removeAcknowledged
   remove-keeps word a live w h =
       let k = acks a w h in
-      rw (k .0, k .1) (confirmed n P C gone acc word a _ _ _ _ _ _ _ _ (w .value) (w .fop .waitQueue) (w .octets) h)
+      rw (k .0, k .1) (confirmed n P C gone acc word a _ _ _ _ _ _ _ _ (w .asked .value) (w .fop .queues .waitQueue) (w .asked .octets) h)
   remove-keeps word a dead w h = tt
   remove-keeps word a bad w h = tt
   remove-keeps unit a m w h = tt
@@ -119,8 +121,8 @@ module _ (n : ℕ) (P : Preset) (C : ℕ) (gone : List (Option ℕ)) (acc sent0 
   bd-keeps word a m w h = tt
   bd-keeps nothing a m w h = tt
   bd-keeps unit a m w h =
-      rw (addAll-append n sent0 (w .frames) (BD (w .octets) ∷ []), ← append-assoc fr0 (w .frames) (BD (w .octets) ∷ []))
-      (sent-bd n P C gone acc a m _ _ _ _ _ _ _ _ (w .value) (w .fop .waitQueue) (w .octets) h)
+      rw (addAll-append n sent0 (w .frames) (BD (w .asked .octets) ∷ []), ← append-assoc fr0 (w .frames) (BD (w .asked .octets) ∷ []))
+      (sent-bd n P C gone acc a m _ _ _ _ _ _ _ _ (w .asked .value) (w .fop .queues .waitQueue) (w .asked .octets) h)
 
 module _ (n : ℕ) (P : Preset) (C : ℕ) (gone : List (Option ℕ)) (acc sent0 : List Fdu) (fr0 : List Frame) (given : Given) (a : ℕ) where
   abbrev I : Mode → Work → Type 0
@@ -141,7 +143,7 @@ module _ (n : ℕ) (P : Preset) (C : ℕ) (gone : List (Option ℕ)) (acc sent0 
   keeps LookForFdu bad w h = tt
   keeps LookForDirective m w h = tt
   keeps RemoveAcknowledgedFrames m w h = remove-keeps n P C gone acc sent0 fr0 given a m w h
-  keeps InitiateAdRetransmission m w h = rw (fdus-mark (w .fop .sentQueue)) h
+  keeps InitiateAdRetransmission m w h = rw (fdus-mark (w .fop .queues .sentQueue)) h
   keeps InitiateBcRetransmission m w h = h
   keeps ReleaseBcFrame m w h = h
   keeps CancelTimer m w h = h
@@ -171,17 +173,17 @@ module _ (n : ℕ) (P : Preset) (C : ℕ) (gone : List (Option ℕ)) (acc sent0 
   keeps-all [] m w h = h
   keeps-all (x ∷ xs) m w h = keeps-all xs (after given x m) (perform x w) (keeps x m w h)
 
-  cell-keeps : (c : Cell) (w : Work) → T (cellOk given (w .fop .state) c) → I (modeOf (w .fop .state)) w
-      → I (modeOf ((performCell c w) .fop .state)) (performCell c w)
+  cell-keeps : (c : Cell) (w : Work) → T (cellOk given (w .fop .suspendState) (w .fop .state) c) → I (modeOf (effective (w .fop))) w
+      → I (modeOf (effective ((performCell c w) .fop))) (performCell c w)
   unfolding performCell
   cell-keeps NotApplicable w t h = h
   cell-keeps (ifNotSuspended xs ys s) w t h = absurd t
   cell-keeps (cell xs s) w t h =
-      rw (← matched (afterAll given xs (modeOf (w .fop .state))) (modeOf s) t) (keeps-all xs (modeOf (w .fop .state)) w h)
+      subst (λ (n : ℕ). I (modeOf (effectiveOf s n)) (performCell (cell xs s) w)) (sym (suspend-all xs w))
+      (subst (λ (m : Mode). I m (performCell (cell xs s) w)) (leads given (w .fop .suspendState) (w .fop .state) xs s t)
+      (keeps-all xs (modeOf (effective (w .fop))) w h))
 
-  pub do-keeps : (e : FopEvent) (o : List ℕ) (v : ℕ) (f : Fop) → T (rowOk given e) → T (sound (modeOf (f .state)))
-      → I (modeOf (f .state)) (begin (some e) o v f)
-      → I (modeOf ((fopDo e o v f) .fop .state)) (fopDo e o v f)
+  pub do-keeps : (e : FopEvent) (o : List ℕ) (v : ℕ) (f : Fop) → Passes given e f → I (modeOf (effective f)) (begin (some e) o v f)
+      → I (modeOf (effective ((fopDo e o v f) .fop))) (fopDo e o v f)
   unfolding fopDo
-  do-keeps e o v f t g h =
-      cell-keeps (cell78 (table78 e) (f .state)) (begin (some e) o v f) (at-cell (cellOk given) (table78 e) (f .state) t g) h
+  do-keeps e o v f t h = cell-keeps (cell78 (table78 e) (f .state)) (begin (some e) o v f) t h

@@ -6,15 +6,18 @@ use mathlib.Core.Bool.{Bool, true, false, _||_}
 use mathlib.Core.List.{List, [], _∷_, _++_}
 use mathlib.Core.Option.{Option, none, some}
 use Prim.Native.Nat.{ℕ}
-use lib.Dec.{eqb, T}
+use lib.Dec.{T}
 use Rattle.fop.specs.Units.{Frame, AD, BD, Unlock, SetVR, Refused, Word}
-use Rattle.fop.specs.Table.{State, Action, Cell, cell, ifNotSuspended, NotApplicable, FopEvent, table78, cell78, Ignore, Accept, Reject, Confirm}
+use Rattle.fop.specs.declared.State.{State}
+use Rattle.fop.specs.Table.{Action, Cell, cell, ifNotSuspended, NotApplicable, FopEvent, table78, cell78, Ignore, Accept, Reject, Confirm}
 use Rattle.fop.specs.Table.{RejectAd, AcceptBd, RejectBd, AddToWaitQueue, LookForFdu, LookForDirective, RemoveAcknowledgedFrames, InitiateAdRetransmission}
 use Rattle.fop.specs.Table.{InitiateBcRetransmission, ReleaseBcFrame, CancelTimer, StartTimer, Alert, Initialise, TransmitUnlock, TransmitSetVr, TransmitBd, SetSuspendState}
 use Rattle.fop.specs.Table.{Suspend, Resume, SetVs, SetNnr, SetK, SetT1Initial, SetTransmissionLimit, SetTimeoutType, AdOutReady, BcOutReady, BdOutReady}
 use Rattle.fop.specs.Variables.{Fop, Work, begin}
+use Rattle.fop.specs.Effective.{effective}
 use Rattle.fop.specs.Machine.{perform, performAll, performCell, removeAcknowledged, transmitBc, fopDo}
-use Rattle.fop.specs.Events.{when, wordLines, wordEvent, seen, fopWord, fopAd, fopBd, isEmpty, fopTick, fopLower, Lower, fopDirective, directiveEvent}
+use Rattle.fop.specs.declared.Lower.{Lower}
+use Rattle.fop.specs.Events.{when, wordLines, wordEvent, seen, fopWord, fopAd, fopBd, isEmpty, fopTick, fopLower, fopDirective, directiveEvent}
 use Rattle.session.specs.Claims.{serves}
 use Rattle.session.proofs.Test.{first-all, lower-all, lowered, tick-ways, Keeps, allKeep, all-keep}
 use Rattle.session.proofs.Rows.{atAll, at-cell, modeOf, sound}
@@ -58,8 +61,8 @@ withoutAd StartTimer = some (λ w h. h)
 withoutAd (Alert r) = some (λ w h. rw (purge-few w) h)
 withoutAd Initialise = some (λ w h. rw (purge-few w) h)
 withoutAd TransmitUnlock = some (λ w h. none-more (w .frames) (Unlock ∷ []) h tt)
-withoutAd TransmitSetVr = some (λ w h. none-more (w .frames) (SetVR (w .value) ∷ []) h tt)
-withoutAd TransmitBd = some (λ w h. none-more (w .frames) (BD (w .octets) ∷ []) h tt)
+withoutAd TransmitSetVr = some (λ w h. none-more (w .frames) (SetVR (w .asked .value) ∷ []) h tt)
+withoutAd TransmitBd = some (λ w h. none-more (w .frames) (BD (w .asked .octets) ∷ []) h tt)
 withoutAd (SetSuspendState n) = some (λ w h. h)
 withoutAd Suspend = some (λ w h. h)
 withoutAd Resume = some (λ w h. h)
@@ -95,15 +98,15 @@ cell-serving s (cell xs u) w t h = go (serves u) refl t
     go false e t = inl (all-keep (λ v. NoAd (v .frames)) withoutAd xs w t h)
 cell-serving s (ifNotSuspended xs ys u) w t h = absurd t
 
-do-serving : (e : FopEvent) (o : List ℕ) (v : ℕ) (f : Fop) → T (rowServing e) → T (sound (modeOf (f .state))) → Serving (fopDo e o v f)
+do-serving : (e : FopEvent) (o : List ℕ) (v : ℕ) (f : Fop) → T (rowServing e) → T (sound (modeOf (effective f))) → Serving (fopDo e o v f)
 unfolding fopDo
-do-serving e o v f t g = cell-serving (f .state) (cell78 (table78 e) (f .state)) (begin (some e) o v f) (at-cell cellServing (table78 e) (f .state) t g) tt
+do-serving e o v f t g = cell-serving (f .state) (cell78 (table78 e) (f .state)) (begin (some e) o v f) (at-cell cellServing (table78 e) (f .state) (f .suspendState) t g) tt
 
--- of a sender in a state of the session, at Timeout_Type 0
-module _ (f : Fop) (g : T (sound (modeOf (f .state)))) where
-  pub tick-serving : eqb (f .preset .timeoutType) 0 ≡ true → Serving (fopTick f)
+-- of a sender in a state of the session
+module _ (f : Fop) (g : T (sound (modeOf (effective f)))) where
+  pub tick-serving : Serving (fopTick f)
   unfolding table78 withoutAd
-  tick-serving z = tick-ways rowServing tt Serving f z (λ e t. do-serving e [] 0 (lowered f) t g) (inl tt)
+  tick-serving = tick-ways rowServing tt Serving f (λ z. tt) (λ e t. do-serving e [] 0 (lowered f) t g) (inl tt)
 
   pub lower-serving : (l : Lower) → Serving (fopLower l f)
   unfolding fopLower table78 withoutAd
@@ -111,7 +114,7 @@ module _ (f : Fop) (g : T (sound (modeOf (f .state)))) where
 
   pub ad-serving : (o : List ℕ) → Serving (fopAd o f)
   unfolding fopAd table78 withoutAd
-  ad-serving o = do-serving _ o 0 f (first-all rowServing (when (isEmpty (f .waitQueue)) FopEvent.E19 ∷ []) FopEvent.E20 tt) g
+  ad-serving o = do-serving _ o 0 f (first-all rowServing (when (isEmpty (f .queues .waitQueue)) FopEvent.E19 ∷ []) FopEvent.E20 tt) g
 
   pub bd-serving : (o : List ℕ) → Serving (fopBd o f)
   unfolding fopBd table78 withoutAd

@@ -8,20 +8,23 @@ use mathlib.Core.Option.{Option, some}
 use Prim.Native.Nat.{ℕ, _+_, _-_, _≤_}
 use native.Mathlib.Nat.{zero-add}
 use native.Mathlib.Omega.{arith}
+use lib.Dec.{T}
 use lib.ListN.{length, drop, length-drop}
 use lib.Seq.{take-all, take-length}
-use Rattle.fop.specs.Table.{State, S1, S2, S3, S4, S5, S6}
+use Rattle.fop.specs.declared.State.{State}
+use Rattle.fop.specs.declared.State.the-variants.{S1, S2, S3, S4, S5, S6}
 use Rattle.fop.specs.Machine.{fdus}
+use Rattle.fop.specs.Effective.{effectiveOf, effective}
 use Rattle.session.specs.Ends.{Settings}
 use Rattle.session.specs.Claims.{unitsAt, outstanding, remaining, BufferFree}
 use Rattle.session.specs.Stronger.{unitsOf, somes, inService}
 use Rattle.session.proofs.Core.{Session}
 use Rattle.session.proofs.Lists.{iota, iota-append, length-nums, somes-nums, units-iota, unitsOf-nums, left-none}
 use Rattle.session.proofs.Values.{Dead}
-use Rattle.session.proofs.Rows.{modeOf}
-use Rattle.session.proofs.Inv.{Inv, Side, isLocked}
+use Rattle.session.proofs.Rows.{modeOf, sound}
+use Rattle.session.proofs.Inv.{Inv, Side, in-mode, isLocked}
 use Rattle.session.proofs.Buffers.{Full}
-use Rattle.session.proofs.Next.{historyOf, lv, out-is}
+use Rattle.session.proofs.Next.{historyOf, live-of, lv, out-is}
 use Rattle.farm.specs.declared.State.{State as FarmState}
 use Rattle.farm.specs.declared.State.the-variants.{Open, Wait, Lockout}
 
@@ -36,11 +39,11 @@ module _ (set : Settings) (κ : Session) (I : Inv set κ) where
   low = omega (arith, I .base)
 
   -- out of service
-  pub initial-denied : (s : State) → Side (modeOf s) (set .n) (length (κ .confirmed)) (κ .sent) (κ .denied) (fdus (κ .fop .sentQueue)) (κ .fop .vs) (κ .fop .nnr) → s ≡ S6
+  pub initial-denied : (s : State) → Side (modeOf s) (set .n) (length (κ .confirmed)) (κ .sent) (κ .denied) (fdus (κ .fop .queues .sentQueue)) (κ .fop .numbers .vs) (κ .fop .numbers .nnr) → s ≡ S6
       → κ .denied ≡ iota (length (κ .confirmed)) (length (κ .sent) - length (κ .confirmed))
   initial-denied s h e =
-      let d : Dead (length (κ .confirmed)) (κ .denied) (κ .sent) [] [] (fdus (κ .fop .sentQueue)) =
-      subst (λ (x : State). Side (modeOf x) (set .n) (length (κ .confirmed)) (κ .sent) (κ .denied) (fdus (κ .fop .sentQueue)) (κ .fop .vs) (κ .fop .nnr)) e h in
+      let d : Dead (length (κ .confirmed)) (κ .denied) (κ .sent) [] [] (fdus (κ .fop .queues .sentQueue)) =
+      subst (λ (x : State). Side (modeOf x) (set .n) (length (κ .confirmed)) (κ .sent) (κ .denied) (fdus (κ .fop .queues .sentQueue)) (κ .fop .numbers .vs) (κ .fop .numbers .nnr)) e h in
       let a : length (d .after) ≡ length (κ .sent) - length (κ .confirmed) = ap length (d .cut) ∙ length-drop (length (κ .confirmed)) (κ .sent) in
       let z : length (κ .confirmed) + 0 ≡ length (κ .confirmed) = omega arith in
       sym (append-nil (κ .denied)) ∙ d .denied ∙ rw (a, z)
@@ -55,7 +58,7 @@ module _ (set : Settings) (κ : Session) (I : Inv set κ) where
       ∙ iota-append 0 (length (κ .confirmed)) (length (κ .sent) - length (κ .confirmed)) ∙ ap (iota 0) z in
       ap (unitsAt (κ .sent)) e ∙ units-iota (κ .sent) 0 (length (κ .sent)) (omega arith) ∙ ap (map some) (take-length (κ .sent))
 
-  pub state-is : (s : State) → Side (modeOf s) (set .n) (length (κ .confirmed)) (κ .sent) (κ .denied) (fdus (κ .fop .sentQueue)) (κ .fop .vs) (κ .fop .nnr)
+  pub state-is : (s : State) → Side (modeOf s) (set .n) (length (κ .confirmed)) (κ .sent) (κ .denied) (fdus (κ .fop .queues .sentQueue)) (κ .fop .numbers .vs) (κ .fop .numbers .nnr)
       → (inService s ≡ true) ⊎ (s ≡ S6)
   state-is S1 h = inl refl
   state-is S2 h = inl refl
@@ -64,16 +67,28 @@ module _ (set : Settings) (κ : Session) (I : Inv set κ) where
   state-is S5 h = absurd h
   state-is S6 h = inr refl
 
+  -- the states of a session
+  pub states-are : (inService (κ .fop .state) ≡ true) ⊎ (κ .fop .state ≡ S6)
+  states-are = by (κ .fop .state) (in-mode set κ I)
+    where
+      by : (s : State) → T (sound (modeOf (effectiveOf s (κ .fop .suspendState)))) → (inService s ≡ true) ⊎ (s ≡ S6)
+      by S1 h = inl refl
+      by S2 h = inl refl
+      by S3 h = inl refl
+      by S4 h = absurd h
+      by S5 h = absurd h
+      by S6 h = inr refl
+
   pub at-most : length (outstanding (historyOf κ)) ≤ set .k
   unfolding outstanding
-  at-most = by (state-is (κ .fop .state) (I .side))
+  at-most = by (state-is (effective (κ .fop)) (I .side))
     where
-      by : (inService (κ .fop .state) ≡ true) ⊎ (κ .fop .state ≡ S6) → length (outstanding (historyOf κ)) ≤ set .k
-      by (inl e) = omega (arith, ap length (out-is set κ I (lv set κ I e .fresh)), length-nums C (S - C), I .base)
+      by : (inService (effective (κ .fop)) ≡ true) ⊎ (effective (κ .fop) ≡ S6) → length (outstanding (historyOf κ)) ≤ set .k
+      by (inl e) = omega (arith, ap length (out-is set κ I (live-of (effective (κ .fop)) (set .n) _ _ _ _ _ _ e (I .side) .fresh)), length-nums C (S - C), I .base)
       by (inr e) =
           let z : remaining (κ .confirmed) (κ .denied) 0 S ≡ [] =
           ap (λ (x : List (Option ℕ)). remaining x (κ .denied) 0 S) (I .places)
-          ∙ ap (λ (x : List (Option ℕ)). remaining (iota 0 C) x 0 S) (initial-denied (κ .fop .state) (I .side) e) ∙ left-none C (S - C) 0 S (omega (arith, low)) in
+          ∙ ap (λ (x : List (Option ℕ)). remaining (iota 0 C) x 0 S) (initial-denied (effective (κ .fop)) (I .side) e) ∙ left-none C (S - C) 0 S (omega (arith, low)) in
           omega (arith, ap length z)
 
   pub standing : inService (κ .fop .state) ≡ true → unitsAt (κ .sent) (κ .confirmed ++ somes (outstanding (historyOf κ))) ≡ map some (κ .sent)
@@ -81,7 +96,7 @@ module _ (set : Settings) (κ : Session) (I : Inv set κ) where
       let l = lv set κ I e in
       ap (λ (x : List (Option ℕ)). unitsAt (κ .sent) (κ .confirmed ++ x)) (ap somes (out-is set κ I (l .fresh)) ∙ somes-nums C (S - C)) ∙ all-units
 
-  pub queued : inService (κ .fop .state) ≡ true → fdus (κ .fop .sentQueue) ≡ unitsOf (κ .sent) (outstanding (historyOf κ))
+  pub queued : inService (κ .fop .state) ≡ true → fdus (κ .fop .queues .sentQueue) ≡ unitsOf (κ .sent) (outstanding (historyOf κ))
   queued e =
       let l = lv set κ I e in
       let lo = low in

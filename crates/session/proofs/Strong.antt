@@ -11,8 +11,11 @@ use native.Mathlib.Omega.{arith}
 use lib.ListN.{length, getD}
 use Rattle.base.specs.Modulo.{advanced}
 use Rattle.fop.specs.Units.{Fdu, Frame, AD, BD, Word, valid, written, wordOctets, readWord}
-use Rattle.fop.specs.Table.{State, S1, S2, S3, S4, S5, S6, FopEvent}
+use Rattle.fop.specs.declared.State.{State}
+use Rattle.fop.specs.declared.State.the-variants.{S1, S2, S3, S4, S5, S6}
+use Rattle.fop.specs.Table.{FopEvent}
 use Rattle.fop.specs.Variables.{Fop, Work}
+use Rattle.fop.specs.Effective.{effective}
 use Rattle.fop.specs.Machine.{fdus}
 use Rattle.fop.specs.Events.{fopTick, first, when, fopAd, fopBd, fopLower, fopDirective, directiveEvent, isEmpty, lowerEvent, wordEvent, seen}
 use Rattle.fop.specs.Events.{fopWord, SenderEvent, requestAd, requestBd, lower, directive, wordArrives, work}
@@ -24,8 +27,9 @@ use Rattle.session.specs.Claims.{unitsAt, outstanding, IsOutstanding, ne
 use Rattle.session.specs.Stronger.{unitsOf, somes, inService, InSession, Stronger, Sub}
 use Rattle.fop.specs.Events as fop
 use Rattle.session.specs.Session as ses
-use Rattle.session.proofs.Test.{lowered, tick-ways}
-use Rattle.session.proofs.Rows.{modeOf, rowOk, word-ok, timer-ok, ad-ok, bd-ok, lower-ok, terminate-ok}
+use Rattle.session.proofs.Test.{lowered, tick-ways, never-suspends}
+use Rattle.session.proofs.Suspended.{effective-is}
+use Rattle.session.proofs.Rows.{modeOf, rowAny, any, word-ok, timer-ok, ad-ok, bd-ok, lower-ok, terminate-ok}
 use Rattle.session.proofs.Inv.{Inv, withFop, timed, fit, legal-of, ad-keeps, bd-keeps, ticks-keeps, lower-keeps, terminate-keeps}
 use Rattle.session.proofs.Inv.{word-keeps, alerting, in-mode}
 use Rattle.session.proofs.Core.{Session, goes, addAll}
@@ -33,7 +37,7 @@ use Rattle.session.proofs.Chan.{wds-le}
 use Rattle.session.proofs.Values.{word, unit, nothing, live}
 use Rattle.session.proofs.Bds.{bd-part}
 use Rattle.session.proofs.Receiver.{at}
-use Rattle.session.proofs.Next.{historyOf, lv, word-step}
+use Rattle.session.proofs.Next.{historyOf, live-of, lv, word-step}
 use Rattle.session.proofs.Arrive.{expedites, accepts-bd}
 use Rattle.session.proofs.Asks.{responds, starts, asks}
 use Rattle.session.proofs.Link.{Rel, reads-of, same-step, tables-tied, reads, fly-reads, Reads}
@@ -43,13 +47,13 @@ use Rattle.session.proofs.Handed.{From, row-from, is-handed}
 use Rattle.session.proofs.Keys.{Tidy}
 use Rattle.session.proofs.Tidy.{step-tidy, start-tidy}
 use Rattle.session.proofs.Theorem.{oldest-frame, word-comes, either, from-start}
-use Rattle.session.proofs.Standing.{initial-denied, all-units, at-most, standing, queued, state-is, opens}
+use Rattle.session.proofs.Standing.{initial-denied, all-units, at-most, standing, queued, states-are, opens}
 use Rattle.session.proofs.Once.{Run, Once, work-once, start-once, step-once}
 use Rattle.session.proofs.Serving.{NoAd, Serving, ad-serving, bd-serving, tick-serving, lower-serving, terminate-serving, word-serving}
 use Rattle.session.proofs.Exact.{exact}
 use Rattle.session.proofs.Clear.{length-places}
 use Rattle.session.proofs.Core as core
-use Rattle.farm.specs.declared.Receiver.{Receiver}
+use Rattle.receiver.specs.declared.Receiver.{Receiver}
 use Rattle.session.specs.Receiver.{releaseBuffer}
 use Rattle.fop.specs.Units.{readWord, valid}
 use lib.ListN.{length-append}
@@ -71,12 +75,12 @@ module _ (set : Settings) (vw : Within set) (m : Ends) (t : Tied set m) (σ : Li
 
   -- each AD frame of the list is a unit sent, not confirmed
   abbrev SentFrom : List Frame → Type 0
-  SentFrom fr = From (modeOf (κ .fop .state)) (length (κ .confirmed)) (addAll (set .n) (κ .sent) fr) fr
+  SentFrom fr = From (modeOf (effective (κ .fop))) (length (κ .confirmed)) (addAll (set .n) (κ .sent) fr) fr
 
   tick-from : SentFrom ((fopTick (κ .fop)) .frames)
   tick-from =
-      tick-ways (rowOk nothing) timer-ok (λ w. SentFrom (w .frames)) (κ .fop) (alerting set κ I)
-      (λ e t. row-from set (withFop (lowered (κ .fop)) κ) (timed set _ _ κ I) nothing (length (κ .confirmed)) e [] 0 t (omega arith) tt) tt
+      tick-ways (rowAny nothing) timer-ok (λ w. SentFrom (w .frames)) (κ .fop) (never-suspends (κ .fop) (alerting set κ I))
+      (λ e t. row-from set (withFop (lowered (κ .fop)) κ) (timed set _ _ κ I) nothing (length (κ .confirmed)) e [] 0 (any nothing e t) (omega arith) tt) tt
 
   -- what an event of the session hands down reads back, and is such a list
   abbrev Given-by : SenderEvent → Type 0
@@ -86,25 +90,25 @@ module _ (set : Settings) (vw : Within set) (m : Ends) (t : Tied set m) (σ : Li
   unfolding work judged fopAd fopBd fopLower fopDirective directiveEvent fopWord core.wordCome core.channels
   given-by (requestAd o) lent h g = (
     reads-of set (requestAd o) lent κ g (ad-keeps set lent o κ I),
-    row-from set κ I unit (length (κ .confirmed)) (first (when (isEmpty (κ .fop .waitQueue)) FopEvent.E19 ∷ []) FopEvent.E20) o 0
-        (ad-ok (isEmpty (κ .fop .waitQueue))) (omega arith) (legal-of o (fit (set .own) (requestAd o) lent (κ .fop) g .0)),
+    row-from set κ I unit (length (κ .confirmed)) (first (when (isEmpty (κ .fop .queues .waitQueue)) FopEvent.E19 ∷ []) FopEvent.E20) o 0
+        (any unit _ (ad-ok (isEmpty (κ .fop .queues .waitQueue)))) (omega arith) (legal-of o (fit (set .own) (requestAd o) lent (κ .fop) g .0)),
   )
   given-by (requestBd o) lent h g = (
     reads-of set (requestBd o) lent κ g (bd-keeps set lent o κ I),
-    row-from set κ I unit (length (κ .confirmed)) (first (when (κ .fop .out .bd) FopEvent.E21 ∷ []) FopEvent.E22) o 0 (bd-ok (κ .fop .out .bd))
+    row-from set κ I unit (length (κ .confirmed)) (first (when (κ .fop .out .bd) FopEvent.E21 ∷ []) FopEvent.E22) o 0 (any unit _ (bd-ok (κ .fop .out .bd)))
         (omega arith) (legal-of o (fit (set .own) (requestBd o) lent (κ .fop) g .0)),
   )
   given-by fop.tick lent h g = (reads-of set fop.tick lent κ g (ticks-keeps set lent κ I), tick-from)
   given-by (lower l) lent h g = (
     reads-of set (lower l) lent κ g (lower-keeps set lent l κ I),
-    row-from set κ I nothing (length (κ .confirmed)) (lowerEvent l) [] 0 (lower-ok l)
+    row-from set κ I nothing (length (κ .confirmed)) (lowerEvent l) [] 0 (lower-ok l, inl (I .suspension .serving))
         (omega arith) tt,
   )
   given-by (directive d v) lent h g =
       let g' : goes (set .own) (directive 5 v) lent (κ .fop) ≡ true = subst (λ (x : ℕ). goes (set .own) (directive x v) lent (κ .fop) ≡ true) h g in
       subst (λ (x : ℕ). Given-by (directive x v)) (sym h) (
         reads-of set (directive 5 v) lent κ g' (terminate-keeps set v lent κ I),
-        row-from set κ I nothing (length (κ .confirmed)) FopEvent.E29 [] v terminate-ok (omega arith) tt,
+        row-from set κ I nothing (length (κ .confirmed)) FopEvent.E29 [] v (any nothing FopEvent.E29 terminate-ok) (omega arith) tt,
       )
   given-by (wordArrives s) lent h g =
       let l = A.oldest-read set vw m t σ γ κ R G I Q s (h .0) (h .1) in
@@ -114,7 +118,7 @@ module _ (set : Settings) (vw : Within set) (m : Ends) (t : Tied set m) (σ : Li
         subst (λ (x : List ℕ). Reads ((work (set .own) (wordArrives x) (κ .fop)) .frames)) (sym (l .3))
             (reads-of set (wordArrives (wordOctets (set .own) (l .0))) lent (core.channels (κ .frames) (l .1) κ) g' (word-keeps set vw lent κ (l .0 ∷ l .1) I wd)),
         subst (λ (w : Work). SentFrom (w .frames)) (sym (l .5))
-            (row-from set κ I word (wd .0) (wordEvent (seen (l .0) (κ .fop))) [] ((l .0) .nr) (word-ok (seen (l .0) (κ .fop))) (wd .2)
+            (row-from set κ I word (wd .0) (wordEvent (seen (l .0) (κ .fop))) [] ((l .0) .nr) (any word _ (word-ok (seen (l .0) (κ .fop)))) (wd .2)
             (wd .1, wds-le (set .n) (wd .0) _ (l .1) (wd .4))),
       )
 
@@ -157,9 +161,9 @@ module _ (set : Settings) (vw : Within set) (m : Ends) (t : Tied set m) (σ : Li
       let k = given-by e lent h g in
       let w = work (set .own) e (κ .fop) in
       let f : w .frames ≡ AD u ∷ [] = down-is (w .frames) o u (work-few (set .own) e (κ .fop)) (k .0) x q in
-      let r : Run (κ .fop .vs) (AD u ∷ []) (w .fop .vs) = subst (λ (fs : List Frame). Run (κ .fop .vs) fs (w .fop .vs)) f (work-once (set .own) (σ .words) e (κ .fop) h (O l) .1) in
+      let r : Run (κ .fop .numbers .vs) (AD u ∷ []) (w .fop .numbers .vs) = subst (λ (fs : List Frame). Run (κ .fop .numbers .vs) fs (w .fop .numbers .vs)) f (work-once (set .own) (σ .words) e (κ .fop) h (O l) .1) in
       let s : SentFrom (AD u ∷ []) = subst SentFrom f (k .1) in
-      r .0 ∙ lv set κ I (live-serves (κ .fop .state) (s .0 .0)) .isVs)
+      r .0 ∙ live-of (effective (κ .fop)) (set .n) _ _ _ _ _ _ (live-serves (effective (κ .fop)) (s .0 .0)) (I .side) .isVs)
       (λ x. absurd (none-some x)) d
 
   -- only an event that leaves the sender active or resending without wait hands an AD frame down
@@ -167,7 +171,7 @@ module _ (set : Settings) (vw : Within set) (m : Ends) (t : Tied set m) (σ : Li
   unfolding work
   work-serving (requestAd o) h = ad-serving (κ .fop) (in-mode set κ I) o
   work-serving (requestBd o) h = bd-serving (κ .fop) (in-mode set κ I) o
-  work-serving fop.tick h = tick-serving (κ .fop) (in-mode set κ I) (alerting set κ I)
+  work-serving fop.tick h = tick-serving (κ .fop) (in-mode set κ I)
   work-serving (lower l) h = lower-serving (κ .fop) (in-mode set κ I) l
   work-serving (directive d v) h =
       subst (λ (x : ℕ). Serving (fopDirective x v (κ .fop))) (sym h) (terminate-serving (κ .fop) (in-mode set κ I) v)
@@ -206,12 +210,12 @@ module _ (set : Settings) (vw : Within set) (m : Ends) (t : Tied set m) (σ : Li
         atMostK = by (λ h. length (outstanding h) ≤ set .k) (at-most set κ I);
         standing = λ e. by (λ h. unitsAt (h .sent) (h .confirmed ++ somes (outstanding h)) ≡ map some (h .sent))
             (standing set κ I (ap inService (sym st-is) ∙ e));
-        queue = λ e. ap (λ (f : Fop). fdus (f .sentQueue)) (G .fop) ∙ by (λ h. fdus (κ .fop .sentQueue) ≡ unitsOf (h .sent) (outstanding h))
+        queue = λ e. ap (λ (f : Fop). fdus (f .queues .sentQueue)) (G .fop) ∙ by (λ h. fdus (κ .fop .queues .sentQueue) ≡ unitsOf (h .sent) (outstanding h))
             (queued set κ I (ap inService (sym st-is) ∙ e));
         undenied = λ e. by (λ h. h .denied ≡ []) (lv set κ I (ap inService (sym st-is) ∙ e) .fresh);
         initial = λ e. by (λ h. unitsAt (h .sent) (h .confirmed ++ h .denied) ≡ map some (h .sent))
-            (ap (λ (x : List (Option ℕ)). unitsAt (κ .sent) (κ .confirmed ++ x)) (initial-denied set κ I (κ .fop .state) (I .side) (sym st-is ∙ e)) ∙ all-units set κ I);
-        states = subst (λ (s : State). (inService s ≡ true) ⊎ (s ≡ S6)) (sym st-is) (state-is set κ I (κ .fop .state) (I .side));
+            (ap (λ (x : List (Option ℕ)). unitsAt (κ .sent) (κ .confirmed ++ x)) (initial-denied set κ I (effective (κ .fop)) (I .side) (effective-is (κ .fop) (I .suspension .serving) ∙ sym st-is ∙ e)) ∙ all-units set κ I);
+        states = subst (λ (s : State). (inService s ≡ true) ⊎ (s ≡ S6)) (sym st-is) (states-are set κ I);
         responds = λ o lent g r a b c d k.
             ap (λ (x : Answer). x .responses) (answer-is (requestAd o) lent)
             ∙ responds set κ I o lent g (subst (λ (f : Fop). needed (set .own) (requestAd o) f ≤ lent) (G .fop) r) (rw (G .fop) at a)
@@ -231,7 +235,7 @@ module _ (set : Settings) (vw : Within set) (m : Ends) (t : Tied set m) (σ : Li
         once = λ l e lent h o u d q. by (λ y. u .ns ≡ nextNumber set y) (once l e lent h o u d q);
         servingOnly = serving-only;
         exact = exactly;
-        opens = λ b. ap (λ (f : Receiver). f .variables .state) (G .farm)
+        opens = λ b. ap (λ (f : Receiver). f .farm .channel .variables .state) (G .farm)
             ∙ opens set κ I (κ .farm .state) (I .receiver .unlocked) (R .stock .full) (rw (R .history) at b);
         inOrderBd = by (λ h. Sub (h .acceptedBd) (h .sentBd)) (bd-part (κ .acceptedBd) (κ .sentBd) (κ .frames) (I .bd));
         expedited = λ o lent g r b.

@@ -1,16 +1,19 @@
 -- Tests of table 7-8, computed. A test of a row is one of the cell that a state meets, and a test of the lines of an event is one of the line
 -- that holds. A property that actions keep needs one table: for each action the proof that it keeps it, or none; a cell passes where each
 -- of its actions has one.
-use mathlib.Core.Path.{_≡_}
+use mathlib.Core.Path.{_≡_, refl, sym, _∙_}
 use mathlib.Core.Bool.{Bool, true, false, _&&_, false≢true}
 use mathlib.Core.List.{List, [], _∷_}
 use mathlib.Core.Option.{Option, none, some}
 use Prim.Native.Nat.{_-_}
 use lib.Dec.{T, ltb, eqb}
-use Rattle.fop.specs.Table.{State, S1, S2, S3, S4, S5, S6, Action, Cell, Row, row, cell78, FopEvent, E16, E17, E18, E41, E42, E43, E44, E45, E46}
+use Rattle.fop.specs.declared.State.{State}
+use Rattle.fop.specs.declared.State.the-variants.{S1, S2, S3, S4, S5, S6}
+use Rattle.fop.specs.Table.{Action, Cell, Row, row, cell78, FopEvent, E16, E17, E18, E104, E41, E42, E43, E44, E45, E46}
 use Rattle.fop.specs.Variables.{Fop, Work, begin, setClock}
 use Rattle.fop.specs.Machine.{perform, performAll, fopDo}
-use Rattle.fop.specs.Events.{Line, when, first, expiryLines, fopExpiry, fopTick, Lower, lowerEvent}
+use Rattle.fop.specs.declared.Lower.{Lower}
+use Rattle.fop.specs.Events.{Line, when, first, expiryLines, fopExpiry, fopTick, lowerEvent}
 use Rattle.session.proofs.Choices.{and-l, and-r, by-pick}
 
 -- every cell of a row
@@ -40,32 +43,46 @@ first-all t (when c x ∷ more) e h =
     past true b d h = h
     past false b d h = absurd h
 
+abbrev pub EachLine : (FopEvent → Type 0) → List Line → Type 0
+EachLine P [] = Unit {0}
+EachLine P (when c x ∷ more) = P x × EachLine P more
+
+pub first-each : (P : FopEvent → Type 0) (l : List Line) (e : FopEvent) → EachLine P l → P e → P (first l e)
+first-each P [] e each last = last
+first-each P (when c x ∷ more) e each last = by-pick P c (λ t. each .0) (λ t. first-each P more e (each .1) last)
+
 -- the answers of the lower layer
 pub lower-all : (t : FopEvent → Bool) → T (t E41 && (t E42 && (t E43 && (t E44 && (t E45 && t E46))))) → (l : Lower) → T (t (lowerEvent l))
-lower-all t h Lower.adAccept = and-l (t E41) _ h
-lower-all t h Lower.adReject = and-l (t E42) _ (and-r (t E41) _ h)
-lower-all t h Lower.bcAccept = and-l (t E43) _ (and-r (t E42) _ (and-r (t E41) _ h))
-lower-all t h Lower.bcReject = and-l (t E44) _ (and-r (t E43) _ (and-r (t E42) _ (and-r (t E41) _ h)))
-lower-all t h Lower.bdAccept = and-l (t E45) _ (and-r (t E44) _ (and-r (t E43) _ (and-r (t E42) _ (and-r (t E41) _ h))))
-lower-all t h Lower.bdReject = and-r (t E45) _ (and-r (t E44) _ (and-r (t E43) _ (and-r (t E42) _ (and-r (t E41) _ h))))
+lower-all t h Lower.AdAccept = and-l (t E41) _ h
+lower-all t h Lower.AdReject = and-l (t E42) _ (and-r (t E41) _ h)
+lower-all t h Lower.BcAccept = and-l (t E43) _ (and-r (t E42) _ (and-r (t E41) _ h))
+lower-all t h Lower.BcReject = and-l (t E44) _ (and-r (t E43) _ (and-r (t E42) _ (and-r (t E41) _ h)))
+lower-all t h Lower.BdAccept = and-l (t E45) _ (and-r (t E44) _ (and-r (t E43) _ (and-r (t E42) _ (and-r (t E41) _ h))))
+lower-all t h Lower.BdReject = and-r (t E45) _ (and-r (t E44) _ (and-r (t E43) _ (and-r (t E42) _ (and-r (t E41) _ h))))
 
--- the expiry of the timer, at Timeout_Type 0
-expiry-all : (t : FopEvent → Bool) → T (t E16 && t E17) → (short alerting : Bool) → alerting ≡ true → T (t (first (expiryLines short alerting) E18))
-expiry-all t h true true e = and-l (t E16) _ h
-expiry-all t h false true e = and-r (t E16) _ h
-expiry-all t h short false e = absurd (false≢true e)
+-- the expiry of the timer: E16 or E17 at Timeout_Type 0, else E104 or E18
+expiry-all : (t : FopEvent → Bool) → T (t E16 && t E17) → (short alerting : Bool) → (alerting ≡ false → T (t E104 && t E18))
+    → T (t (first (expiryLines short alerting) E18))
+expiry-all t h true true k = and-l (t E16) _ h
+expiry-all t h false true k = and-r (t E16) _ h
+expiry-all t h true false k = and-l (t E104) _ (k refl)
+expiry-all t h false false k = and-r (t E104) _ (k refl)
 
--- a tick: the timer is lowered, and with Timeout_Type 0 its expiry is E16 or E17
+-- a tick: the timer is lowered, and may expire
 abbrev pub lowered : Fop → Fop
 lowered f = setClock (f .clock .timer - 1) (f .clock .transmissionCount) f
 
-pub tick-ways : (t : FopEvent → Bool) → T (t E16 && t E17) → (P : Work → Type 0) (f : Fop) → eqb (f .preset .timeoutType) 0 ≡ true
+pub tick-ways : (t : FopEvent → Bool) → T (t E16 && t E17) → (P : Work → Type 0) (f : Fop) → (eqb (f .preset .timeoutType) 0 ≡ false → T (t E104 && t E18))
     → ((e : FopEvent) → T (t e) → P (fopDo e [] 0 (lowered f))) → P (begin none [] 0 (lowered f)) → P (fopTick f)
 unfolding fopTick fopExpiry
-tick-ways t h P f alerting expires passes =
+tick-ways t h P f suspending expires passes =
     by-pick P (eqb (f .clock .timer) 1)
-    (λ b. expires _ (expiry-all t h (ltb (f .clock .transmissionCount) (f .preset .transmissionLimit)) (eqb (f .preset .timeoutType) 0) alerting))
+    (λ b. expires _ (expiry-all t h (ltb (f .clock .transmissionCount) (f .preset .transmissionLimit)) (eqb (f .preset .timeoutType) 0) suspending))
     (λ b. passes)
+
+-- with Timeout_Type 0 no expiry suspends
+pub never-suspends : {A : Type 0} (f : Fop) → eqb (f .preset .timeoutType) 0 ≡ true → eqb (f .preset .timeoutType) 0 ≡ false → A
+never-suspends f a b = absurd (false≢true (sym b ∙ a))
 
 -- A property that actions keep.
 abbrev pub Keeps : (Work → Type 0) → Action → Type 0

@@ -16,9 +16,10 @@ use lib.ListN.{length, take, drop, getD, take-append-drop}
 use lib.Seq.{take-take}
 use Rattle.fop.specs.Units.{Fdu, Frame, AD, Word, valid, written, wordOctets, readWord}
 use Rattle.fop.specs.Variables.{Fop}
-use Rattle.fop.specs.Events.{SenderEvent, requestAd, lower, adAccept, wordArrives}
+use Rattle.fop.specs.declared.Lower.the-variants.{AdAccept}
+use Rattle.fop.specs.Events.{SenderEvent, requestAd, lower, wordArrives}
 use Rattle.fop.specs.Answers.{needed}
-use Rattle.farm.specs.declared.Receiver.{Receiver}
+use Rattle.receiver.specs.declared.Receiver.{Receiver}
 use Rattle.farm.specs.declared.State.the-variants.{Open}
 use Rattle.session.specs.Frames.{read}
 use Rattle.session.specs.Ends.{Settings, Within, Ends, Tied, tables}
@@ -134,28 +135,28 @@ module _ (set : Settings) (vw : Within set) (m : Ends) (t : Tied set m) (σ : Li
         never = (
           ap (λ (h : History). h .lockedOut) (R .history),
           ap (λ (h : History). h .lockedOut) (G .history),
-          ap (λ (f : Receiver). f .variables .lockout) (G .farm) ∙ I .receiver .noLock,
-          λ e. true≢false (ap isLocked (sym e ∙ ap (λ (f : Receiver). f .variables .state) (G .farm)) ∙ I .receiver .unlocked),
+          ap (λ (f : Receiver). f .farm .channel .variables .lockout) (G .farm) ∙ I .receiver .noLock,
+          λ e. true≢false (ap isLocked (sym e ∙ ap (λ (f : Receiver). f .farm .channel .variables .state) (G .farm)) ∙ I .receiver .unlocked),
         );
         accepts = λ s fs u e q.
             let l = oldest-frame set vw (κ .frames) s fs (AD u) (fly-reads (set .n) (set .k) (κ .sent) (I .base .num) _ _ (κ .frames) (I .base .fly))
             (sym e ∙ R .frames) q in
             let a = accepts set vw κ I u (l .0) (l .1) in
             let n = ap (λ (h : History). h .accepted) (next frameIn .history) in
-            let g = ap (λ (f : Receiver). f .variables .state) (G .farm) in
+            let g = ap (λ (f : Receiver). f .farm .channel .variables .state) (G .farm) in
             by (λ h. ((ses.step set m frameIn σ) .history .accepted ≡ h .accepted ++ (u ∷ [])) ↔
-            ((γ .receiver .variables .state ≡ Open) × (u .ns ≡ expected set h) × BufferFree set h))
+            ((γ .receiver .farm .channel .variables .state ≡ Open) × (u .ns ≡ expected set h) × BufferFree set h))
             (λ x. let r = a .0 (sym n ∙ x) in (g ∙ r .0, r .1, r .2), λ x. n ∙ a .1 (sym g ∙ x .0, x .1, x .2));
         offered = λ o lent g r a b c d k.
             by (λ h. Sends set (nextUnit set h o) σ (ses.step set m (adRequest o lent) σ))
             (sends (adRequest o lent) _ (offers set κ I o lent g (lent-is (requestAd o) lent r) (rw (G .fop) at a) (rw (G .fop) at b)
             (rw (G .fop) at c) (rw (G .fop) at d) (rw (R .history) at k)));
         readyAgain = λ u lent r a b.
-            resends (lowerSays adAccept lent) u (ready-again set κ I u lent (lent-is (lower adAccept) lent r) (rw (G .fop) at a) (rw (G .fop) at b));
+            resends (lowerSays AdAccept lent) u (ready-again set κ I u lent (lent-is (lower AdAccept) lent r) (rw (G .fop) at a) (rw (G .fop) at b));
         readyNew = λ o lent r a b k w.
-            by (λ h. Sends set (nextUnit set h o) σ (ses.step set m (lowerSays adAccept lent) σ))
-            (sends (lowerSays adAccept lent) _
-            (ready-new set κ I o lent (lent-is (lower adAccept) lent r) (rw (G .fop) at a) (rw (G .fop) at b) (rw (R .history) at k) (rw (G .fop) at w)));
+            by (λ h. Sends set (nextUnit set h o) σ (ses.step set m (lowerSays AdAccept lent) σ))
+            (sends (lowerSays AdAccept lent) _
+            (ready-new set κ I o lent (lent-is (lower AdAccept) lent r) (rw (G .fop) at a) (rw (G .fop) at b) (rw (R .history) at k) (rw (G .fop) at w)));
         expires = λ i lent r a b c o.
             by (λ h. Resends set (getD (h .sent) i noUnit) σ (ses.step set m (ticks lent) σ)
             ⊎ Marked (getD (h .sent) i noUnit) ((ses.step set (tables set) (ticks lent) γ) .sender))
@@ -171,7 +172,7 @@ module _ (set : Settings) (vw : Within set) (m : Ends) (t : Tied set m) (σ : Li
                   (sends (wordIn lent) _
                   (clears-sends set vw κ I a' w (k .0) lent (k .1) (k .2) b c d f' o (rw (R .history) at p) (rw (G .fop) at x) (rw (G .fop) at y))),
             );
-        words = word-made set vw m t σ κ R I (γ .receiver .variables) (ap (λ (f : Receiver). f .variables) (G .farm));
+        words = word-made set vw m t σ κ R I (γ .receiver .farm .channel .variables) (ap (λ (f : Receiver). f .farm .channel .variables) (G .farm));
       }
 
 -- the two sessions after a list of events, both seen as one, with whatever X else every event keeps

@@ -1,34 +1,40 @@
 -- Every event keeps the flags' invariant (Keys): a row leads to a state of resending only from one, or by a word that asks for it, which is a
 -- computed test of table 7-8; the receiver's rows are computed in each state.
-use mathlib.Core.Path.{_≡_, refl, ap, _∙_}
+use mathlib.Core.Logic.{_⊎_, inl, inr}
+use mathlib.Core.Path.{_≡_, refl, sym, ap, subst, _∙_}
 use mathlib.Core.Bool.{Bool, true, false, not, _&&_}
 use mathlib.Core.List.{List, [], _∷_, _++_}
-use mathlib.Core.Option.{none, some}
+use mathlib.Core.Option.{Option, none, some}
 use Prim.Native.Nat.{ℕ, _+_, _*_, _≤_, _<_}
 use native.Mathlib.Omega.{arith}
-use lib.Dec.{leb, eqb, T, leb→le}
+use lib.Dec.{leb, eqb, T, leb→le, eqb→eq}
 use lib.ListN.{length, length-append}
 use Rattle.base.specs.Choice.{pick}
 use Rattle.base.specs.Modulo.{advanced}
 use Rattle.fop.specs.Units.{Fdu, Frame, AD, BD, Unlock, SetVR, Refused, Word, wordOctets}
-use Rattle.fop.specs.Table.{State, Cell, cell, NotApplicable, FopEvent, table78, cell78}
-use Rattle.fop.specs.Variables.{Work, begin}
+use Rattle.fop.specs.declared.State.{State}
+use Rattle.fop.specs.declared.State.the-variants.{S1, S2, S3, S4, S5, S6}
+use Rattle.fop.specs.Table.{Action, Cell, cell, NotApplicable, FopEvent, table78, cell78}
+use Rattle.fop.specs.Variables.{Fop, Work, begin, onFop, setState}
+use Rattle.fop.specs.Effective.{effectiveOf, effective}
 use Rattle.fop.specs.Machine.{fopDo, performCell, performAll, perform}
-use Rattle.fop.specs.Events.{Seen, seen, wordEvent, fopWord, fopTick, fopAd, fopBd, fopLower, fopDirective, directiveEvent}
-use Rattle.fop.specs.Events.{when, first, Lower, lowerEvent, isEmpty, SenderEvent, requestAd, requestBd, lower, directive, wordArrives, work}
+use Rattle.fop.specs.Events.{Seen, seen, wordLines, wordEvent, fopWord, fopTick, fopAd, fopBd, fopLower, fopDirective, directiveEvent}
+use Rattle.fop.specs.declared.Lower.{Lower}
+use Rattle.fop.specs.Events.{when, first, lowerEvent, isEmpty, SenderEvent, requestAd, requestBd, lower, directive, wordArrives, work}
 use Rattle.fop.specs.Answers.{judged}
 use Rattle.session.specs.Receiver.{wordLength}
 use Rattle.session.specs.Ends.{Settings, Within, startSender, startReceiver}
 use Rattle.session.specs.Session.{Event, adRequest, bdRequest, ticks, lowerSays, terminate, wordIn, wordLost, wordMade, frameIn, frameLost, release, places}
 use Rattle.session.specs.Session.{rest, addSent}
 use Rattle.fop.specs.Events as fop
-use Rattle.session.proofs.Choices.{by-pick, never, and-l, and-r}
-use Rattle.session.proofs.Test.{first-all, lower-all, lowered, tick-ways}
+use Rattle.session.proofs.Choices.{by-pick, never, and-l, and-r, _also_}
+use Rattle.session.proofs.Test.{first-all, first-each, lower-all, lowered, tick-ways, never-suspends}
+use Rattle.session.proofs.Suspended.{suspendAll, suspend-all, unsuspended}
 use Rattle.session.proofs.Core.{Session, addAll, firstOf, answered, sender, goes, channels, wordCome, frameCome, receiver, taken, step, stepWith}
 use Rattle.session.proofs.Core.{releases, frameEvent, isHanded, free, isHeld}
 use Rattle.session.proofs.Chan.{Fly, Wds}
 use Rattle.session.proofs.Values.{Given, word, unit, nothing, Reports}
-use Rattle.session.proofs.Rows.{modeOf, sound, atAll, at-cell, rowOk, word-ok, ad-ok, bd-ok, lower-ok, terminate-ok}
+use Rattle.session.proofs.Rows.{modeOf, sound, atAll, atSuspended, at-any, at-zero, rowAny, Tested, any, word-ok, ad-ok, bd-ok, lower-ok, terminate-ok}
 use Rattle.session.proofs.Inv.{Inv, alerting, in-mode, isLocked, row-bound, withFop, timed, fit, word-read, legal-of}
 use Rattle.session.proofs.Receiver.{ad-cases, begun, at}
 use Rattle.session.proofs.Clear.{length-places}
@@ -36,55 +42,106 @@ use Rattle.session.proofs.Keys.{bit, bit-le, rank, rank-le, floor, wait
 use Rattle.session.proofs.Every.{implies, implied, everySeen, seen-at}
 use Rattle.fop.specs.Table.{ifNotSuspended}
 use Rattle.farm.specs.Table as t79
-use Rattle.farm.specs.Table.{stepOf}
-use Rattle.farm.specs.Receiver.{unitOf}
+use Rattle.farm.specs.Table.{stepOf, unitOf}
 use Rattle.farm.specs.declared.State.{State as FarmState}
 use Rattle.farm.specs.declared.State.the-variants.{Open, Wait, Lockout}
 use Rattle.farm.specs.declared.Event.{Event as FarmEvent}
 use Rattle.farm.specs.declared.Event.the-variants as farm
 use Rattle.farm.specs.declared.Variables.{Variables}
 
--- the next state is not one of resending
-abbrev forward : State → Cell → Bool
-forward s NotApplicable = false
-forward s (cell xs u) = leb (rank u) 0
-forward s (ifNotSuspended xs ys u) = false
+-- the next effective state is not one of resending
+abbrev forward : ℕ → State → Cell → Bool
+forward n s NotApplicable = false
+forward n s (cell xs u) = leb (rank (effectiveOf u (suspendAll xs n))) 0
+forward n s (ifNotSuspended xs ys u) = false
 
--- the next state is one of resending only if the last was
-abbrev holds : State → Cell → Bool
-holds s NotApplicable = true
-holds s (cell xs u) = leb (rank u) (rank s)
-holds s (ifNotSuspended xs ys u) = false
+-- the next effective state is one of resending only if the last was
+abbrev holds : ℕ → State → Cell → Bool
+holds n s NotApplicable = true
+holds n s (cell xs u) = leb (rank (effectiveOf u (suspendAll xs n))) (rank (effectiveOf s n))
+holds n s (ifNotSuspended xs ys u) = false
 
 abbrev rowHolds : FopEvent → Bool
-rowHolds e = atAll holds (table78 e)
+rowHolds e = atAll (holds 0) (table78 e) && atSuspended holds (table78 e)
 
-forward-next : (c : Cell) (w : Work) (s : State) → T (forward s c) → rank ((performCell c w) .fop .state) ≤ 0
+-- by what is known of Suspend_State after the actions
+rank-after : (xs : List Action) (w : Work) (u : State) (k : ℕ) → T (leb (rank (effectiveOf u (suspendAll xs (w .fop .suspendState)))) k)
+    → rank (effectiveOf u ((performAll xs w) .fop .suspendState)) ≤ k
+rank-after xs w u k t = subst (λ (n : ℕ). rank (effectiveOf u n) ≤ k) (sym (suspend-all xs w)) (leb→le _ k t)
+
+forward-next : (c : Cell) (w : Work) → T (forward (w .fop .suspendState) (w .fop .state) c) → rank (effective ((performCell c w) .fop)) ≤ 0
 unfolding performCell
-forward-next NotApplicable w s t = absurd t
-forward-next (ifNotSuspended xs ys u) w s t = absurd t
-forward-next (cell xs u) w s t = leb→le (rank u) 0 t
+forward-next NotApplicable w t = absurd t
+forward-next (ifNotSuspended xs ys u) w t = absurd t
+forward-next (cell xs u) w t = rank-after xs w u 0 t
 
-holds-next : (c : Cell) (w : Work) → T (holds (w .fop .state) c) → rank ((performCell c w) .fop .state) ≤ rank (w .fop .state)
+holds-next : (c : Cell) (w : Work) → T (holds (w .fop .suspendState) (w .fop .state) c)
+    → rank (effective ((performCell c w) .fop)) ≤ rank (effective (w .fop))
 unfolding performCell
 holds-next NotApplicable w t = omega arith
 holds-next (ifNotSuspended xs ys u) w t = absurd t
-holds-next (cell xs u) w t = leb→le (rank u) (rank (w .fop .state)) t
+holds-next (cell xs u) w t = rank-after xs w u (rank (effective (w .fop))) t
 
 -- without the retransmit flag a word leads to no state of resending
 abbrev forwardAt : Seen → Bool
-forwardAt x = implies (not (x .retransmit)) (atAll forward (table78 (wordEvent x)))
+forwardAt x = implies (not (x .retransmit)) (atAll (forward 0) (table78 (wordEvent x)))
 
 forward-all : T (everySeen forwardAt)
 unfolding table78 wordEvent
 forward-all = tt
 
-word-forward : (x : Seen) → x .retransmit ≡ false → T (atAll forward (table78 (wordEvent x)))
+word-forward : (x : Seen) → x .retransmit ≡ false → T (atAll (forward 0) (table78 (wordEvent x)))
 word-forward x r = implied (not (x .retransmit)) _ (seen-at forwardAt x forward-all) (rw r)
+
+-- in Initial a word is ignored, suspended or not
+initial-ignores : (x : Seen) (w : Work) → performCell (cell78 (table78 (wordEvent x)) S6) w ≡ onFop (setState S6 (w .fop)) w
+unfolding performCell performAll perform table78 wordEvent
+initial-ignores x w =
+    first-each (λ e. performCell (cell78 (table78 e) S6) w ≡ onFop (setState S6 (w .fop)) w) (wordLines x) FopEvent.E103
+    (refl also refl also refl also refl also refl also refl also refl also refl
+    also refl also refl also refl also refl also refl also refl also refl also refl also tt) refl
+
+-- so without the retransmit flag a word leads to no effective state of resending, or changes nothing
+module _ (x : Seen) (r : x .retransmit ≡ false) (e : Option FopEvent) (o : List ℕ) (v : ℕ) (f : Fop) (g : T (sound (modeOf (effective f))))
+    (out : T (unsuspended (f .state) (f .suspendState))) where
+  abbrev done : Work
+  done = performCell (cell78 (table78 (wordEvent x)) (f .state)) (begin e o v f)
+
+  abbrev Falls : Type 0
+  Falls = (rank (effective (done .fop)) ≤ 0) ⊎ ((done .confirmed ≡ []) × (rank (effective (done .fop)) ≤ rank (effective f)))
+
+  forward-zero : f .suspendState ≡ 0 → Falls
+  forward-zero z =
+      inl (forward-next (cell78 (table78 (wordEvent x)) (f .state)) (begin e o v f) (at-zero forward (table78 (wordEvent x)) (f .state) (f .suspendState) (word-forward x r) g z))
+
+  ignored-initial : f .state ≡ S6 → Falls
+  ignored-initial q =
+      let p : done ≡ onFop (setState S6 f) (begin e o v f) =
+      ap (λ (s : State). performCell (cell78 (table78 (wordEvent x)) s) (begin e o v f)) q ∙ initial-ignores x (begin e o v f) in
+      let k : rank (effective (done .fop)) ≡ rank (effective f) =
+      ap (λ (w : Work). rank (effective (w .fop))) p ∙ ap (λ (s : State). rank (effectiveOf s (f .suspendState))) (sym q) in
+      inr (ap (λ (w : Work). w .confirmed) p, omega (arith, k))
+
+  word-falls : Falls
+  word-falls = by (f .state) refl
+    where
+      outside : (s : State) → f .state ≡ s → T (unsuspended s (f .suspendState))
+      outside s q = subst (λ (y : State). T (unsuspended y (f .suspendState))) q out
+
+      in-session : (s : State) → f .state ≡ s → T (sound (modeOf (effectiveOf s (f .suspendState))))
+      in-session s q = subst (λ (y : State). T (sound (modeOf (effectiveOf y (f .suspendState))))) q g
+
+      by : (s : State) → f .state ≡ s → Falls
+      by S1 q = forward-zero (eqb→eq (f .suspendState) 0 (outside S1 q))
+      by S2 q = forward-zero (eqb→eq (f .suspendState) 0 (outside S2 q))
+      by S3 q = forward-zero (eqb→eq (f .suspendState) 0 (outside S3 q))
+      by S4 q = absurd (in-session S4 q)
+      by S5 q = absurd (in-session S5 q)
+      by S6 q = ignored-initial q
 
 -- the table's rows that no word brings
 abbrev timerRow : FopEvent → Bool
-timerRow e = rowOk nothing e && rowHolds e
+timerRow e = rowAny nothing e && rowHolds e
 
 timer-holds : T (timerRow FopEvent.E16 && timerRow FopEvent.E17)
 unfolding table78
@@ -124,7 +181,7 @@ sent-grows n s (f ∷ fs) = omega (arith, one-grows n s f, sent-grows n (addSent
 
 tidy-answered : (n : ℕ) (σ : Session) (ws : List Word) (w : Work) (low : ℕ) → Tidy n σ
     → Keys n (length (σ .sent)) low (2 * length (σ .accepted) + bit (σ .farm .retransmit)) ws
-    → floor (w .fop .state) (length (σ .confirmed) + length (w .confirmed)) ≤ low → low ≤ 2 * length (σ .sent)
+    → floor (effective (w .fop)) (length (σ .confirmed) + length (w .confirmed)) ≤ low → low ≤ 2 * length (σ .sent)
     → Tidy n (answered n w (channels (σ .frames) ws σ))
 unfolding answered channels
 tidy-answered n σ ws w low t k a b =
@@ -141,15 +198,16 @@ tidy-answered n σ ws w low t k a b =
     }
 
 -- a row that confirms nothing
-plain-tidy : (set : Settings) (σ : Session) (given : Given) (e : FopEvent) (o : List ℕ) (v : ℕ) → Inv set σ → Tidy (set .n) σ → T (rowOk given e) → T (rowHolds e)
+plain-tidy : (set : Settings) (σ : Session) (given : Given) (e : FopEvent) (o : List ℕ) (v : ℕ) → Inv set σ → Tidy (set .n) σ → Tested given e (σ .fop .suspendState) → T (rowHolds e)
     → Reports given (set .n) (length (σ .confirmed)) (length (σ .accepted)) v o
     → Tidy (set .n) (answered (set .n) (fopDo e o v (σ .fop)) (channels (σ .frames) (σ .words) σ))
 unfolding fopDo
 plain-tidy set σ given e o v I t ok h r =
-    let rk : rank ((fopDo e o v (σ .fop)) .fop .state) ≤ rank (σ .fop .state) =
-    holds-next (cell78 (table78 e) (σ .fop .state)) (begin (some e) o v (σ .fop)) (at-cell holds (table78 e) (σ .fop .state) h (in-mode set σ I)) in
+    let rk : rank (effective ((fopDo e o v (σ .fop)) .fop)) ≤ rank (effective (σ .fop)) =
+    holds-next (cell78 (table78 e) (σ .fop .state)) (begin (some e) o v (σ .fop)) (at-any holds (table78 e) (σ .fop .state) (σ .fop .suspendState)
+    (and-l (atAll (holds 0) (table78 e)) _ h) (inr (and-r (atAll (holds 0) (table78 e)) _ h)) (in-mode set σ I) (I .suspension .outside)) in
     let cb = row-bound set σ given (length (σ .confirmed)) e o v I ok (omega arith) r in
-    tidy-answered (set .n) σ (σ .words) (fopDo e o v (σ .fop)) (floor (σ .fop .state) (length (σ .confirmed))) t (t .keys) (omega (arith, rk, cb)) (t .below)
+    tidy-answered (set .n) σ (σ .words) (fopDo e o v (σ .fop)) (floor (effective (σ .fop)) (length (σ .confirmed))) t (t .keys) (omega (arith, rk, cb)) (t .below)
 
 sender-tidy : (set : Settings) (e : SenderEvent) (lent : ℕ) (σ : Session) → Tidy (set .n) σ
     → (judged (set .own) e ≡ 0 → Tidy (set .n) (answered (set .n) (work (set .own) e (σ .fop)) σ)) → Tidy (set .n) (sender set e lent σ)
@@ -162,12 +220,12 @@ unfolding answered channels
 tick-tidy set σ I t =
     let τ : Session = withFop (lowered (σ .fop)) σ in
     let t' : Tidy (set .n) τ = record { keys = t .keys; waitFlag = t .waitFlag; waitMissing = t .waitMissing; missing = t .missing; below = t .below } in
-    tick-ways timerRow timer-holds (λ w. Tidy (set .n) (answered (set .n) w σ)) (σ .fop) (alerting set σ I)
-    (λ e h. plain-tidy set τ nothing e [] 0 (timed set _ _ σ I) t' (and-l (rowOk nothing e) _ h) (and-r (rowOk nothing e) _ h) tt)
-    (tidy-answered (set .n) τ (σ .words) (begin none [] 0 (τ .fop)) (floor (σ .fop .state) (length (σ .confirmed))) t' (t .keys) (omega arith) (t .below))
+    tick-ways timerRow timer-holds (λ w. Tidy (set .n) (answered (set .n) w σ)) (σ .fop) (never-suspends (σ .fop) (alerting set σ I))
+    (λ e h. plain-tidy set τ nothing e [] 0 (timed set _ _ σ I) t' (any nothing e (and-l (rowAny nothing e) _ h)) (and-r (rowAny nothing e) _ h) tt)
+    (tidy-answered (set .n) τ (σ .words) (begin none [] 0 (τ .fop)) (floor (effective (σ .fop)) (length (σ .confirmed))) t' (t .keys) (omega arith) (t .below))
 
 words-tidy : (n : ℕ) (σ : Session) (fs : List Frame) (ws : List Word) → Tidy n σ
-    → Keys n (length (σ .sent)) (floor (σ .fop .state) (length (σ .confirmed))) (2 * length (σ .accepted) + bit (σ .farm .retransmit)) ws
+    → Keys n (length (σ .sent)) (floor (effective (σ .fop)) (length (σ .confirmed))) (2 * length (σ .accepted) + bit (σ .farm .retransmit)) ws
     → Tidy n (channels fs ws σ)
 unfolding channels
 words-tidy n σ fs ws t k =
@@ -175,7 +233,7 @@ words-tidy n σ fs ws t k =
 
 word-tidy : (set : Settings) → Within set → (lent : ℕ) (σ : Session) (l : List Word) → Inv set σ → Tidy (set .n) σ
     → Wds (set .n) (length (σ .confirmed)) (length (σ .accepted)) l
-    → Keys (set .n) (length (σ .sent)) (floor (σ .fop .state) (length (σ .confirmed))) (2 * length (σ .accepted) + bit (σ .farm .retransmit)) l
+    → Keys (set .n) (length (σ .sent)) (floor (effective (σ .fop)) (length (σ .confirmed))) (2 * length (σ .accepted) + bit (σ .farm .retransmit)) l
     → Tidy (set .n) (wordCome set lent l σ)
 unfolding wordCome fopWord fopDo channels
 word-tidy set vw lent σ [] I t h k = t
@@ -184,23 +242,22 @@ word-tidy set vw lent σ (w ∷ ws) I t h k =
     let b2 = bit-le (σ .farm .retransmit) in
     let ca : length (σ .confirmed) ≤ k .0 = omega (arith, k .2, b1) in
     let al : k .0 ≤ length (σ .accepted) = omega (arith, keys-le (set .n) _ _ _ ws (k .6), b2) in
-    let cb = row-bound set σ word (k .0) (wordEvent (seen w (σ .fop))) [] (w .nr) I (word-ok (seen w (σ .fop))) ca (k .1, al) in
+    let cb = row-bound set σ word (k .0) (wordEvent (seen w (σ .fop))) [] (w .nr) I (any word _ (word-ok (seen w (σ .fop)))) ca (k .1, al) in
     sender-tidy set (wordArrives (wordOctets (set .own) w)) lent (channels (σ .frames) ws σ)
     (words-tidy (set .n) σ (σ .frames) ws t (keys-mono (set .n) _ _ _ _ _ _ ws (omega arith) (k .2) (omega arith) (k .6)))
     (λ j. rw (word-read set vw w (σ .fop) (h .3) (omega (arith, h .1)))
     (tidy-answered (set .n) σ ws (fopWord w (σ .fop)) (2 * k .0 + bit (w .retransmit)) t (k .6) (low (in-mode set σ I) (w .retransmit) refl cb) (omega (arith, k .5))))
   where
-    low : T (sound (modeOf (σ .fop .state))) → (b : Bool) → w .retransmit ≡ b → length (σ .confirmed) + length ((fopWord w (σ .fop)) .confirmed) ≤ k .0
-        → floor ((fopWord w (σ .fop)) .fop .state) (length (σ .confirmed) + length ((fopWord w (σ .fop)) .confirmed)) ≤ 2 * k .0 + bit (w .retransmit)
-    low g true e c = omega (arith, rank-le ((fopWord w (σ .fop)) .fop .state), ap bit e, c)
+    low : T (sound (modeOf (effective (σ .fop)))) → (b : Bool) → w .retransmit ≡ b → length (σ .confirmed) + length ((fopWord w (σ .fop)) .confirmed) ≤ k .0
+        → floor (effective ((fopWord w (σ .fop)) .fop)) (length (σ .confirmed) + length ((fopWord w (σ .fop)) .confirmed)) ≤ 2 * k .0 + bit (w .retransmit)
+    low g true e c = omega (arith, rank-le (effective ((fopWord w (σ .fop)) .fop)), ap bit e, c)
     low g false e c =
-        omega (
-          arith,
-          c,
-          forward-next (cell78 (table78 (wordEvent (seen w (σ .fop)))) (σ .fop .state))
-              (begin (some (wordEvent (seen w (σ .fop)))) [] (w .nr) (σ .fop)) (σ .fop .state)
-              (at-cell forward (table78 (wordEvent (seen w (σ .fop)))) (σ .fop .state) (word-forward (seen w (σ .fop)) e) g),
-        )
+        by (word-falls (seen w (σ .fop)) e (some (wordEvent (seen w (σ .fop)))) [] (w .nr) (σ .fop) g (I .suspension .outside))
+      where
+        by : Falls (seen w (σ .fop)) e (some (wordEvent (seen w (σ .fop)))) [] (w .nr) (σ .fop) g (I .suspension .outside)
+            → floor (effective ((fopWord w (σ .fop)) .fop)) (length (σ .confirmed) + length ((fopWord w (σ .fop)) .confirmed)) ≤ 2 * k .0 + bit (w .retransmit)
+        by (inl r) = omega (arith, c, r)
+        by (inr (z, r)) = omega (arith, ap length z, r, k .2)
 
 -- the receiver
 tidy-received : (n : ℕ) (σ : Session) (v : Variables) (acc : List Fdu) (bda : List (List ℕ)) (r : ℕ) (fs : List Frame) → Tidy n σ
@@ -296,17 +353,17 @@ pub step-tidy : (set : Settings) → Within set → (e : Event) (σ : Session) �
 unfolding step stepWith releases work judged fopAd fopBd fopLower fopDirective directiveEvent channels
 step-tidy set vw (adRequest o lent) σ I t =
     sender-tidy set (requestAd o) lent σ t
-    (λ j. plain-tidy set σ unit (first (when (isEmpty (σ .fop .waitQueue)) FopEvent.E19 ∷ []) FopEvent.E20) o 0 I t
-    (ad-ok (isEmpty (σ .fop .waitQueue))) (ad-holds (isEmpty (σ .fop .waitQueue))) (legal-of o j))
+    (λ j. plain-tidy set σ unit (first (when (isEmpty (σ .fop .queues .waitQueue)) FopEvent.E19 ∷ []) FopEvent.E20) o 0 I t
+    (any unit _ (ad-ok (isEmpty (σ .fop .queues .waitQueue)))) (ad-holds (isEmpty (σ .fop .queues .waitQueue))) (legal-of o j))
 step-tidy set vw (bdRequest o lent) σ I t =
     sender-tidy set (requestBd o) lent σ t
-    (λ j. plain-tidy set σ unit (first (when (σ .fop .out .bd) FopEvent.E21 ∷ []) FopEvent.E22) o 0 I t (bd-ok (σ .fop .out .bd))
+    (λ j. plain-tidy set σ unit (first (when (σ .fop .out .bd) FopEvent.E21 ∷ []) FopEvent.E22) o 0 I t (any unit _ (bd-ok (σ .fop .out .bd)))
     (bd-holds (σ .fop .out .bd)) (legal-of o j))
 step-tidy set vw (ticks lent) σ I t = sender-tidy set fop.tick lent σ t (λ j. tick-tidy set σ I t)
 step-tidy set vw (lowerSays l lent) σ I t = sender-tidy set (lower l) lent σ t
-    (λ j. plain-tidy set σ nothing (lowerEvent l) [] 0 I t (lower-ok l) (lower-holds l) tt)
+    (λ j. plain-tidy set σ nothing (lowerEvent l) [] 0 I t (lower-ok l, inl (I .suspension .serving)) (lower-holds l) tt)
 step-tidy set vw (terminate v lent) σ I t =
-    sender-tidy set (directive 5 v) lent σ t (λ j. plain-tidy set σ nothing FopEvent.E29 [] v I t terminate-ok terminate-holds tt)
+    sender-tidy set (directive 5 v) lent σ t (λ j. plain-tidy set σ nothing FopEvent.E29 [] v I t (any nothing FopEvent.E29 terminate-ok) terminate-holds tt)
 step-tidy set vw (wordIn lent) σ I t = word-tidy set vw lent σ (σ .words) I t (I .words) (t .keys)
 step-tidy set vw wordLost σ I t = words-tidy (set .n) σ (σ .frames) (rest (σ .words)) t (rest-keys (set .n) _ _ _ (σ .words) (t .keys))
 step-tidy set vw (wordMade lent) σ I t =

@@ -7,25 +7,31 @@ use Rattle.base.specs.Octets as octets
 use Rattle.base.specs.Fields as fields
 use Rattle.base.specs.Register as register
 use Rattle.fecf.specs.Fecf as fecf
-use Rattle.frame.specs.Header as header
+use Rattle.frame_header.specs.Header as header
 use Rattle.frame.specs.Frame as frame
 use Rattle.frame.specs.Answers as frameAnswers
 use Rattle.clcw.specs.Clcw as clcw
 use Rattle.clcw.specs.Answers as clcwAnswers
 use Rattle.farm.specs.Table as t79
 use Rattle.farm.specs.Window as window
-use Rattle.farm.specs.Receiver as receiver
+use Rattle.receiver.specs.Channel as channel
+use Rattle.receiver.specs.Receiver as receiver
 use Rattle.farm.specs.declared.Event.{Event as FarmEvent}
-use Rattle.farm.specs.declared.Receiver.{Receiver}
+use Rattle.receiver.specs.declared.Receiver.{Receiver}
 use Rattle.fop.specs.Units as units
 use Rattle.fop.specs.Table as table
-use Rattle.fop.specs.Table.{State, Reason, FopEvent}
-use Rattle.fop.specs.Variables.{Fop, Response}
+use Rattle.fop.specs.declared.Alert.{Alert}
+use Rattle.fop.specs.declared.Alert.the-variants.{None}
+use Rattle.fop.specs.declared.State.{State}
+use Rattle.fop.specs.Table.{FopEvent}
+use Rattle.fop.specs.declared.Response.{Response}
+use Rattle.fop.specs.Variables.{Fop}
 use Rattle.fop.specs.Machine as machine
 use Rattle.fop.specs.Events as events
 use Rattle.fop.specs.Events.{requestAd, requestBd, tick, lower, directive, wordArrives}
 use Rattle.fop.specs.Answers as answers
-use Rattle.fop.specs.Answers.{Answer, Run, senderAnswer}
+use Rattle.fop.specs.declared.Run.{Run}
+use Rattle.fop.specs.Answers.{Answer, senderAnswer}
 use Rattle.session.specs.Frames as frames
 use Rattle.session.specs.Receiver as rcv
 use Rattle.session.specs.Receiver.{frameArrives, releaseBuffer, ReceiverAnswer, receiverAnswer}
@@ -43,9 +49,9 @@ unfolding outstanding ses.run ses.begins ses.step ses.toSender ses.wordCome ses.
     machine.transmitBc machine.denyBc machine.rejectWaiting machine.purge machine.removeAcknowledged machine.perform machine.performAll machine.performCell
     machine.fopDo events.wordEvent events.fopWord events.fopAd events.fopBd events.fopExpiry events.fopTick events.fopLower
     events.directiveEvent events.fopDirective events.fopReceived events.work answers.needed answers.judged answers.senderRefusal
-    answers.senderAnswer answers.senderNext t79.table t79.perform t79.performAll t79.stepOf t79.accepts window.adEvent receiver.eventOf
+    answers.senderAnswer answers.senderNext t79.table t79.perform t79.performAll t79.stepOf t79.accepts window.adEvent channel.eventOf channel.answered channel.arrived
     receiver.answered receiver.arrived receiver.byReading receiver.receiveOf receiver.unitPart receiver.releaseOf receiver.wordOf frame.bodyOf
-    frame.rawFrame frame.totalOf frame.dataField frame.isCommand frame.commandHeld frame.headerRefusal frame.contentRefusal frame.refusalOf frame.kindOf
+    frame.rawFrame frame.totalOf frame.dataField frame.isCommand frame.commandHeld header.validHeader frame.headerRefusal frame.contentRefusal frame.refusalOf frame.kindOf
     frameAnswers.fieldsOf frameAnswers.readingOf frameAnswers.partOf header.headerFields header.headerOf clcw.wordFields clcw.clcwOf clcw.writing
     clcw.isValid clcw.wordOf clcwAnswers.receivedOf clcwAnswers.readingOf fecf.fecfOf fecf.syndromeOf register.shiftBit register.shiftBits
     register.register fields.digitsOf fields.valueOf fields.packed fields.octetsOf fields.fieldAt octets.bitsOf octets.octetBits
@@ -54,7 +60,7 @@ computing = tt
 -- the settings of the examples, by K, the count of buffers, T1_Initial and Transmission_Limit
 abbrev pub settings : ℕ → ℕ → ℕ → ℕ → Settings
 settings k buffers t1 limit =
-    record { n = 254; k = k; w = 10; buffers = buffers; t1 = t1; limit = limit; own = record { spacecraft = 5; channel = 9 }; count = 1; counter = 0 }
+    record { n = 254; k = k; w = 10; buffers = buffers; t1 = t1; limit = limit; timeoutType = 0; own = record { spacecraft = 5; channel = 9 }; count = 1; counter = 0 }
 
 -- the session of a pair of ends after a list of events
 abbrev pub after : Settings → (m : Ends) → List Event → Linked m
@@ -103,7 +109,7 @@ answering e s = record {
   down = none;
   abort = false;
   responses = [];
-  alert = none;
+  alert = None;
   suspended = false;
   confirmed = nothing;
   denied = nothing;
@@ -116,7 +122,7 @@ abbrev pub noEvent : State → Answer
 noEvent s = answering none s
 
 -- the same answer but for the frame, the abort, the responses, the alert and the runs
-abbrev telling : Option (List ℕ) → Bool → List Response → Option Reason → Run → Run → Answer → Answer
+abbrev telling : Option (List ℕ) → Bool → List Response → Alert → Run → Run → Answer → Answer
 telling d b r l c n a = record {
   refusal = a .refusal;
   event = a .event;
@@ -152,8 +158,8 @@ aborting a = telling (a .down) true (a .responses) (a .alert) (a .confirmed) (a 
 abbrev pub responding : List Response → Answer → Answer
 responding r a = telling (a .down) (a .abort) r (a .alert) (a .confirmed) (a .denied) a
 
-abbrev pub alerting : Reason → Answer → Answer
-alerting r a = telling (a .down) (a .abort) (a .responses) (some r) (a .confirmed) (a .denied) a
+abbrev pub alerting : Alert → Answer → Answer
+alerting r a = telling (a .down) (a .abort) (a .responses) r (a .confirmed) (a .denied) a
 
 -- the receiver's: an event that hands out no unit, and one that does
 abbrev pub discarding : FarmEvent → ReceiverAnswer

@@ -14,7 +14,8 @@ use lib.ListN.{length, length-append, getD}
 use Rattle.base.specs.Choice.{pick}
 use Rattle.base.specs.Modulo.{advanced}
 use Rattle.fop.specs.Units.{Fdu, Own, Frame, AD, BD, Unlock, SetVR, Refused, legal, written}
-use Rattle.fop.specs.Events.{requestAd, wordArrives, tick, lower, adAccept}
+use Rattle.fop.specs.declared.Lower.the-variants.{AdAccept}
+use Rattle.fop.specs.Events.{requestAd, wordArrives, tick, lower}
 use Rattle.fop.specs.Answers.{needed}
 use Rattle.session.specs.Ends.{Settings, Within, Ends, startSender, startReceiver, tables}
 use Rattle.session.specs.Frames.{read}
@@ -77,6 +78,7 @@ set-within = record {
   timerMost = leb→le _ _ tt;
   limitLeast = leb→le _ _ tt;
   limitMost = leb→le _ _ tt;
+  timeoutMost = leb→le _ _ tt;
   spacecraft = leb→le _ _ tt;
   channel = leb→le _ _ tt;
   countLeast = leb→le _ _ tt;
@@ -161,20 +163,20 @@ module _ (m : Ends) (c : Demanded set m) where
   unfolding computing
   resends = record {
     events = due;
-    event = lowerSays adAccept 256;
+    event = lowerSays AdAccept 256;
     unit = seven;
     resent = c due .readyAgain seven 256 (leb→le _ 256 tt) refl refl;
   }
 
   -- the lower layer is ready again, and a second unit is offered
   abbrev ready : List Event
-  ready = lowerSays adAccept 256 ∷ []
+  ready = lowerSays AdAccept 256 ∷ []
 
   abbrev ready-sent : List Fdu
   ready-sent = (after set m (first ∷ ready)) .history .sent
 
   abbrev next-sent : List Fdu
-  next-sent = (after set m (first ∷ lowerSays adAccept 256 ∷ adRequest (8 ∷ []) 256 ∷ [])) .history .sent
+  next-sent = (after set m (first ∷ lowerSays AdAccept 256 ∷ adRequest (8 ∷ []) 256 ∷ [])) .history .sent
 
   offered-next : length (outstanding ((after set m (first ∷ ready)) .history)) < 3
       → next-sent ≡ ready-sent ++ (nextUnit set ((after set m (first ∷ ready)) .history) (8 ∷ []) ∷ [])
@@ -187,7 +189,7 @@ module _ (m : Ends) (c : Demanded set m) where
   kept-sent : length ((after set m (first ∷ [])) .history .sent) ≤ length ready-sent
   unfolding ses.run ses.step ses.toSender ses.afterSender
   kept-sent = sent-grows (set .own) (set .n) ((after set m (first ∷ [])) .history .sent)
-      ((m .answer (lower adAccept) 256 ((after set m (first ∷ [])) .sender)) .down)
+      ((m .answer (lower AdAccept) 256 ((after set m (first ∷ [])) .sender)) .down)
 
   pub sends-later : SendingLater set m
   sends-later = by-count (leb (length ready-sent) 2) refl
@@ -197,7 +199,7 @@ module _ (m : Ends) (c : Demanded set m) where
           let few = outstanding-most ((after set m (first ∷ ready)) .history) in
           let l = leb-true (length ready-sent) 2 e in
           let grown = more ready-sent next-sent _ (offered-next (omega (arith, few, l))) in
-          record { first = first; later = lowerSays adAccept 256 ∷ adRequest (8 ∷ []) 256 ∷ []; more = omega (arith, grown, kept-sent) }
+          record { first = first; later = lowerSays AdAccept 256 ∷ adRequest (8 ∷ []) 256 ∷ []; more = omega (arith, grown, kept-sent) }
       by-count false e =
           record { first = first; later = ready; more = omega (arith, leb-false (length ready-sent) 2 e, ap length first-sent) }
 
@@ -251,7 +253,7 @@ module _ (m : Ends) (c : Demanded set m) where
   due-place i e =
       sent-place (set .own) ((after set m (first ∷ [])) .history .sent) first-sent ((m .answer tick 256 ((after set m (first ∷ [])) .sender)) .down) i e
 
-  again : Resends set {m = m} seven (after set m due) (ses.step set m (lowerSays adAccept 256) (after set m due))
+  again : Resends set {m = m} seven (after set m due) (ses.step set m (lowerSays AdAccept 256) (after set m due))
   unfolding computing
   again = c due .readyAgain seven 256 (leb→le _ 256 tt) refl refl
 

@@ -8,15 +8,16 @@ use lib.Dec.{ltb}
 use borrow.Author.Tests.{ltb-true}
 use Rattle.base.specs.Modulo.{offset}
 use Rattle.fop.specs.Units.{Fdu}
-use Rattle.fop.specs.Variables.{BcEntry, Response, Work, handDown, onFop, respond, runs, setBc, setOut, setSequence, setWait}
+use Rattle.fop.specs.declared.Response.{Response}
+use Rattle.fop.specs.Variables.{BcEntry, Work, handDown, onFop, respond, runs, setBc, setOut, setSequence, setWait}
 use Rattle.fop.specs.Machine.{denyBc, fdus, firstMarked, lookForDirective, lookForFdu, purge, rejectWaiting, sendNext, sendWaiting}
 use Rattle.session.proofs.Choices.{by-pick}
 
 -- with both queues empty, and the units sent denied
 abbrev pub emptied : Work → Work
 emptied w =
-    runs (w .confirmed) (w .denied ++ fdus (w .fop .sentQueue))
-    (onFop (setWait none (setBc none (setSequence (w .fop .vs) (w .fop .nnr) [] (w .fop)))) w)
+    runs (w .confirmed) (w .denied ++ fdus (w .fop .queues .sentQueue))
+    (onFop (setWait none (setBc none (setSequence (w .fop .numbers .vs) (w .fop .numbers .nnr) [] (w .fop)))) w)
 
 -- the type-BC frame is handed down again
 abbrev pub sentBc : BcEntry → Work → Work
@@ -26,19 +27,19 @@ sentBc b w =
 
 module _ (P : Work → Type 0) (w : Work) where
   -- Look for FDU: nothing is sent, or the oldest marked unit, or the unit waiting where the window has room
-  pub look-ways : P w → ((u : Fdu) → firstMarked (w .fop .sentQueue) ≡ some u → P (sendNext (some u) w))
-      → ((o : List ℕ) → offset (w .fop .vs) (w .fop .nnr) < w .fop .preset .k → w .fop .waitQueue ≡ some o → P (sendWaiting (some o) w))
+  pub look-ways : P w → ((u : Fdu) → firstMarked (w .fop .queues .sentQueue) ≡ some u → P (sendNext (some u) w))
+      → ((o : List ℕ) → offset (w .fop .numbers .vs) (w .fop .numbers .nnr) < w .fop .preset .k → w .fop .queues .waitQueue ≡ some o → P (sendWaiting (some o) w))
       → P (lookForFdu w)
   unfolding lookForFdu sendNext sendWaiting
-  look-ways h again new = by-pick P (w .fop .out .ad) (λ t. next (firstMarked (w .fop .sentQueue)) refl) (λ t. h)
+  look-ways h again new = by-pick P (w .fop .out .ad) (λ t. next (firstMarked (w .fop .queues .sentQueue)) refl) (λ t. h)
     where
-      waiting : (o : Option (List ℕ)) → w .fop .waitQueue ≡ o → offset (w .fop .vs) (w .fop .nnr) < w .fop .preset .k → P (sendWaiting o w)
+      waiting : (o : Option (List ℕ)) → w .fop .queues .waitQueue ≡ o → offset (w .fop .numbers .vs) (w .fop .numbers .nnr) < w .fop .preset .k → P (sendWaiting o w)
       waiting none e r = h
       waiting (some o) e r = new o r e
 
-      next : (o : Option Fdu) → firstMarked (w .fop .sentQueue) ≡ o → P (sendNext o w)
+      next : (o : Option Fdu) → firstMarked (w .fop .queues .sentQueue) ≡ o → P (sendNext o w)
       next none e =
-          by-pick P (ltb (offset (w .fop .vs) (w .fop .nnr)) (w .fop .preset .k)) (λ t. waiting (w .fop .waitQueue) refl (ltb-true _ _ t)) (λ t. h)
+          by-pick P (ltb (offset (w .fop .numbers .vs) (w .fop .numbers .nnr)) (w .fop .preset .k)) (λ t. waiting (w .fop .queues .waitQueue) refl (ltb-true _ _ t)) (λ t. h)
       next (some u) e = again u e
 
   -- Look for directive: nothing is sent, or the type-BC frame
@@ -50,7 +51,7 @@ module _ (P : Work → Type 0) (w : Work) where
   -- purging: the queues are emptied, and a response may be given for each
   pub purge-ways : P (emptied w) → ((r : Response) (v : Work) → P v → P (respond r v)) → P (purge w)
   unfolding purge denyBc rejectWaiting
-  purge-ways h answers = rejected (w .fop .waitQueue) (denied (w .fop .bcFrame))
+  purge-ways h answers = rejected (w .fop .queues .waitQueue) (denied (w .fop .queues .bcFrame))
     where
       denied : (o : Option BcEntry) → P (denyBc o (emptied w))
       denied none = h

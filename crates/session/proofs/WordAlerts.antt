@@ -4,7 +4,7 @@ use mathlib.Core.Path.{_≡_, refl, sym, ap, _∙_}
 use mathlib.Core.Bool.{Bool, true, false, not, _&&_, _||_, true≢false, false≢true}
 use mathlib.Core.List.{List, [], _∷_}
 use mathlib.Core.Option.{none, some}
-use Prim.Native.Nat.{_+_, _-_, _*_, _≤_}
+use Prim.Native.Nat.{ℕ, _+_, _-_, _*_, _≤_}
 use native.Mathlib.Omega.{arith}
 use lib.Dec.{leb, ltb, eqb, T}
 use lib.ListN.{length}
@@ -12,8 +12,13 @@ use borrow.Author.Tests.{eqb-true, le-ltb, not-false}
 use Rattle.base.proofs.Computed.{is-true}
 use Rattle.base.specs.Modulo.{offset}
 use Rattle.fop.specs.Units.{Word}
-use Rattle.fop.specs.Table.{State, S1, S2, S3, S4, S5, S6, Reason, table78, cell78}
+use Rattle.fop.specs.declared.Alert.{Alert as Reason}
+use Rattle.fop.specs.declared.Alert.the-variants.{None, Synch, Clcw, Limit, Nnr, Lockout, T1, Term, Llif}
+use Rattle.fop.specs.declared.State.{State}
+use Rattle.fop.specs.declared.State.the-variants.{S1, S2, S3, S4, S5, S6}
+use Rattle.fop.specs.Table.{table78, cell78}
 use Rattle.fop.specs.Variables.{begin}
+use Rattle.fop.specs.Effective.{effectiveOf}
 use Rattle.fop.specs.Machine.{fopDo}
 use Rattle.fop.specs.Variables.{Preset}
 use Rattle.fop.specs.Machine.{fdus}
@@ -30,14 +35,15 @@ use Rattle.session.proofs.Alerts.{allows, cellAllows, Allowed, cell-all
 
 -- that of the limit, where it is 1
 abbrev limitAlert : Bool → Reason → Bool
-limitAlert once Reason.limit = once
-limitAlert once Reason.synch = false
-limitAlert once Reason.clcw = false
-limitAlert once Reason.nnr = false
-limitAlert once Reason.lockout = false
-limitAlert once Reason.t1 = false
-limitAlert once Reason.term = false
-limitAlert once Reason.llif = false
+limitAlert once None = false
+limitAlert once Limit = once
+limitAlert once Synch = false
+limitAlert once Clcw = false
+limitAlert once Nnr = false
+limitAlert once Lockout = false
+limitAlert once T1 = false
+limitAlert once Term = false
+limitAlert once Llif = false
 
 -- what holds of a word of the session, and of the state that it finds
 abbrev pub fitting : State → Seen → Bool
@@ -97,57 +103,59 @@ rank-zero S6 h = refl
 -- the cell of table 7-8 that the oldest word meets has no alert but that of the limit
 module _ (set : Settings) (σ : Session) (I : Inv set σ) (w : Word) (ws : List Word) where
   pub live-fits : (s : State)
-      → Live (set .n) (length (σ .confirmed)) (σ .denied) (σ .sent) [] [] (fdus (σ .fop .sentQueue)) (σ .fop .vs) (σ .fop .nnr)
+      → Live (set .n) (length (σ .confirmed)) (σ .denied) (σ .sent) [] [] (fdus (σ .fop .queues .sentQueue)) (σ .fop .numbers .vs) (σ .fop .numbers .nnr)
       → Keys (set .n) (length (σ .sent)) (floor s (length (σ .confirmed))) (2 * length (σ .accepted) + bit (σ .farm .retransmit)) (w ∷ ws)
       → fitting s (seen w (σ .fop)) ≡ true
   live-fits s h k =
       let b1 = bit-le (w .retransmit) in
       let ca : length (σ .confirmed) ≤ k .0 = omega (arith, k .2, b1) in
-      let new : offset (w .nr) (σ .fop .nnr) ≡ k .0 - length (σ .confirmed) = omega (arith, k .1, ca, k .5, h, I .base) in
-      let out : offset (σ .fop .vs) (σ .fop .nnr) ≡ length (σ .sent) - length (σ .confirmed) = omega (arith, h, I .base) in
-      let v : ltb (offset (σ .fop .vs) (σ .fop .nnr)) (offset (w .nr) (σ .fop .nnr)) ≡ false =
-      le-ltb (offset (σ .fop .vs) (σ .fop .nnr)) (offset (w .nr) (σ .fop .nnr)) (omega (arith, new, out, k .5)) in
-      let a : eqb (offset (w .nr) (σ .fop .nnr)) (offset (σ .fop .vs) (σ .fop .nnr)) ≡ true → w .retransmit ≡ false =
-      λ q. bit-false (w .retransmit) (omega (arith, eqb-true (offset (w .nr) (σ .fop .nnr)) (offset (σ .fop .vs) (σ .fop .nnr)) q, new, out, ca, k .5)) in
+      let new : offset (w .nr) (σ .fop .numbers .nnr) ≡ k .0 - length (σ .confirmed) = omega (arith, k .1, ca, k .5, h, I .base) in
+      let out : offset (σ .fop .numbers .vs) (σ .fop .numbers .nnr) ≡ length (σ .sent) - length (σ .confirmed) = omega (arith, h, I .base) in
+      let v : ltb (offset (σ .fop .numbers .vs) (σ .fop .numbers .nnr)) (offset (w .nr) (σ .fop .numbers .nnr)) ≡ false =
+      le-ltb (offset (σ .fop .numbers .vs) (σ .fop .numbers .nnr)) (offset (w .nr) (σ .fop .numbers .nnr)) (omega (arith, new, out, k .5)) in
+      let a : eqb (offset (w .nr) (σ .fop .numbers .nnr)) (offset (σ .fop .numbers .vs) (σ .fop .numbers .nnr)) ≡ true → w .retransmit ≡ false =
+      λ q. bit-false (w .retransmit) (omega (arith, eqb-true (offset (w .nr) (σ .fop .numbers .nnr)) (offset (σ .fop .numbers .vs) (σ .fop .numbers .nnr)) q, new, out, ca, k .5)) in
       let z : w .wait ≡ true → w .retransmit ≡ true = λ q. bit-true (w .retransmit) (omega (arith, k .4, ap bit q)) in
-      let m : w .retransmit ≡ false → not (eqb (offset (w .nr) (σ .fop .nnr)) 0) ≡ false → leb (rank s) 0 ≡ true =
-      λ r q. rank-zero s (omega (arith, k .2, ap bit r, eqb-true (offset (w .nr) (σ .fop .nnr)) 0 (not-false _ q), new, ca)) in
+      let m : w .retransmit ≡ false → not (eqb (offset (w .nr) (σ .fop .numbers .nnr)) 0) ≡ false → leb (rank s) 0 ≡ true =
+      λ r q. rank-zero s (omega (arith, k .2, ap bit r, eqb-true (offset (w .nr) (σ .fop .numbers .nnr)) 0 (not-false _ q), new, ca)) in
       fits (w .lockout) _ _ (w .retransmit) (w .wait) _ _ (k .3) v a z m
 
   live-allows : (s : State) → T (sound (modeOf s))
-      → Live (set .n) (length (σ .confirmed)) (σ .denied) (σ .sent) [] [] (fdus (σ .fop .sentQueue)) (σ .fop .vs) (σ .fop .nnr)
+      → Live (set .n) (length (σ .confirmed)) (σ .denied) (σ .sent) [] [] (fdus (σ .fop .queues .sentQueue)) (σ .fop .numbers .vs) (σ .fop .numbers .nnr)
       → Keys (set .n) (length (σ .sent)) (floor s (length (σ .confirmed))) (2 * length (σ .accepted) + bit (σ .farm .retransmit)) (w ∷ ws)
       → T (cellAllows (limitAlert ((seen w (σ .fop)) .once)) (cell78 (table78 (wordEvent (seen w (σ .fop)))) s))
   live-allows s g h k =
       implied (fitting s (seen w (σ .fop))) _ (seen-at (allowsAt s) (seen w (σ .fop)) (allows-all s g)) (live-fits s h k)
 
-  allows-at : (s : State) → Side (modeOf s) (set .n) (length (σ .confirmed)) (σ .sent) (σ .denied) (fdus (σ .fop .sentQueue)) (σ .fop .vs) (σ .fop .nnr)
-      → Keys (set .n) (length (σ .sent)) (floor s (length (σ .confirmed))) (2 * length (σ .accepted) + bit (σ .farm .retransmit)) (w ∷ ws)
+  allows-at : (s : State) (n : ℕ)
+      → Side (modeOf (effectiveOf s n)) (set .n) (length (σ .confirmed)) (σ .sent) (σ .denied) (fdus (σ .fop .queues .sentQueue)) (σ .fop .numbers .vs) (σ .fop .numbers .nnr)
+      → Keys (set .n) (length (σ .sent)) (floor (effectiveOf s n) (length (σ .confirmed))) (2 * length (σ .accepted) + bit (σ .farm .retransmit)) (w ∷ ws)
       → T (cellAllows (limitAlert ((seen w (σ .fop)) .once)) (cell78 (table78 (wordEvent (seen w (σ .fop)))) s))
-  allows-at S1 h k = live-allows S1 tt h k
-  allows-at S2 h k = live-allows S2 tt h k
-  allows-at S3 h k = live-allows S3 tt h k
-  allows-at S4 h k = absurd h
-  allows-at S5 h k = absurd h
-  allows-at S6 h k = seen-at allowsInitial (seen w (σ .fop)) allows-initial
+  allows-at S1 n h k = live-allows S1 tt h k
+  allows-at S2 n h k = live-allows S2 tt h k
+  allows-at S3 n h k = live-allows S3 tt h k
+  allows-at S4 n h k = absurd h
+  allows-at S5 n h k = absurd h
+  allows-at S6 n h k = seen-at allowsInitial (seen w (σ .fop)) allows-initial
 
 pub word-alerts : (set : Settings) (σ : Session) → Inv set σ → Tidy (set .n) σ → (w : Word) (ws : List Word) → σ .words ≡ w ∷ ws
-    → ((fopWord w (σ .fop)) .alert ≡ none) ⊎ (((fopWord w (σ .fop)) .alert ≡ some Reason.limit) × (set .limit ≡ 1))
+    → ((fopWord w (σ .fop)) .notices .alert ≡ None) ⊎ (((fopWord w (σ .fop)) .notices .alert ≡ Limit) × (set .limit ≡ 1))
 unfolding fopWord fopDo
 word-alerts set σ I t w ws e =
     last (cell-allowed (limitAlert ((seen w (σ .fop)) .once)) (cell78 (table78 (wordEvent (seen w (σ .fop)))) (σ .fop .state))
     (begin (some (wordEvent (seen w (σ .fop)))) [] (w .nr) (σ .fop))
-    (allows-at set σ I w ws (σ .fop .state) (I .side) (rw e at (t .keys))) (inl refl))
+    (allows-at set σ I w ws (σ .fop .state) (σ .fop .suspendState) (I .side) (rw e at (t .keys))) (inl refl))
   where
-    last : Allowed (limitAlert ((seen w (σ .fop)) .once)) ((fopWord w (σ .fop)) .alert)
-        → ((fopWord w (σ .fop)) .alert ≡ none) ⊎ (((fopWord w (σ .fop)) .alert ≡ some Reason.limit) × (set .limit ≡ 1))
+    last : Allowed (limitAlert ((seen w (σ .fop)) .once)) ((fopWord w (σ .fop)) .notices .alert)
+        → ((fopWord w (σ .fop)) .notices .alert ≡ None) ⊎ (((fopWord w (σ .fop)) .notices .alert ≡ Limit) × (set .limit ≡ 1))
     last (inl a) = inl a
-    last (inr (Reason.limit, a, b)) =
+    last (inr (Limit, a, b)) =
         inr (a, sym (ap (λ (p : Preset). p .transmissionLimit) (I .isSet)) ∙ eqb-true (σ .fop .preset .transmissionLimit) 1 (is-true _ b))
-    last (inr (Reason.synch, a, b)) = absurd b
-    last (inr (Reason.clcw, a, b)) = absurd b
-    last (inr (Reason.nnr, a, b)) = absurd b
-    last (inr (Reason.lockout, a, b)) = absurd b
-    last (inr (Reason.t1, a, b)) = absurd b
-    last (inr (Reason.term, a, b)) = absurd b
-    last (inr (Reason.llif, a, b)) = absurd b
+    last (inr (None, a, b)) = absurd b
+    last (inr (Synch, a, b)) = absurd b
+    last (inr (Clcw, a, b)) = absurd b
+    last (inr (Nnr, a, b)) = absurd b
+    last (inr (Lockout, a, b)) = absurd b
+    last (inr (T1, a, b)) = absurd b
+    last (inr (Term, a, b)) = absurd b
+    last (inr (Llif, a, b)) = absurd b

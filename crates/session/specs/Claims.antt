@@ -17,10 +17,12 @@ use lib.ListN.{length, getD}
 use Rattle.base.specs.Choice.{pick}
 use Rattle.base.specs.Modulo.{advanced}
 use Rattle.fop.specs.Units.{Fdu, AD, Word, valid, legal, written, readWord}
-use Rattle.fop.specs.Table.{State, S1, S2, S3, S4, S5, S6}
+use Rattle.fop.specs.declared.State.{State}
+use Rattle.fop.specs.declared.State.the-variants.{S1, S2, S3, S4, S5, S6}
 use Rattle.fop.specs.Variables.{Fop}
 use Rattle.fop.specs.Machine.{firstMarked}
-use Rattle.fop.specs.Events.{SenderEvent, requestAd, lower, wordArrives, adAccept}
+use Rattle.fop.specs.declared.Lower.the-variants.{AdAccept}
+use Rattle.fop.specs.Events.{SenderEvent, requestAd, lower, wordArrives}
 use Rattle.fop.specs.Events as fop
 use Rattle.fop.specs.Answers.{needed}
 use Rattle.farm.specs.declared.State.the-variants.{Open, Lockout}
@@ -112,8 +114,8 @@ module _ (set : Settings) {m : Ends} where
 -- u is on the Sent_Queue, marked
 pub record Marked (u : Fdu) (f : Fop) : Type 0 where
   pub place : ℕ
-  pub on : place < length (f .sentQueue)
-  pub is : getD (f .sentQueue) place (record { fdu = noUnit; marked = false }) ≡ record { fdu = u; marked = true }
+  pub on : place < length (f .queues .sentQueue)
+  pub is : getD (f .queues .sentQueue) place (record { fdu = noUnit; marked = false }) ≡ record { fdu = u; marked = true }
 
 -- "What demand 3 says of the sender at the next event supposes that the room it needs there is lent"
 abbrev pub Lent : Settings → SenderEvent → ℕ → Fop → Type 0
@@ -126,28 +128,28 @@ pub record Claims (set : Settings) (m : Ends) (σ : Linked m) (γ : Linked (tabl
   -- "and confirmed units of those accepted;"
   pub truly : Prefix (unitsAt (σ .history .sent) (σ .history .confirmed)) (map some (σ .history .accepted))
   -- "the receiver has never locked out."
-  pub never : (σ .history .lockedOut ≡ false) × (γ .history .lockedOut ≡ false) × (γ .receiver .variables .lockout ≡ false)
-      × (γ .receiver .variables .state ≢ Lockout)
+  pub never : (σ .history .lockedOut ≡ false) × (γ .history .lockedOut ≡ false) × (γ .receiver .farm .channel .variables .lockout ≡ false)
+      × (γ .receiver .farm .channel .variables .state ≢ Lockout)
   -- "And at whatever event comes next, each of these holds. The receiver accepts an AD frame exactly when the receiver is Open, the frame
   -- expected and a buffer free."
   pub accepts : (s : List ℕ) (fs : List (List ℕ)) (u : Fdu) → σ .frames ≡ s ∷ fs → read (set .own) s ≡ AD u
       → ((step set m frameIn σ) .history .accepted ≡ σ .history .accepted ++ (u ∷ []))
-      ↔ ((γ .receiver .variables .state ≡ Open) × (u .ns ≡ expected set (σ .history)) × BufferFree set (σ .history))
+      ↔ ((γ .receiver .farm .channel .variables .state ≡ Open) × (u .ns ≡ expected set (σ .history)) × BufferFree set (σ .history))
   -- "An active sender with a ready lower layer, an empty wait queue, nothing marked and fewer than K outstanding sends at once a legal unit
   -- offered to it."
   pub offered : (o : List ℕ) (lent : ℕ) → legal o ≡ true → Lent set (requestAd o) lent (γ .sender)
-      → γ .sender .state ≡ S1 → γ .sender .out .ad ≡ true → γ .sender .waitQueue ≡ none → firstMarked (γ .sender .sentQueue) ≡ none
+      → γ .sender .state ≡ S1 → γ .sender .out .ad ≡ true → γ .sender .queues .waitQueue ≡ none → firstMarked (γ .sender .queues .sentQueue) ≡ none
       → length (outstanding (σ .history)) < set .k
       → Sends set (nextUnit set (σ .history) o) σ (step set m (adRequest o lent) σ)
   -- "When the lower layer comes ready, a sender active or resending without wait first sends its oldest marked unit again;"
-  pub readyAgain : (u : Fdu) (lent : ℕ) → Lent set (lower adAccept) lent (γ .sender)
-      → serves (γ .sender .state) ≡ true → firstMarked (γ .sender .sentQueue) ≡ some u
-      → Resends set u σ (step set m (lowerSays adAccept lent) σ)
+  pub readyAgain : (u : Fdu) (lent : ℕ) → Lent set (lower AdAccept) lent (γ .sender)
+      → serves (γ .sender .state) ≡ true → firstMarked (γ .sender .queues .sentQueue) ≡ some u
+      → Resends set u σ (step set m (lowerSays AdAccept lent) σ)
   -- "with none marked and fewer than K outstanding, it sends the unit waiting, if any."
-  pub readyNew : (o : List ℕ) (lent : ℕ) → Lent set (lower adAccept) lent (γ .sender)
-      → serves (γ .sender .state) ≡ true → firstMarked (γ .sender .sentQueue) ≡ none → length (outstanding (σ .history)) < set .k
-      → γ .sender .waitQueue ≡ some o
-      → Sends set (nextUnit set (σ .history) o) σ (step set m (lowerSays adAccept lent) σ)
+  pub readyNew : (o : List ℕ) (lent : ℕ) → Lent set (lower AdAccept) lent (γ .sender)
+      → serves (γ .sender .state) ≡ true → firstMarked (γ .sender .queues .sentQueue) ≡ none → length (outstanding (σ .history)) < set .k
+      → γ .sender .queues .waitQueue ≡ some o
+      → Sends set (nextUnit set (σ .history) o) σ (step set m (lowerSays AdAccept lent) σ)
   -- "To either, a timer expiry short of the transmission limit resends or marks every outstanding unit,"
   pub expires : (i lent : ℕ) → Lent set fop.tick lent (γ .sender)
       → serves (γ .sender .state) ≡ true → γ .sender .clock .timer ≡ 1 → γ .sender .clock .transmissionCount < set .limit → IsOutstanding (σ .history) i
@@ -159,9 +161,9 @@ pub record Claims (set : Settings) (m : Ends) (σ : Linked m) (γ : Linked (tabl
       → Lent set (wordArrives s) lent (γ .sender) → serves (γ .sender .state) ≡ true
       → w .lockout ≡ false → w .wait ≡ false → w .retransmit ≡ false → w .nr ≡ nextNumber set (σ .history)
       → ((i : ℕ) → IsOutstanding (σ .history) i → member i ((step set m (wordIn lent) σ) .history .confirmed) ≡ true)
-      × ((o : List ℕ) → 0 < length (outstanding (σ .history)) → γ .sender .out .ad ≡ true → γ .sender .waitQueue ≡ some o
+      × ((o : List ℕ) → 0 < length (outstanding (σ .history)) → γ .sender .out .ad ≡ true → γ .sender .queues .waitQueue ≡ some o
       → Sends set (nextUnit set (σ .history) o) σ (step set m (wordIn lent) σ))
   -- "the receiver's control word, with V(R), flags and counter as table 7-9 gives them, enters its channel", where its room is lent
   pub words : (lent : ℕ) → wordLength ≤ lent
       → (s : List ℕ) × ((step set m (wordMade lent) σ) .words ≡ σ .words ++ (s ∷ []))
-      × (readWord (set .own) s ≡ valid (reported set (γ .receiver .variables) (σ .history)))
+      × (readWord (set .own) s ≡ valid (reported set (γ .receiver .farm .channel .variables) (σ .history)))

@@ -3,15 +3,15 @@ use mathlib.Core.Path.{_≡_}
 use mathlib.Core.Bool.{false}
 use Prim.Native.Nat.{ℕ, _/_, _%_, _≤_}
 use Rattle.base.specs.Limits.{largestSpacecraft, largestChannel}
-use Rattle.fop.specs.Limits.{largestK, largestTransmissionLimit, largestTimer, largestNumber}
+use Rattle.fop.specs.Limits.{largestK, largestTransmissionLimit, largestTimer, largestNumber, largestTimeoutType}
 use Rattle.fop.specs.Units.{Own}
-use Rattle.fop.specs.Table.{S1}
+use Rattle.fop.specs.declared.State.the-variants.{S1}
 use Rattle.fop.specs.Variables.{Fop, atStart, setState, setClock}
 use Rattle.fop.specs.Events.{SenderEvent}
 use Rattle.fop.specs.Answers.{Answer, senderNext, senderAnswer}
-use Rattle.farm.specs.Receiver.{largestBuffers}
+use Rattle.receiver.specs.Receiver.{largestBuffers}
 use Rattle.farm.specs.declared.State.the-variants.{Open}
-use Rattle.farm.specs.declared.Receiver.{Receiver}
+use Rattle.receiver.specs.declared.Receiver.{Receiver}
 use Rattle.session.specs.Receiver.{ReceiverEvent, ReceiverAnswer, WordAnswer, receiverNext, receiverAnswer, receiverWord}
 
 -- "the FARM-B counter modulo 4"
@@ -19,7 +19,7 @@ abbrev pub largestCounter : ℕ
 largestCounter = 3
 
 -- n is V(S), NN(R) and V(R) at the start ("n is V(S) at the start"); k the sender's window K and w the receiver's W; the count of AD
--- buffers; T1_Initial in ticks; Transmission_Limit; the address of both ends; Transmission_Count and the FARM-B counter at the start
+-- buffers; T1_Initial in ticks; Transmission_Limit; Timeout_Type; the address of both ends; Transmission_Count and the FARM-B counter at the start
 pub record Settings : Type 0 where
   pub n : ℕ
   pub k : ℕ
@@ -27,6 +27,7 @@ pub record Settings : Type 0 where
   pub buffers : ℕ
   pub t1 : ℕ
   pub limit : ℕ
+  pub timeoutType : ℕ
   pub own : Own
   pub count : ℕ
   pub counter : ℕ
@@ -46,6 +47,7 @@ pub record Within (s : Settings) : Type 0 where
   pub timerMost : s .t1 ≤ largestTimer
   pub limitLeast : 1 ≤ s .limit
   pub limitMost : s .limit ≤ largestTransmissionLimit
+  pub timeoutMost : s .timeoutType ≤ largestTimeoutType
   pub spacecraft : s .own .spacecraft ≤ largestSpacecraft
   pub channel : s .own .channel ≤ largestChannel
   pub countLeast : 1 ≤ s .count
@@ -57,18 +59,22 @@ pub record Within (s : Settings) : Type 0 where
 unfoldable pub startSender : Settings → Fop
 startSender s =
     setClock 0 (s .count)
-    (setState S1 (atStart (s .n) (s .n) (record { k = s .k; transmissionLimit = s .limit; t1Initial = s .t1; timeoutType = 0 })))
+    (setState S1 (atStart (s .n) (s .n) (record { k = s .k; transmissionLimit = s .limit; t1Initial = s .t1; timeoutType = s .timeoutType })))
 
 -- The receiver's part: Open, flags zero, no buffer taken, V(R) as set. Document 01's start is the case counter 0; a receiver that carried out
 -- Unlock or Set V(R) has counted it.
 unfoldable pub startReceiver : Settings → Receiver
 startReceiver s = record {
-  spacecraft = s .own .spacecraft;
-  channel = s .own .channel;
-  window = s .w;
-  buffers = s .buffers;
-  taken = 0;
-  variables = record { state = Open; vr = s .n; lockout = false; wait = false; retransmit = false; counter = s .counter };
+  farm = record {
+    spacecraft = s .own .spacecraft;
+    buffers = s .buffers;
+    channel = record {
+      number = s .own .channel;
+      window = s .w;
+      held = 0;
+      variables = record { state = Open; vr = s .n; lockout = false; wait = false; retransmit = false; counter = s .counter };
+    };
+  };
 }
 
 -- A sender and a receiver, whatever they are: how they stand at the start, and the next state, answer and control word that they give. A
@@ -84,7 +90,7 @@ pub record Ends : Type 1 where
   pub answerReceiver : ReceiverEvent → Receiver → ReceiverAnswer
   pub word : ℕ → Receiver → WordAnswer
 
--- the ends that the tables themselves are: table 7-8 by crate fop, table 7-9 by crate farm
+-- the ends that the tables themselves are: table 7-8 by crate fop, table 7-9 by crate receiver
 abbrev pub tables : Settings → Ends
 tables s = record {
   Sender = Fop;

@@ -1,17 +1,17 @@
--- The receiver's end of the session: crate farm's definitions, as events and answers.
+-- The receiver's end of the session: crate receiver's definitions, as events and answers.
 use mathlib.Core.List.{List}
 use mathlib.Core.Option.{Option, none, some}
 use Prim.Native.Nat.{ℕ}
 use Rattle.base.specs.Outcome.{Outcome, Outcome.done, Outcome.refused}
 use Rattle.clcw.specs.Clcw.{writing}
-use Rattle.farm.specs.Receiver.{receiveOf, unitPart, releaseOf, wordOf}
+use Rattle.receiver.specs.Receiver.{receiveOf, unitPart, releaseOf, wordOf}
 use Rattle.farm.specs.declared.Event.{Event as FarmEvent}
-use Rattle.farm.specs.declared.Receiver.{Receiver}
-use Rattle.farm.specs.declared.Received.{Received}
+use Rattle.receiver.specs.declared.Receiver.{Receiver}
+use Rattle.receiver.specs.declared.Received.{Received}
 use Rattle.farm.specs.declared.AcceptedUnit.{AcceptedUnit}
 use Rattle.farm.specs.declared.AcceptedUnit.the-variants.{None, AdUnit, BdUnit}
-use Rattle.farm.specs.declared.Released.{Released}
-use Rattle.farm.specs.declared.Released.the-variants.{Done, NoneTaken}
+use Rattle.receiver.specs.declared.Released.{Released}
+use Rattle.receiver.specs.declared.Released.the-variants.{Done, NoneTaken}
 
 -- what the receiver is asked: "to the receiver the oldest frame or a release"
 pub data ReceiverEvent : Type 0 where

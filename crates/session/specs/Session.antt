@@ -8,7 +8,8 @@ use lib.ListN.{length, getD}
 use Rattle.base.specs.Choice.{pick}
 use Rattle.base.specs.Modulo.{advanced}
 use Rattle.fop.specs.Units.{Fdu, Frame, AD, BD, Unlock, SetVR, Refused, Own}
-use Rattle.fop.specs.Events.{Lower, SenderEvent, requestAd, requestBd, directive, wordArrives}
+use Rattle.fop.specs.declared.Lower.{Lower}
+use Rattle.fop.specs.Events.{SenderEvent, requestAd, requestBd, directive, wordArrives}
 use Rattle.fop.specs.Events as fop
 use Rattle.fop.specs.Answers.{Answer}
 use Rattle.farm.specs.Table.{eventNumber}

@@ -8,14 +8,18 @@ use Prim.Native.Nat.{ℕ, _≤_, _<_}
 use lib.ListN.{length, getD}
 use Rattle.base.specs.Modulo.{advanced}
 use Rattle.fop.specs.Units.{Fdu, AD, BD, Word, valid, Own, legal, written, readWord}
-use Rattle.fop.specs.Table.{State, S1, S2, S3, S4, S5, S6, Reason}
-use Rattle.fop.specs.Variables.{Fop, acceptAdUnit}
+use Rattle.fop.specs.declared.Alert.{Alert}
+use Rattle.fop.specs.declared.Alert.the-variants.{None, Limit, T1, Term, Llif}
+use Rattle.fop.specs.declared.State.{State}
+use Rattle.fop.specs.declared.State.the-variants.{S1, S2, S3, S4, S5, S6}
+use Rattle.fop.specs.declared.Response.the-variants.{AcceptAdUnit}
+use Rattle.fop.specs.Variables.{Fop}
 use Rattle.fop.specs.Machine.{fdus, firstMarked}
 use Rattle.fop.specs.Events.{SenderEvent, requestAd, requestBd, lower, directive, wordArrives}
 use Rattle.fop.specs.Events as fop
 use Rattle.fop.specs.Answers.{senderNext, senderAnswer}
 use Rattle.farm.specs.declared.State.the-variants.{Open}
-use Rattle.farm.specs.declared.Receiver.{Receiver}
+use Rattle.receiver.specs.declared.Receiver.{Receiver}
 use Rattle.session.specs.Frames.{read}
 use Rattle.session.specs.Receiver.{ReceiverEvent, frameArrives, releaseBuffer, wordLength, receiverNext, receiverAnswer}
 use Rattle.session.specs.Ends.{Settings, Ends, tables}
@@ -57,13 +61,13 @@ pub data Sub {A : Type 0} : List A → List A → Type 0 where
   takes : {x : A} {a b : List A} → Sub a b → Sub (x ∷ a) (x ∷ b)
 
 -- no alert, or at a transmission limit of 1 that of the limit
-abbrev pub LimitOnly : ℕ → Option Reason → Type 0
-LimitOnly l r = (r ≡ none) ⊎ ((r ≡ some Reason.limit) × (l ≡ 1))
+abbrev pub LimitOnly : ℕ → Alert → Type 0
+LimitOnly l r = (r ≡ None) ⊎ ((r ≡ Limit) × (l ≡ 1))
 
 -- no alert, or term, T1 or LLIF, or at a transmission limit of 1 that of the limit
-abbrev pub KnownAlert : ℕ → Option Reason → Type 0
+abbrev pub KnownAlert : ℕ → Alert → Type 0
 KnownAlert l r =
-    (r ≡ none) ⊎ ((r ≡ some Reason.term) ⊎ ((r ≡ some Reason.t1) ⊎ ((r ≡ some Reason.llif) ⊎ ((r ≡ some Reason.limit) × (l ≡ 1)))))
+    (r ≡ None) ⊎ ((r ≡ Term) ⊎ ((r ≡ T1) ⊎ ((r ≡ Llif) ⊎ ((r ≡ Limit) × (l ≡ 1)))))
 
 -- an event that the session can bring to the sender
 abbrev pub InSession : List (List ℕ) → SenderEvent → Type 0
@@ -81,7 +85,7 @@ pub record Stronger (set : Settings) (m : Ends) (σ : Linked m) (γ : Linked (ta
   -- in service, Sent is Confirmed and then Outstanding; the Sent_Queue is exactly Outstanding; nothing is denied
   pub standing : inService (γ .sender .state) ≡ true
       → unitsAt (σ .history .sent) (σ .history .confirmed ++ somes (outstanding (σ .history))) ≡ map some (σ .history .sent)
-  pub queue : inService (γ .sender .state) ≡ true → fdus (γ .sender .sentQueue) ≡ unitsOf (σ .history .sent) (outstanding (σ .history))
+  pub queue : inService (γ .sender .state) ≡ true → fdus (γ .sender .queues .sentQueue) ≡ unitsOf (σ .history .sent) (outstanding (σ .history))
   pub undenied : inService (γ .sender .state) ≡ true → σ .history .denied ≡ []
   -- in Initial, Sent is Confirmed and then Denied
   pub initial : γ .sender .state ≡ S6 → unitsAt (σ .history .sent) (σ .history .confirmed ++ σ .history .denied) ≡ map some (σ .history .sent)
@@ -89,10 +93,10 @@ pub record Stronger (set : Settings) (m : Ends) (σ : Linked m) (γ : Linked (ta
   pub states : (inService (γ .sender .state) ≡ true) ⊎ (γ .sender .state ≡ S6)
   -- a unit that is sent at once is accepted, and starts the timer
   pub responds : (o : List ℕ) (lent : ℕ) → legal o ≡ true → Lent set (requestAd o) lent (γ .sender)
-      → γ .sender .state ≡ S1 → γ .sender .out .ad ≡ true → γ .sender .waitQueue ≡ none → firstMarked (γ .sender .sentQueue) ≡ none
-      → length (outstanding (σ .history)) < set .k → (m .answer (requestAd o) lent (σ .sender)) .responses ≡ acceptAdUnit ∷ []
+      → γ .sender .state ≡ S1 → γ .sender .out .ad ≡ true → γ .sender .queues .waitQueue ≡ none → firstMarked (γ .sender .queues .sentQueue) ≡ none
+      → length (outstanding (σ .history)) < set .k → (m .answer (requestAd o) lent (σ .sender)) .responses ≡ AcceptAdUnit ∷ []
   pub starts : (o : List ℕ) (lent : ℕ) → legal o ≡ true → Lent set (requestAd o) lent (γ .sender)
-      → γ .sender .state ≡ S1 → γ .sender .out .ad ≡ true → γ .sender .waitQueue ≡ none → firstMarked (γ .sender .sentQueue) ≡ none
+      → γ .sender .state ≡ S1 → γ .sender .out .ad ≡ true → γ .sender .queues .waitQueue ≡ none → firstMarked (γ .sender .queues .sentQueue) ≡ none
       → length (outstanding (σ .history)) < set .k → (step set (tables set) (adRequest o lent) γ) .sender .clock .timer ≡ set .t1
   -- a control word that asks for retransmission without wait and reports nothing new resends or marks every outstanding unit: to a sender
   -- active or resending with wait, short of the transmission limit
@@ -116,7 +120,7 @@ pub record Stronger (set : Settings) (m : Ends) (σ : Linked m) (γ : Linked (ta
       → Lent set (wordArrives s) lent (γ .sender) → inService (γ .sender .state) ≡ true
       → w .nr ≡ advanced (set .n) (length ((step set m (wordIn lent) σ) .history .confirmed))
   -- a receiver with a free buffer is Open
-  pub opens : BufferFree set (σ .history) → γ .receiver .variables .state ≡ Open
+  pub opens : BufferFree set (σ .history) → γ .receiver .farm .channel .variables .state ≡ Open
   -- BD units accepted are those handed down, in order, but for those lost
   pub inOrderBd : Sub (σ .history .acceptedBd) (σ .history .sentBd)
   -- with BD_Out ready, a legal BD unit offered is handed down at once, in every state; a BD unit that arrives is accepted

@@ -1,3 +1,5 @@
 pub mod Steps
 pub mod Parts
-pub mod Within
+pub mod Cut
+pub mod Moving
+pub mod Laws

@@ -1,10 +1,10 @@
--- What a list that was moved down holds: at each place, and in each part, what stood `count` places further on.
+-- What a list that was moved down holds: at each place what stood `count` places further on.
 use mathlib.Core.Path.{_≡_, ap, _∙_}
 use mathlib.Core.List.{List, _++_, append-nil}
-use Prim.Native.Nat.{ℕ, _+_, _-_, _<_, _≤_}
+use Prim.Native.Nat.{ℕ, _+_, _-_, _<_}
 use native.Mathlib.Omega.{arith}
-use lib.ListN.{length, getD, take, drop, length-drop, length-append, List·getD-append}
-use lib.Seq.{getD-drop, drop-append-le, take-append-le, drop-drop, drop-length}
+use lib.ListN.{length, getD, drop, length-drop, length-append, List·getD-append}
+use lib.Seq.{getD-drop, drop-length}
 use Rattle.store.specs.Slid.{slid}
 
 pub slid-at : (count i : ℕ) (s : List ℕ) → count + i < length s → getD (slid count s) i 0 ≡ getD s (count + i) 0
@@ -13,17 +13,6 @@ slid-at count i s h =
     let k : length (drop count s) ≡ length s - count = length-drop count s in
     let b : i < length (drop count s) = omega arith in
     List·getD-append (drop count s) (drop (length s - count) s) 0 i b ∙ getD-drop count s i 0
-
-pub slid-part : (count a m : ℕ) (s : List ℕ) → count + a + m ≤ length s → take m (drop a (slid count s)) ≡ take m (drop (count + a) s)
-unfolding slid
-slid-part count a m s h =
-    let k : length (drop count s) ≡ length s - count = length-drop count s in
-    let b : a ≤ length (drop count s) = omega arith in
-    let j : length (drop a (drop count s)) ≡ length (drop count s) - a = length-drop a (drop count s) in
-    let d : m ≤ length (drop a (drop count s)) = omega arith in
-    ap (take m) (drop-append-le a (drop count s) (drop (length s - count) s) b)
-    ∙ take-append-le m (drop a (drop count s)) (drop (length s - count) s) d
-    ∙ ap (take m) (drop-drop a count s)
 
 pub slid-none : (s : List ℕ) → slid 0 s ≡ s
 unfolding slid

@@ -1,4 +1,4 @@
--- The loop that moves a list down, of octets or of lengths: its invariant, a turn of it, and its end.
+-- The loop that moves the lengths down: its invariant, a turn of it, and its end.
 use mathlib.Core.Path.{_≡_, sym, ap, _∙_}
 use mathlib.Core.List.{List, _++_}
 use Prim.Native.Nat.{ℕ, _+_, _-_, _<_, _≤_}

@@ -1,33 +1,20 @@
-// The lent store of units and the lengths of its units, moved down.
+// Document 01, "FOP-1": the store of units that the host lends to the sender. Place i is the octets from LARGEST_UNIT * i on. The sent units
+// stand there oldest first, and the unit waiting behind them; each has its length in a list of lengths.
+pub mod lengths;
+pub mod removal;
+pub mod units;
+
+use base::LARGEST_K;
+use base::LARGEST_UNIT;
 ghost use mathlib.Core.Path.{_≡_};
-ghost use Rattle.store.specs.Slid.{slid};
+ghost use Rattle.store.specs.Places.{storeNeed};
 
-// Removes the first octets of memory: the others move down, and the last `count` octets stay.
-pub fn slide(memory: &mut [u8], count: usize)
-    ensures { λ _. ⌜ now (memory .exit) ≡ slid count (now (memory .entry)) ⌝ }
-{
-    if count <= memory.len() {
-        let rest = memory.len() - count;
-        let mut i = 0;
-        while i < rest {
-            let octet = memory[count + i];
-            memory[i] = octet;
-            i += 1;
-        }
-    }
-}
+// The sent units of the largest K, and the unit waiting. The store has a place for each.
+pub const PLACES: usize = LARGEST_K as usize + 1;
 
-// The same of lengths.
-pub fn slide_lengths(lengths: &mut [u16], count: usize)
-    ensures { λ _. ⌜ now (lengths .exit) ≡ slid count (now (lengths .entry)) ⌝ }
+// The octets of the store that a sender needs whose window is K and which has so many units outstanding.
+pub fn store_need(_k: u8, _outstanding: u8) -> usize
+    ensures { λ r. ⌜ r ≡ storeNeed «_k» «_outstanding» ⌝ }
 {
-    if count <= lengths.len() {
-        let rest = lengths.len() - count;
-        let mut i = 0;
-        while i < rest {
-            let length = lengths[count + i];
-            lengths[i] = length;
-            i += 1;
-        }
-    }
+    LARGEST_UNIT * PLACES
 }

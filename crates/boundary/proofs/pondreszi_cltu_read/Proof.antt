@@ -1,7 +1,7 @@
 -- What `read` answered, told by `told_reading`.
 use borrow.Author.Needs.{needs}
 use mathlib.Core.Path.{_∙_}
-use Rattle.boundary.proofs.Told.{same-reading}
+use Rattle.boundary_numbers.proofs.Told.{same-reading}
 use Rattle.boundary.proofs.pondreszi_cltu_read.Statement.{statement}
 use Rattle.boundary.proofs.pondreszi_cltu_read.Tie as tie
 

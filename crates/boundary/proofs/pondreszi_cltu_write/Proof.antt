@@ -1,6 +1,6 @@
 -- What `write` answered, told by `told_written`.
 use borrow.Author.Needs.{needs}
-use Rattle.boundary.proofs.Told.{told-by}
+use Rattle.boundary_numbers.proofs.Told.{told-by}
 use Rattle.boundary.proofs.pondreszi_cltu_write.Statement.{statement}
 use Rattle.boundary.proofs.pondreszi_cltu_write.Tie as tie
 

@@ -5,8 +5,8 @@ use mathlib.Core.Path.{_≡_, ap}
 use native.Mathlib.Omega.{arith}
 use denote.Ref.{now}
 use lib.ListN.{length}
-use Rattle.console.specs.Console.{textOf}
-use Rattle.console.proofs.Placing.{placed-part, part-done, part-never}
+use Rattle.program_rows.specs.Rows.{textOf}
+use Rattle.program_rows.proofs.Placing.{placed-part, part-done, part-never}
 use Rattle.console.proofs.put.Statement.{statement}
 use Rattle.console.proofs.put.Tie as tie
 

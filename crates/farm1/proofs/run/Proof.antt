@@ -7,8 +7,8 @@ use denote.Ref.{now}
 use lib.ListN.{length}
 use Rattle.text.specs.Answers.{written}
 use Rattle.text.proofs.Outcomes.{written-done, count-within, number-done}
-use Rattle.console.specs.Console.{headerText}
-use Rattle.console.specs.Feed.{progressOf, lastText, rowRoom}
+use Rattle.program_rows.specs.Rows.{headerText, rowRoom}
+use Rattle.console.specs.Feed.{progressOf, lastText}
 use Rattle.farm1.proofs.run.Statement.{statement}
 use Rattle.farm1.proofs.run.Tie as tie
 

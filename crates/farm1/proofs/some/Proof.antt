@@ -5,7 +5,8 @@ use native.Mathlib.Omega.{arith}
 use denote.Ref.{now}
 use lib.ListN.{length, take, length-take}
 use Rattle.text.proofs.Outcomes.{count-within, number-done}
-use Rattle.console.specs.Feed.{progressOf, chunkText, rowRoom, feeding}
+use Rattle.program_rows.specs.Rows.{rowRoom}
+use Rattle.console.specs.Feed.{progressOf, chunkText, feeding}
 use Rattle.console.proofs.Feeding.{fed-done}
 use Rattle.farm1.proofs.some.Statement.{statement}
 use Rattle.farm1.proofs.some.Tie as tie

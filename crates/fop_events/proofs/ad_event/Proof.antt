@@ -1,6 +1,6 @@
 -- Each return is one row, by the tests on the way.
 use borrow.Author.Needs.{needs}
-use Rattle.fop_actions.specs.Start.{begun}
+use Rattle.sender_values.specs.Start.{begun}
 use Rattle.fop_events.specs.Events.{adNumber}
 use Rattle.fop_events.proofs.ad_event.Statement.{statement}
 use Rattle.fop_events.proofs.ad_event.Tie as tie

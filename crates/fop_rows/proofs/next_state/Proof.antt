@@ -1,6 +1,6 @@
 -- Each number is a case of the definition.
 use Rattle.base.proofs.Tests.{tests}
-use Rattle.fop_rows.specs.Numbers.{stateNumbered}
+use Rattle.sender_table.specs.Numbers.{stateNumbered}
 use Rattle.fop_rows.proofs.next_state.Statement.{statement}
 use Rattle.fop_rows.proofs.next_state.Tie as tie
 

@@ -4,17 +4,17 @@ use Prim.Native.Nat.{_-_, _≤_}
 use native.Mathlib.Omega.{arith}
 use lib.ListN as list
 use lib.ListN.{take, drop}
-use Rattle.fop_rows.specs.Numbers.{doneNumbers}
+use Rattle.sender_table.specs.Numbers.{doneNumbers}
 use Rattle.fop_rows.proofs.Numbered.{in-turn, all-done}
 use borrow.Author.Needs.{needs}
 use Rattle.fop_rows.proofs.perform_all.Statement.{statement}
 use Rattle.fop_rows.proofs.perform_all.Tie as tie
 
 abbrev Inv-loop : tie.InvT-loop
-Inv-loop value length numbers next₀ i₀ next i = (i ≤ 5) × (doneNumbers (drop i (take 5 numbers)) value length next ≡ doneNumbers (take 5 numbers) value length next₀)
+Inv-loop value numbers next₀ i₀ next i = (i ≤ 5) × (doneNumbers (drop i (take 5 numbers)) value next ≡ doneNumbers (take 5 numbers) value next₀)
 
 abbrev μ-loop : tie.MeasureT-loop
-μ-loop value length numbers next₀ i₀ next i = 5 - i
+μ-loop value numbers next₀ i₀ next i = 5 - i
 
 loop-holds : tie.Need-loop-holds Inv-loop μ-loop
 loop-holds c = search needs
@@ -36,7 +36,7 @@ loop-again c =
     let a = c .before .before .before .args in
     let l = c .before .before .loop in
     let six : list.length (a .t2) ≡ 6 = search needs in
-    (omega arith, in-turn (a .t2) (l .i) (a .value) (a .length) (l .next) (c .perform .result) six (c .before .loop-test .taken) (c .perform .ensures) ∙ l .inv .1)
+    (omega arith, in-turn (a .t2) (l .i) (a .value) (l .next) (c .perform .result) six (c .before .loop-test .taken) (c .perform .ensures) ∙ l .inv .1)
 
 returns : tie.Need-returns Inv-loop μ-loop
 returns c =
@@ -44,7 +44,7 @@ returns c =
     let l = c .before .loop in
     let six : list.length (a .t2) ≡ 6 = search needs in
     let five : l .i ≡ 5 = omega arith in
-    sym (all-done (a .t2) (l .i) (a .value) (a .length) (l .next) six five) ∙ l .inv .1
+    sym (all-done (a .t2) (l .i) (a .value) (l .next) six five) ∙ l .inv .1
 
 pub perform-all-spec : {M : Type 1} → statement M
 perform-all-spec =

@@ -1,15 +1,24 @@
--- Each return is one of the checks of lengths, in their order.
+-- Each return is one of the checks of lengths, in their order, with the length that the header says. A fact of an earlier place is looked
+-- up by the place's type.
 use borrow.Author.Needs.{needs}
-use mathlib.Core.Path.{ap, _∙_}
-use Prim.Native.Nat.{ℕ, _+_, _<_, _≤_}
-use native.Mathlib.Omega.{arith}
+use mathlib.Core.Path.{_≡_, sym, _∙_}
+use Prim.Native.Nat.{ℕ}
 use denote.Ref.{now}
-use lib.ListN.{length}
-use Rattle.base.specs.Limits.{largestFrame}
 use Rattle.base.proofs.Tests.{tests}
-use Rattle.frame.specs.Frame.{totalOf, contentRefusal, refusalOf}
+use Rattle.frame.specs.Frame.{refusalOf}
+use Rattle.frame.proofs.Octets.{lengthChecks, length-checks}
 use Rattle.frame.proofs.refusal.Statement.{statement}
 use Rattle.frame.proofs.refusal.Tie as tie
+
+-- the entry, from where the header's length has been read
+abbrev entry : tie.After-total → tie.Start
+entry c = c .before .before .before
+
+-- what the checks with that length give is the refusal
+judged : (c : tie.After-total) {number : ℕ}
+    → number ≡ lengthChecks (now (entry c .args .octets)) (c .total .result) (entry c .args .spacecraft) (entry c .args .channel)
+    → number ≡ refusalOf (now (entry c .args .octets)) (entry c .args .spacecraft) (entry c .args .channel)
+judged c g = g ∙ sym (length-checks _ _ _ _ (c .total .ensures))
 
 returns : tie.Need-returns
 unfolding refusalOf
@@ -22,69 +31,25 @@ cast-n : tie.Need-cast-n
 cast-n c = search needs
 
 returns-2 : tie.Need-returns-2
-unfolding refusalOf
-returns-2 c =
-    let a = c .before .before .before .before .args in
-    let s = now (a .octets) in
-    let e = c .before .total .ensures in
-    let h : 8 ≤ length s = omega arith in
-    let l : totalOf s < 8 = omega arith in
-    search tests
+returns-2 c = judged (search needs) (search tests)
 
 returns-3 : tie.Need-returns-3
-unfolding refusalOf
-returns-3 c =
-    let a = c .before .before .before .before .before .args in
-    let s = now (a .octets) in
-    let e = c .before .before .total .ensures in
-    let h : 8 ≤ length s = omega arith in
-    let l : 8 ≤ totalOf s = omega arith in
-    let m : largestFrame < totalOf s = omega arith in
-    search tests
+returns-3 c = judged (search needs) (search tests)
 
 returns-4 : tie.Need-returns-4
-unfolding refusalOf
-returns-4 c =
-    let a = c .before .before .before .before .before .before .args in
-    let s = now (a .octets) in
-    let e = c .before .before .before .total .ensures in
-    let h : 8 ≤ length s = omega arith in
-    let l : 8 ≤ totalOf s = omega arith in
-    let m : totalOf s ≤ largestFrame = omega arith in
-    let w : length s < totalOf s = omega arith in
-    search tests
+returns-4 c = judged (search needs) (search tests)
 
 add-if5 : tie.Need-add-if5
 add-if5 c = search needs
 
 returns-5 : tie.Need-returns-5
-unfolding refusalOf
-returns-5 c =
-    let a = c .before .before .before .before .before .before .before .args in
-    let s = now (a .octets) in
-    let e = c .before .before .before .before .total .ensures in
-    let h : 8 ≤ length s = omega arith in
-    let l : 8 ≤ totalOf s = omega arith in
-    let m : totalOf s ≤ largestFrame = omega arith in
-    let w : totalOf s ≤ length s = omega arith in
-    let f : totalOf s + 6 < length s = omega arith in
-    search tests
+returns-5 c = judged (search needs) (search tests)
 
 content-refusal-requires : tie.Need-content-refusal-requires
 content-refusal-requires c κs = search needs
 
 returns-6 : tie.Need-returns-6
-unfolding refusalOf
-returns-6 c =
-    let a = c .before .before .before .before .before .before .before .before .args in
-    let s = now (a .octets) in
-    let e = c .before .before .before .before .before .total .ensures in
-    let h : 8 ≤ length s = omega arith in
-    let l : 8 ≤ totalOf s = omega arith in
-    let m : totalOf s ≤ largestFrame = omega arith in
-    let w : totalOf s ≤ length s = omega arith in
-    let f : length s ≤ totalOf s + 6 = omega arith in
-    c .content-refusal .ensures ∙ ap (λ (n : ℕ). contentRefusal s n (a .spacecraft) (a .channel)) e ∙ search tests
+returns-6 c = judged (search needs) (search (tests, c .content-refusal .ensures))
 
 pub refusal-spec : {M : Type 1} → statement M
 refusal-spec =

@@ -3,7 +3,6 @@ use borrow.Author.Needs.{needs}
 use mathlib.Core.Path.{sym, ap, _∙_}
 use Prim.Native.Nat.{ℕ, _+_}
 use native.Mathlib.Omega.{arith}
-use denote.Ref.{now}
 use Rattle.frame.proofs.Octets.{total-is}
 use Rattle.frame.proofs.total.Statement.{statement}
 use Rattle.frame.proofs.total.Tie as tie
@@ -18,12 +17,14 @@ pair-requires : tie.Need-pair-requires
 pair-requires c κs = search needs
 
 add-result : tie.Need-add-result
-add-result c = omega (arith, c .pair .ensures, c .before .before .before .shared-slice-known .given 2 .fits, c .before .before .before .shared-slice-known .given 3 .fits)
+add-result c =
+    let k : tie.After-shared-slice-known = search needs in
+    omega (arith, c .pair .ensures, k .shared-slice-known .given 2 .fits, k .shared-slice-known .given 3 .fits)
 
 returns : tie.Need-returns
 returns c =
-    let s = now (c .before .before .before .before .args .octets) in
-    ap (λ (x : ℕ). x + 1) (c .pair .ensures) ∙ sym (total-is s (λ i. c .before .before .before .shared-slice-known .given i .fits) (search needs))
+    let k : tie.After-shared-slice-known = search needs in
+    ap (λ (x : ℕ). x + 1) (c .pair .ensures) ∙ sym (total-is _ (λ i. k .shared-slice-known .given i .fits) (search needs))
 
 pub total-spec : {M : Type 1} → statement M
 total-spec =

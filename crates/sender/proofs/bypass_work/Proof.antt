@@ -15,9 +15,9 @@ same-length c = search needs
 
 returns : tie.Need-returns
 returns c =
-    let w = c .before .before .before in
+    let w = c .before .before .before .before in
     let a = w .before .before .before .before .before .before .args in
-    answered-by (a .event) (a .sender) (a .work) (w .write-handed .result) (c .conclude .result) (a .unit .now) _ (a .output .now)
+    answered-by (a .event) (a .sender) (a .work) (a .sender .lengths) (w .write-handed .result) (c .conclude .result) (a .unit .now) _ (a .output .now)
     (w .write-handed .ensures) (c .conclude .ensures)
 
 pub bypass-work-spec : {M : Type 1} → statement M

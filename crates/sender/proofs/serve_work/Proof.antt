@@ -1,23 +1,20 @@
--- The frame is of the unit behind the units confirmed; the store changes where the answer is no refusal.
+-- The frame is of the unit behind the units confirmed; the store changes where the answer is no refusal, as the lengths in it do.
 use borrow.Author.Needs.{needs}
 use Rattle.sender.proofs.Judged.{served-done, served-refused}
 use Rattle.sender.proofs.serve_work.Statement.{statement}
 use Rattle.sender.proofs.serve_work.Tie as tie
 
-place-before-requires : tie.Need-place-before-requires
-place-before-requires c κs = search needs
+write-served-requires : tie.Need-write-served-requires
+write-served-requires c κs = search needs
 
-unit-at-requires : tie.Need-unit-at-requires
-unit-at-requires c κs = search needs
-
-write-handed-requires : tie.Need-write-handed-requires
-write-handed-requires c κs = search needs
+lengths-left-requires : tie.Need-lengths-left-requires
+lengths-left-requires c κs = search needs
 
 conclude-requires : tie.Need-conclude-requires
 conclude-requires c κs = search needs
 
-remove-requires : tie.Need-remove-requires
-remove-requires c κs = search needs
+remove-confirmed-requires : tie.Need-remove-confirmed-requires
+remove-confirmed-requires c κs = search needs
 
 same-length : tie.Need-same-length
 same-length c = search needs
@@ -28,14 +25,13 @@ same-length-2 c = search needs
 returns : tie.Need-returns
 returns c =
     let r = c .before .before in
-    let t = r .before .before in
+    let t = r .before .before .before in
     let d = t .before .before in
-    let w = d .before .before .before in
-    let u = w .before .before in
-    let p = u .before .before .before .before in
-    let a = p .before .before .before .before .args in
-    served-done (a .event) (a .sender) (a .work) (a .store .now) (a .output .now) (w .write-handed .result)
-    (p .place-before .ensures) (u .unit-at .ensures) (w .write-handed .ensures) (d .conclude .ensures) (t .if1 .taken) (r .remove .ensures)
+    let l = d .before in
+    let w = l .before .before .before in
+    let a = w .before .before .before .before .before .before .before .args in
+    served-done (a .event) (a .sender) (a .work) (a .store .now) (a .output .now) (w .write-served .result)
+    (l .lengths-left .ensures) (w .write-served .ensures) (d .conclude .ensures) (t .if1 .taken) (r .remove-confirmed .ensures)
 
 same-length-3 : tie.Need-same-length-3
 same-length-3 c = search needs
@@ -46,22 +42,20 @@ same-length-4 c = search needs
 returns-2 : tie.Need-returns-2
 returns-2 c =
     let d = c .before .before in
-    let w = d .before .before .before in
-    let u = w .before .before in
-    let p = u .before .before .before .before in
-    let a = p .before .before .before .before .args in
-    served-refused (a .event) (a .sender) (a .work) (a .store .now) (a .output .now) (w .write-handed .result)
-    (p .place-before .ensures) (u .unit-at .ensures) (w .write-handed .ensures) (d .conclude .ensures) (c .if1 .left)
+    let l = d .before in
+    let w = l .before .before .before in
+    let a = w .before .before .before .before .before .before .before .args in
+    served-refused (a .event) (a .sender) (a .work) (a .store .now) (a .output .now) (w .write-served .result)
+    (l .lengths-left .ensures) (w .write-served .ensures) (d .conclude .ensures) (c .if1 .left)
 
 pub serve-work-spec : {M : Type 1} → statement M
 serve-work-spec =
     tie.close
     (tie.spec
-    place-before-requires
-    unit-at-requires
-    write-handed-requires
+    write-served-requires
+    lengths-left-requires
     conclude-requires
-    remove-requires
+    remove-confirmed-requires
     same-length
     same-length-2
     returns

@@ -3,7 +3,7 @@ use borrow.Author.Needs.{needs}
 use mathlib.Core.Path.{ap, _∙_}
 use borrow.Author.Tests.{not-true, not-false}
 use denote.Ref.{now}
-use Rattle.sender.specs.State.{restoredOf}
+use Rattle.sender.specs.Start.{restoredOf}
 use Rattle.sender_octets.proofs.Judged.{no-length, no-state, judged, compared}
 use Rattle.sender_octets.proofs.sender_in.Statement.{statement}
 use Rattle.sender_octets.proofs.sender_in.Tie as tie

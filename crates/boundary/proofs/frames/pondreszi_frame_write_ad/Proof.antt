@@ -1,6 +1,6 @@
--- What `write_ad` answered to the numbers narrowed, told by `told`.
+-- What `write_ad` answered to the numbers narrowed, told by `told_written`.
 use borrow.Author.Needs.{needs}
-use Rattle.boundary.proofs.Told.{told-as}
+use Rattle.boundary_numbers.proofs.Told.{told-as}
 use Rattle.boundary.proofs.Narrowed.{ad-narrowed}
 use Rattle.boundary.proofs.frames.pondreszi_frame_write_ad.Statement.{statement}
 use Rattle.boundary.proofs.frames.pondreszi_frame_write_ad.Tie as tie
@@ -23,8 +23,8 @@ narrow-u8-requires-2 c κs = search needs
 write-ad-requires : tie.Need-write-ad-requires
 write-ad-requires c κs = search needs
 
-told-requires : tie.Need-told-requires
-told-requires c κs = search needs
+told-written-requires : tie.Need-told-written-requires
+told-written-requires c κs = search needs
 
 same-length : tie.Need-same-length
 same-length c = search needs
@@ -39,7 +39,7 @@ returns c =
     let a = j .before .before .before .args in
     told-as (a .output .now)
     (ad-narrowed (a .spacecraft) (a .channel) (a .number) _ (j .with-number .ensures) (s .narrow-u16 .ensures) (h .narrow-u8 .ensures) (n .narrow-u82 .ensures)
-    (a .unit .now)) (w .write-ad .ensures) (c .told .ensures)
+    (a .unit .now)) (w .write-ad .ensures) (c .told-written .ensures)
 
 pub pondreszi-frame-write-ad-spec : {M : Type 1} → statement M
 pondreszi-frame-write-ad-spec =
@@ -51,6 +51,6 @@ pondreszi-frame-write-ad-spec =
     narrow-u8-requires
     narrow-u8-requires-2
     write-ad-requires
-    told-requires
+    told-written-requires
     same-length
     returns)

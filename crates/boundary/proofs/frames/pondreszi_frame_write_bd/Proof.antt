@@ -1,6 +1,6 @@
--- What `write_bd` answered to the address narrowed, told by `told`.
+-- What `write_bd` answered to the address narrowed, told by `told_written`.
 use borrow.Author.Needs.{needs}
-use Rattle.boundary.proofs.Told.{told-as}
+use Rattle.boundary_numbers.proofs.Told.{told-as}
 use Rattle.boundary.proofs.Narrowed.{frame-narrowed}
 use Rattle.boundary.proofs.frames.pondreszi_frame_write_bd.Statement.{statement}
 use Rattle.boundary.proofs.frames.pondreszi_frame_write_bd.Tie as tie
@@ -14,8 +14,8 @@ narrow-u8-requires c κs = search needs
 write-bd-requires : tie.Need-write-bd-requires
 write-bd-requires c κs = search needs
 
-told-requires : tie.Need-told-requires
-told-requires c κs = search needs
+told-written-requires : tie.Need-told-written-requires
+told-written-requires c κs = search needs
 
 same-length : tie.Need-same-length
 same-length c = search needs
@@ -27,7 +27,7 @@ returns c =
     let s = h .before in
     let a = s .before .before .before .args in
     told-as (a .output .now) (frame-narrowed 1 0 0 (a .unit .now) _ (a .spacecraft) (a .channel) (s .narrow-u16 .ensures) (h .narrow-u8 .ensures))
-    (w .write-bd .ensures) (c .told .ensures)
+    (w .write-bd .ensures) (c .told-written .ensures)
 
 pub pondreszi-frame-write-bd-spec : {M : Type 1} → statement M
 pondreszi-frame-write-bd-spec =
@@ -36,6 +36,6 @@ pondreszi-frame-write-bd-spec =
     narrow-u16-requires
     narrow-u8-requires
     write-bd-requires
-    told-requires
+    told-written-requires
     same-length
     returns)

@@ -1,6 +1,6 @@
--- What `write_set_vr` answered to the numbers narrowed, told by `told`.
+-- What `write_set_vr` answered to the numbers narrowed, told by `told_written`.
 use borrow.Author.Needs.{needs}
-use Rattle.boundary.proofs.Told.{told-as}
+use Rattle.boundary_numbers.proofs.Told.{told-as}
 use Rattle.boundary.proofs.Narrowed.{set-vr-narrowed}
 use Rattle.boundary.proofs.frames.pondreszi_frame_write_set_vr.Statement.{statement}
 use Rattle.boundary.proofs.frames.pondreszi_frame_write_set_vr.Tie as tie
@@ -23,8 +23,8 @@ narrow-u8-requires-2 c κs = search needs
 write-set-vr-requires : tie.Need-write-set-vr-requires
 write-set-vr-requires c κs = search needs
 
-told-requires : tie.Need-told-requires
-told-requires c κs = search needs
+told-written-requires : tie.Need-told-written-requires
+told-written-requires c κs = search needs
 
 same-length : tie.Need-same-length
 same-length c = search needs
@@ -39,7 +39,7 @@ returns c =
     let a = j .before .before .args in
     told-as (a .output .now)
     (set-vr-narrowed (a .spacecraft) (a .channel) (a .value) _ (j .with-number .ensures) (s .narrow-u16 .ensures) (h .narrow-u8 .ensures) (n .narrow-u82 .ensures))
-    (w .write-set-vr .ensures) (c .told .ensures)
+    (w .write-set-vr .ensures) (c .told-written .ensures)
 
 pub pondreszi-frame-write-set-vr-spec : {M : Type 1} → statement M
 pondreszi-frame-write-set-vr-spec =
@@ -51,6 +51,6 @@ pondreszi-frame-write-set-vr-spec =
     narrow-u8-requires
     narrow-u8-requires-2
     write-set-vr-requires
-    told-requires
+    told-written-requires
     same-length
     returns)

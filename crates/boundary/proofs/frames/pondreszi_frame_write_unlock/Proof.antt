@@ -1,7 +1,7 @@
--- What `write_unlock` answered to the address narrowed, told by `told`.
+-- What `write_unlock` answered to the address narrowed, told by `told_written`.
 use borrow.Author.Needs.{needs}
 use Rattle.frame.specs.Frame.{unlockCommand}
-use Rattle.boundary.proofs.Told.{told-as}
+use Rattle.boundary_numbers.proofs.Told.{told-as}
 use Rattle.boundary.proofs.Narrowed.{frame-narrowed}
 use Rattle.boundary.proofs.frames.pondreszi_frame_write_unlock.Statement.{statement}
 use Rattle.boundary.proofs.frames.pondreszi_frame_write_unlock.Tie as tie
@@ -15,8 +15,8 @@ narrow-u8-requires c κs = search needs
 write-unlock-requires : tie.Need-write-unlock-requires
 write-unlock-requires c κs = search needs
 
-told-requires : tie.Need-told-requires
-told-requires c κs = search needs
+told-written-requires : tie.Need-told-written-requires
+told-written-requires c κs = search needs
 
 same-length : tie.Need-same-length
 same-length c = search needs
@@ -28,7 +28,7 @@ returns c =
     let s = h .before in
     let a = s .before .before .args in
     told-as (a .output .now) (frame-narrowed 1 1 0 unlockCommand _ (a .spacecraft) (a .channel) (s .narrow-u16 .ensures) (h .narrow-u8 .ensures))
-    (w .write-unlock .ensures) (c .told .ensures)
+    (w .write-unlock .ensures) (c .told-written .ensures)
 
 pub pondreszi-frame-write-unlock-spec : {M : Type 1} → statement M
 pondreszi-frame-write-unlock-spec =
@@ -37,6 +37,6 @@ pondreszi-frame-write-unlock-spec =
     narrow-u16-requires
     narrow-u8-requires
     write-unlock-requires
-    told-requires
+    told-written-requires
     same-length
     returns)

@@ -1,8 +1,8 @@
 -- The start is refused, its state does not fit, or it is put at the front of the buffer.
 use borrow.Author.Needs.{needs}
 use native.Mathlib.Omega.{arith}
-use Rattle.boundary.specs.Senders.{newCall}
-use Rattle.boundary.proofs.SenderCalls.{start-refused, start-no-room, start-done}
+use Rattle.boundary_sender.specs.Senders.{newCall}
+use Rattle.boundary_sender.proofs.SenderCalls.{start-refused, start-no-room, start-done}
 use Rattle.boundary.proofs.senders.pondreszi_sender_new.Statement.{statement}
 use Rattle.boundary.proofs.senders.pondreszi_sender_new.Tie as tie
 

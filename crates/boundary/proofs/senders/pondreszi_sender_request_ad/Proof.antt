@@ -1,13 +1,12 @@
--- No sender is reached, or the AD request is told.
+-- The call for any event, of an AD request.
 use borrow.Author.Needs.{needs}
-use Rattle.sender.specs.Events.{requestAdOf}
-use Rattle.boundary.specs.Senders.{requestAdCall}
-use Rattle.boundary.proofs.SenderCalls.{not-reached, done}
+use Rattle.sender.specs.Events.{eventOf}
+use Rattle.boundary_sender.specs.Senders.{eventCall, requestAdCall}
 use Rattle.boundary.proofs.senders.pondreszi_sender_request_ad.Statement.{statement}
 use Rattle.boundary.proofs.senders.pondreszi_sender_request_ad.Tie as tie
 
-reach-requires : tie.Need-reach-requires
-reach-requires c κs = search needs
+event-call-requires : tie.Need-event-call-requires
+event-call-requires c κs = search needs
 
 same-length : tie.Need-same-length
 same-length c = search needs
@@ -15,54 +14,17 @@ same-length c = search needs
 same-length-2 : tie.Need-same-length-2
 same-length-2 c = search needs
 
-returns : tie.Need-returns
-unfolding requestAdCall
-returns c =
-    let i = c .before .before in
-    let a = i .before .before .before .before .before .before .before .before .args in
-    not-reached (λ s. requestAdOf s (a .unit .now) (a .store .now) (a .output .now)) (i .reach .result) (i .reach .ensures) (c .if1 .taken)
-
-request-ad-requires : tie.Need-request-ad-requires
-request-ad-requires c κs = search needs
-
-tell-requires : tie.Need-tell-requires
-tell-requires c κs = search needs
-
 same-length-3 : tie.Need-same-length-3
 same-length-3 c = search needs
 
 same-length-4 : tie.Need-same-length-4
 same-length-4 c = search needs
 
-same-length-5 : tie.Need-same-length-5
-same-length-5 c = search needs
-
-same-length-6 : tie.Need-same-length-6
-same-length-6 c = search needs
-
-returns-2 : tie.Need-returns-2
-unfolding requestAdCall
-returns-2 c =
-    let w = c .before .before .before .before in
-    let e = w .before .before .before .before .before .before .before in
-    let t = e .before .before .before .before in
-    let i = t .before .before in
-    let a = i .before .before .before .before .before .before .before .before .args in
-    done (λ s. requestAdOf s (a .unit .now) (a .store .now) (a .output .now)) (i .reach .result)
-    (a .state .now) (a .store .now) (a .output .now) (a .answer .now) (i .reach .ensures) (t .if1 .left) (e .request-ad .ensures) (w .tell .ensures)
+returns : tie.Need-returns
+unfolding requestAdCall eventCall eventOf
+returns c = c .before .before .before .before .before .before .before .before .event-call .ensures
 
 pub pondreszi-sender-request-ad-spec : {M : Type 1} → statement M
 pondreszi-sender-request-ad-spec =
     tie.close
-    (tie.spec
-    reach-requires
-    same-length
-    same-length-2
-    returns
-    request-ad-requires
-    tell-requires
-    same-length-3
-    same-length-4
-    same-length-5
-    same-length-6
-    returns-2)
+    (tie.spec event-call-requires same-length same-length-2 same-length-3 same-length-4 returns)

@@ -1,8 +1,8 @@
--- What `write` answered to the numbers narrowed, told by `told`.
+-- What `write` answered to the numbers narrowed, told by `told_written`.
 use borrow.Author.Needs.{needs}
 use mathlib.Core.Bool.{not}
 use lib.Dec.{eqb}
-use Rattle.boundary.proofs.Told.{told-as}
+use Rattle.boundary_numbers.proofs.Told.{told-as}
 use Rattle.boundary.proofs.Narrowed.{word-narrowed}
 use Rattle.boundary.proofs.words.pondreszi_clcw_write.Statement.{statement}
 use Rattle.boundary.proofs.words.pondreszi_clcw_write.Tie as tie
@@ -25,8 +25,8 @@ narrow-u8-requires-3 c κs = search needs
 write-requires : tie.Need-write-requires
 write-requires c κs = search needs
 
-told-requires : tie.Need-told-requires
-told-requires c κs = search needs
+told-written-requires : tie.Need-told-written-requires
+told-written-requires c κs = search needs
 
 same-length : tie.Need-same-length
 same-length c = search needs
@@ -42,7 +42,7 @@ returns c =
     told-as (a .output .now)
     (word-narrowed (not (eqb (a .lockout) 0)) (not (eqb (a .wait) 0)) (not (eqb (a .retransmit) 0)) _ (a .channel) (a .counter) (a .report)
     (j .with-number .ensures) (h .narrow-u8 .ensures) (b .narrow-u82 .ensures) (n .narrow-u83 .ensures))
-    (w .write .ensures) (c .told .ensures)
+    (w .write .ensures) (c .told-written .ensures)
 
 pub pondreszi-clcw-write-spec : {M : Type 1} → statement M
 pondreszi-clcw-write-spec =
@@ -54,6 +54,6 @@ pondreszi-clcw-write-spec =
     narrow-u8-requires-2
     narrow-u8-requires-3
     write-requires
-    told-requires
+    told-written-requires
     same-length
     returns)

@@ -5,7 +5,8 @@ use native.Mathlib.Omega.{arith}
 use denote.Ref.{now}
 use lib.ListN.{length}
 use Rattle.base.proofs.Tests.{told}
-use Rattle.cltu.proofs.Scan.{start-room}
+use Rattle.codeblock.specs.Codeblock.{judged}
+use Rattle.start_sequence.proofs.Search.{start-room}
 use Rattle.cltu.proofs.Outcomes.{reading-long, reading-none, reading-found}
 use Rattle.cltu.proofs.reader.read.Statement.{statement}
 use Rattle.cltu.proofs.reader.read.Tie as tie
@@ -13,7 +14,7 @@ use Rattle.cltu.proofs.reader.read.Tie as tie
 returns : tie.Need-returns
 returns c =
     let a = c .before .before .before .args in
-    told (reading-long (now (a .input)) (length (now (a .out))) (search needs)) (now (a .out))
+    told (reading-long judged (now (a .input)) (length (now (a .out))) (search needs)) (now (a .out))
 
 find-start-requires : tie.Need-find-start-requires
 find-start-requires c κs = search needs
@@ -21,7 +22,7 @@ find-start-requires c κs = search needs
 returns-2 : tie.Need-returns-2
 returns-2 c =
     let a = c .before .before .before .before .before .args in
-    told (reading-none (now (a .input)) (length (now (a .out))) (omega arith) (omega (arith, c .before .find-start .ensures))) (now (a .out))
+    told (reading-none judged (now (a .input)) (length (now (a .out))) (omega arith) (omega (arith, c .before .find-start .ensures))) (now (a .out))
 
 add-offset : tie.Need-add-offset
 add-offset c = search needs
@@ -52,7 +53,7 @@ returns-3 c =
     let a = c .before .before .before .before .before .before .before .before .before .before .args in
     let f = c .before .before .before .before .before .before .find-start in
     let r = c .before .before .read-after in
-    let t = told (reading-found (now (a .input)) (length (now (a .out))) (f .result) (omega arith) (omega arith) (f .ensures)) (now (a .out)) in
+    let t = told (reading-found judged (now (a .input)) (length (now (a .out))) (f .result) (omega arith) (omega arith) (f .ensures)) (now (a .out)) in
     (r .ensures .0 ∙ t .0, r .ensures .1 ∙ t .1)
 
 pub read-spec : {M : Type 1} → statement M

@@ -1,74 +1,82 @@
 -- Each return is one case of the definition, by the run of good codeblocks.
 use borrow.Author.Needs.{needs}
-use mathlib.Core.Path.{sym, ap, _∙_}
+use mathlib.Core.Path.{_≡_, sym, ap, ap₂, _∙_}
+use mathlib.Core.List.{List}
 use Prim.Native.Nat.{ℕ, _+_, _*_, _/_}
 use native.Mathlib.Omega.{arith}
 use denote.Ref.{now}
 use lib.ListN.{length}
 use Rattle.base.proofs.Tests.{told}
+use Rattle.codeblock.specs.Codeblock.{judged}
+use Rattle.codeblock.proofs.Codeblock.{good-seven}
+use Rattle.memory.specs.Placed.{placed}
+use Rattle.randomizer.specs.Randomizer.{randomized}
+use Rattle.randomizer.proofs.Randomized.{length-randomized}
+use Rattle.encoded_data.specs.EncodedData.{goodRun, informationIn}
+use Rattle.encoded_data.proofs.Scan.{length-information-in, run-le, run-whole, part-front, placed-front}
 use Rattle.cltu.specs.Answers.{readAnswer}
 use Rattle.cltu.specs.declared.reader.CltuReading.the-variants.{Done}
-use Rattle.cltu.proofs.Scan.{length-out, run-le}
 use Rattle.cltu.proofs.Outcomes.{after-end, after-none, after-room, after-done}
 use Rattle.cltu.proofs.reader.read_after.Statement.{statement}
 use Rattle.cltu.proofs.reader.read_after.Tie as tie
 
-good-run-requires : tie.Need-good-run-requires
-good-run-requires c κs = search needs
+slice-aggregate-take-good : tie.Need-slice-aggregate-take-good
+slice-aggregate-take-good c = search needs
 
-mul-t9 : tie.Need-mul-t9
-mul-t9 c =
-    let s = now (c .before .before .before .before .args .input) in
-    let g = c .before .good-run in
-    omega (arith, run-le (length s / 8) s)
+take-good-requires : tie.Need-take-good-requires
+take-good-requires c κs = search needs
 
-add-t10 : tie.Need-add-t10
-add-t10 c =
-    let s = now (c .before .before .before .before .args .input) in
-    let g = c .before .good-run in
-    omega (arith, run-le (length s / 8) s)
+mul-t13 : tie.Need-mul-t13
+mul-t13 c =
+    let s = now (c .before .before .before .before .before .before .args .input) in
+    omega (arith, run-whole judged (now (c .before .before .before .before .before .before .args .input)) (c .before .before .take-good .ensures .0 .0) (search needs), run-le judged (length s / 8) s)
+
+add-t14 : tie.Need-add-t14
+add-t14 c =
+    let s = now (c .before .before .before .before .before .before .args .input) in
+    omega (arith, run-whole judged (now (c .before .before .before .before .before .before .args .input)) (c .before .before .take-good .ensures .0 .0) (search needs), run-le judged (length s / 8) s)
 
 returns : tie.Need-returns
 returns c =
-    let a = c .before .before .before .before .args in
-    let g = c .before .good-run in
-    told (after-end (a .offset) (now (a .input)) (length (now (a .out))) (g .result) (g .ensures) (search needs)) (now (a .out))
+    let a = c .before .before .before .before .before .before .args in
+    let g = run-whole judged (now (c .before .before .before .before .before .before .args .input)) (c .before .before .take-good .ensures .0 .0) (search needs) in
+    told (after-end judged (a .offset) (now (a .input)) (length (now (a .out))) (c .before .before .take-good .result .blocks) g (search needs)) (now (a .out))
 
 returns-2 : tie.Need-returns-2
 returns-2 c =
-    let a = c .before .before .before .before .before .args in
-    let g = c .before .before .good-run in
-    told (after-none (a .offset) (now (a .input)) (length (now (a .out))) (g .result) (g .ensures) (search needs) (search needs)) (now (a .out))
+    let a = c .before .before .before .before .before .before .before .args in
+    let g = run-whole judged (now (c .before .before .before .before .before .before .before .args .input)) (c .before .before .before .take-good .ensures .0 .0) (search needs) in
+    told (after-none judged (a .offset) (now (a .input)) (length (now (a .out))) (c .before .before .before .take-good .result .blocks) g (search needs) (search needs)) (now (a .out))
 
 mul-if3 : tie.Need-mul-if3
 mul-if3 c = search needs
 
 returns-3 : tie.Need-returns-3
 returns-3 c =
-    let a = c .before .before .before .before .before .before .args in
-    let g = c .before .before .before .good-run in
-    told (after-room (a .offset) (now (a .input)) (length (now (a .out))) (g .result) (g .ensures) (search needs) (search needs) (search needs)) (now (a .out))
+    let a = c .before .before .before .before .before .before .before .before .args in
+    let g = run-whole judged (now (c .before .before .before .before .before .before .before .before .args .input)) (c .before .before .before .before .take-good .ensures .0 .0) (search needs) in
+    told (after-room judged (a .offset) (now (a .input)) (length (now (a .out))) (c .before .before .before .before .take-good .result .blocks) g (search needs) (search needs) (search needs)) (now (a .out))
 
-slice-aggregate-sequence : tie.Need-slice-aggregate-sequence
-slice-aggregate-sequence c = search needs
+mul-count : tie.Need-mul-count
+mul-count c = search needs
 
-sequence-requires : tie.Need-sequence-requires
-sequence-requires c κs = search needs
+sub-unpack : tie.Need-sub-unpack
+sub-unpack c = search needs
 
-slice-aggregate-unpack : tie.Need-slice-aggregate-unpack
-slice-aggregate-unpack c = search needs
+part-unpack-start : tie.Need-part-unpack-start
+part-unpack-start c = search needs
+
+part-unpack-end : tie.Need-part-unpack-end
+part-unpack-end c = search needs
 
 unpack-requires : tie.Need-unpack-requires
 unpack-requires c κs = search needs
 
-mul-t6 : tie.Need-mul-t6
-mul-t6 c = search needs
+mul-t11 : tie.Need-mul-t11
+mul-t11 c = search needs
 
-mul-t7 : tie.Need-mul-t7
-mul-t7 c = search needs
-
-add-t18 : tie.Need-add-t18
-add-t18 c = search needs
+add-t10 : tie.Need-add-t10
+add-t10 c = search needs
 
 same-length : tie.Need-same-length
 same-length c = search needs
@@ -76,29 +84,38 @@ same-length c = search needs
 returns-4 : tie.Need-returns-4
 returns-4 c =
     let a = c .before .before .before .before .before .before .before .before .before .before .before .before .before .before .args in
-    let g = c .before .before .before .before .before .before .before .before .before .before .before .good-run in
+    let t = c .before .before .before .before .before .before .before .before .before .before .take-good in
     let s = now (a .input) in
-    let t = told (after-done (a .offset) s (length (now (a .out))) (g .result) (g .ensures) (search needs) (search needs) (search needs)) (now (a .out)) in
-    let z = length-out s (g .result) (omega arith) in
-    (ap (λ (n : ℕ). readAnswer (Done n (a .offset + 8 * g .result) 0)) (sym z) ∙ t .0, c .before .before .unpack .ensures ∙ t .1)
+    let n = t .result .blocks in
+    let g : n ≡ goodRun judged (length s / 8) s = run-whole judged (now (c .before .before .before .before .before .before .before .before .before .before .before .before .before .before .args .input)) (c .before .before .before .before .before .before .before .before .before .before .take-good .ensures .0 .0) (search needs) in
+    let o = told (after-done judged (a .offset) s (length (now (a .out))) n g (search needs) (search needs) (search needs)) (now (a .out)) in
+    let i = length-information-in judged good-seven (length s / 8) n s (omega (arith, g)) in
+    let z : length (randomized 0 (informationIn judged n s)) ≡ 7 * n = length-randomized 0 (informationIn judged n s) ∙ i in (
+      ap₂ (λ (k j : ℕ). readAnswer (Done k (a .offset + 8 * n) j)) (sym z) (t .ensures .0 .1) ∙ o .0,
+      c .before .before .unpack .ensures
+          ∙ ap (λ (l : List ℕ). placed (now (a .out)) 0 (randomized 0 l)) (part-front (informationIn judged n s) _ _ (7 * n) (t .ensures .1) (sym i))
+          ∙ placed-front (now (a .out)) (randomized 0 (informationIn judged n s)) (omega (arith, z))
+          ∙ o .1,
+    )
 
 pub read-after-spec : {M : Type 1} → statement M
 read-after-spec =
     tie.close
     (tie.spec
-    good-run-requires
-    mul-t9
-    add-t10
+    slice-aggregate-take-good
+    take-good-requires
+    mul-t13
+    add-t14
     returns
     returns-2
     mul-if3
     returns-3
-    slice-aggregate-sequence
-    sequence-requires
-    slice-aggregate-unpack
+    mul-count
+    sub-unpack
+    part-unpack-start
+    part-unpack-end
     unpack-requires
-    mul-t6
-    mul-t7
-    add-t18
+    mul-t11
+    add-t10
     same-length
     returns-4)

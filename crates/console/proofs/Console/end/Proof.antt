@@ -4,8 +4,8 @@ use mathlib.Core.Path.{_≡_, sym, ap, _∙_}
 use native.Mathlib.Omega.{arith}
 use lib.ListN.{length, length-take}
 use lib.Seq.{take-all}
-use Rattle.console.specs.Line.{lineOf}
-use Rattle.console.specs.Console.{turnOf}
+use Rattle.program_lines.specs.Line.{lineOf}
+use Rattle.program_turns.specs.Turns.{turnOf}
 use Rattle.console.specs.Feed.{endOf}
 use Rattle.console.proofs.Console.end.Statement.{statement}
 use Rattle.console.proofs.Console.end.Tie as tie

@@ -8,7 +8,7 @@ use lib.ListN.{length}
 use Rattle.base.specs.Outcome.{Answer}
 use Rattle.base.proofs.Tests.{told}
 use Rattle.console.specs.Feed.{progressOf, chunkText}
-use Rattle.console.proofs.Placing.{placed-front}
+use Rattle.program_rows.proofs.Placing.{placed-front}
 use Rattle.console.proofs.Feeding.{fed-done, fed-next, fed-short, fed-same}
 use Rattle.console.proofs.Console.feed.Statement.{statement}
 use Rattle.console.proofs.Console.feed.Tie as tie

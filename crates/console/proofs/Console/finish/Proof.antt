@@ -10,8 +10,8 @@ use Rattle.base.specs.Outcome.{answer, after}
 use Rattle.base.proofs.Tests.{told}
 use Rattle.text.specs.Answers.{written}
 use Rattle.text.proofs.Outcomes.{written-done}
-use Rattle.console.specs.declared.Turn.{Turn}
-use Rattle.console.specs.Console.{textOf}
+use Rattle.program_turns.specs.declared.Turn.{Turn}
+use Rattle.program_rows.specs.Rows.{textOf}
 use Rattle.console.specs.Feed.{progressOf, lastText}
 use Rattle.console.proofs.Feeding.{last-none, last-some}
 use Rattle.console.proofs.Console.finish.Statement.{statement}

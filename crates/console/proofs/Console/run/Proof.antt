@@ -5,7 +5,8 @@ use native.Mathlib.Omega.{arith}
 use denote.Ref.{now}
 use lib.ListN.{length, take}
 use lib.Seq.{length-take-le}
-use Rattle.console.specs.Feed.{progressOf, rowRoom}
+use Rattle.program_rows.specs.Rows.{rowRoom}
+use Rattle.console.specs.Feed.{progressOf}
 use Rattle.console.specs.Steps.{Ran}
 use Rattle.console.proofs.Feeding.{run-start, run-on, run-end}
 use Rattle.console.proofs.Console.run.Statement.{statement}

@@ -1,8 +1,8 @@
 -- Each number's branch is its action; the last number is what the range leaves.
 use mathlib.Core.Path.{_≡_}
 use borrow.Author.Needs.{needs}
-use Rattle.fop_rows.specs.Rows.{done}
-use Rattle.fop_rows.specs.Numbers.{actionOf}
+use Rattle.sender_table.specs.Rows.{done}
+use Rattle.sender_table.specs.Numbers.{actionOf}
 use Rattle.fop_rows.proofs.Numbered.{numbered, last-alert}
 use Rattle.fop_rows.proofs.actions.alerting.Statement.{statement}
 use Rattle.fop_rows.proofs.actions.alerting.Tie as tie

@@ -1,6 +1,5 @@
 -- The request is refused by its number, or taken by its row.
 use borrow.Author.Needs.{needs}
-use native.Mathlib.Omega.{arith}
 use Rattle.sender.specs.Events.{requestAdOf}
 use Rattle.sender.proofs.Judged.{request-refused, request-taken, ad-row, adStep}
 use Rattle.sender.proofs.Sender.request_ad.Statement.{statement}
@@ -30,14 +29,13 @@ ad-event-requires c κs = search needs
 begin-requires : tie.Need-begin-requires
 begin-requires c κs = search needs
 
-cast-row : tie.Need-cast-row
-cast-row c = omega (arith, c .before .before .before .request-refusal .ensures .1 (c .before .before .if1 .left))
-
 row-requires : tie.Need-row-requires
 row-requires c κs = search needs
 
 offer-work-requires : tie.Need-offer-work-requires
-offer-work-requires c κs = search needs
+offer-work-requires c κs =
+    let e = c .before .before .before .before .before in
+    e .before .request-refusal .ensures .1 (e .if1 .left)
 
 same-length-2 : tie.Need-same-length-2
 same-length-2 c = search needs
@@ -69,7 +67,6 @@ request-ad-spec =
     returns
     ad-event-requires
     begin-requires
-    cast-row
     row-requires
     offer-work-requires
     same-length-2

@@ -1,7 +1,7 @@
 -- The state is judged, then taken as it stands.
 use borrow.Author.Needs.{needs}
 use borrow.Author.Tests.{not-true, not-false}
-use Rattle.sender.proofs.Kept.{restored, restored-not}
+use Rattle.sender.proofs.Starts.{restored, restored-not}
 use Rattle.sender.proofs.Sender.restore.Statement.{statement}
 use Rattle.sender.proofs.Sender.restore.Tie as tie
 

@@ -1,7 +1,7 @@
 -- The test of the number picks the responses.
 use borrow.Author.Needs.{needs}
 use Rattle.base.proofs.Tests.{tests}
-use Rattle.fop_actions.specs.Actions.{responsesWith}
+use Rattle.sender_values.specs.Actions.{responsesWith}
 use Rattle.sender.proofs.answers.refused_responses.Statement.{statement}
 use Rattle.sender.proofs.answers.refused_responses.Tie as tie
 

@@ -7,7 +7,7 @@ use native.Mathlib.Omega.{arith}
 use denote.Ref.{now}
 use lib.ListN.{length, take, drop, replicate, length-set}
 use Rattle.base.proofs.Lists.{store-by}
-use Rattle.fop_actions.specs.Limits.{places}
+use Rattle.store.specs.Places.{places}
 use Rattle.sender_octets.specs.Kept.{numberOctets, pairsFrom}
 use Rattle.sender_octets.proofs.Pairs.{length-from, from-at, filled}
 use Rattle.sender_octets.proofs.reader.lengths_in.Statement.{statement}

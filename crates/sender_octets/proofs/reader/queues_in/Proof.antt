@@ -1,4 +1,4 @@
--- Each number is read at its place, two flags by their bits, and the lengths behind the numbers.
+-- Each number is read at its place, and two flags by their bits.
 use borrow.Author.Needs.{needs}
 use denote.Ref.{now}
 use Rattle.sender_octets.proofs.Parts.{queues-by}
@@ -23,23 +23,19 @@ shared-slice-read-control-numbered-2 c = search needs
 control-numbered-requires : tie.Need-control-numbered-requires
 control-numbered-requires c κs = search needs
 
-lengths-in-requires : tie.Need-lengths-in-requires
-lengths-in-requires c κs = search needs
+shared-slice-read-t7 : tie.Need-shared-slice-read-t7
+shared-slice-read-t7 c = search needs
 
-shared-slice-read-t8 : tie.Need-shared-slice-read-t8
-shared-slice-read-t8 c = search needs
-
-shared-slice-read-t11 : tie.Need-shared-slice-read-t11
-shared-slice-read-t11 c = search needs
+shared-slice-read-t10 : tie.Need-shared-slice-read-t10
+shared-slice-read-t10 c = search needs
 
 returns : tie.Need-returns
 returns c =
-    let l = c .before .before in
-    let n = l .before in
+    let n = c .before .before in
     let m = n .before .before .before in
     let w = m .before in
     let a = w .before .before .before .args in
-    queues-by (now (a .octets)) (w .is-set .ensures) (n .control-numbered .ensures) (m .is-set2 .ensures) (l .lengths-in .ensures)
+    queues-by (now (a .octets)) (w .is-set .ensures) (n .control-numbered .ensures) (m .is-set2 .ensures)
 
 pub queues-in-spec : {M : Type 1} → statement M
 queues-in-spec =
@@ -51,7 +47,6 @@ queues-in-spec =
     shared-slice-read-control-numbered
     shared-slice-read-control-numbered-2
     control-numbered-requires
-    lengths-in-requires
-    shared-slice-read-t8
-    shared-slice-read-t11
+    shared-slice-read-t7
+    shared-slice-read-t10
     returns)

@@ -20,13 +20,17 @@ variables-in-requires c κs = search needs
 queues-in-requires : tie.Need-queues-in-requires
 queues-in-requires c κs = search needs
 
+lengths-in-requires : tie.Need-lengths-in-requires
+lengths-in-requires c κs = search needs
+
 returns : tie.Need-returns
 returns c =
-    let v = c .before in
+    let q = c .before in
+    let v = q .before in
     let g = v .before in
     let s = g .before in
     let a = s .before .before .before .args in
-    state-by (now (a .octets)) (s .state-numbered .ensures) (g .settings-in .ensures) (v .variables-in .ensures) (c .queues-in .ensures)
+    state-by (now (a .octets)) (s .state-numbered .ensures) (g .settings-in .ensures) (v .variables-in .ensures) (q .queues-in .ensures) (c .lengths-in .ensures)
 
 pub state-in-spec : {M : Type 1} → statement M
 state-in-spec =
@@ -37,4 +41,5 @@ state-in-spec =
     settings-in-requires
     variables-in-requires
     queues-in-requires
+    lengths-in-requires
     returns)

@@ -8,7 +8,7 @@ use mir.Syntax.{w8, w16}
 use borrow.Kind.Array.{eInt, good-length}
 use lib.ListN.{length, take, drop, replicate, length-set}
 use Rattle.base.proofs.Lists.{store-by}
-use Rattle.fop_actions.specs.Limits.{places}
+use Rattle.store.specs.Places.{places}
 use Rattle.sender_octets.specs.Kept.{numberOctets, stateOctets, pairs}
 use Rattle.sender_octets.proofs.Pairs.{length-joined, filled}
 use Rattle.sender_octets.proofs.writer.join.Statement.{statement}

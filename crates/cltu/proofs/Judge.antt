@@ -1,0 +1,29 @@
+-- What the reader's laws ask of a judge of codeblocks, whichever it is, and that the judge that only detects has it.
+use mathlib.Core.Path.{_≡_, refl, ap₂}
+use mathlib.Core.Bool.{true}
+use mathlib.Core.List.{List}
+use Prim.Native.Nat.{ℕ, zero, suc, _+_}
+use lib.ListN.{length, take, drop}
+use Rattle.base.specs.Register.{shiftBit, shiftBits, register}
+use Rattle.codeblock.specs.Codeblock.{parity, errorControl, codeblockOf, good, bad, judged, isGood}
+use Rattle.codeblock.specs.declared.Judged.{Judged}
+use Rattle.codeblock.proofs.Codeblock.{judged-codeblock, good-seven, corrects-none}
+use Rattle.encoded_data.specs.EncodedData.{correctedIn}
+use Rattle.cltu.specs.Cltu.{tailSequence}
+
+-- an encoding is good with nothing corrected, the tail sequence is bad, and what is good has seven octets of information
+pub record Judge (judge : List ℕ → Judged) : Type 0 where
+  pub encoding : (information : List ℕ) → length information ≡ 7 → judge (codeblockOf information) ≡ good information 0
+  pub tail : judge tailSequence ≡ bad
+  pub seven : (block : List ℕ) → isGood (judge block) ≡ true → length (judge block .information) ≡ 7
+
+-- the judge that only detects
+pub detects : Judge judged
+unfolding judged codeblockOf errorControl parity register shiftBits shiftBit
+detects = record { encoding = judged-codeblock; tail = refl; seven = good-seven }
+
+-- it corrects nothing
+pub corrected-none : (n : ℕ) (s : List ℕ) → correctedIn judged n s ≡ 0
+unfolding correctedIn
+corrected-none zero s = refl
+corrected-none (suc n) s = ap₂ _+_ (corrects-none (take 8 s)) (corrected-none n (drop 8 s))

@@ -1,5 +1,0 @@
-pub mod Limits
-pub mod Parts
-pub mod Actions
-pub mod Start
-pub mod View

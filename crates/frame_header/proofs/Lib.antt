@@ -1,0 +1,4 @@
+pub mod Octets
+pub mod Packed
+pub mod Laws
+pub mod Examples

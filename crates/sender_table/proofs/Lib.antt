@@ -1,0 +1,4 @@
+pub mod Once
+pub mod Places
+pub mod Cells
+pub mod Words

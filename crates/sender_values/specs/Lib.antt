@@ -1,0 +1,4 @@
+pub mod Limits
+pub mod Parts
+pub mod Actions
+pub mod Start

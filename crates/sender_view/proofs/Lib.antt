@@ -1,0 +1,12 @@
+pub mod Offsets
+pub mod SentQueue
+pub mod Acknowledged
+pub mod ViewValues
+pub mod ViewAnswers
+pub mod ViewTransmit
+pub mod ViewRelease
+pub mod ViewRemoval
+pub mod ViewRuns
+pub mod ViewWaiting
+pub mod Kept
+pub mod ViewStart
