@@ -21,6 +21,6 @@ pub fn main() {
     println!("cargo:rerun-if-env-changed=PONDRESZI_LIB");
     println!(
         "cargo:rerun-if-changed={}",
-        folder.join("libboundary.a").display()
+        folder.join("libpondreszi.a").display()
     );
 }

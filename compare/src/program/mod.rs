@@ -33,8 +33,8 @@ E5 S3 251 100 1
 ";
 
 /// The input that is stored with the program, and its output: --independent wrote it.
-const STORED: &[u8] = include_bytes!("../../../crates/farm1/stdin");
-const STORED_OUTPUT: &[u8] = include_bytes!("../../../crates/farm1/stdout");
+const STORED: &[u8] = include_bytes!("../../../crates/program/stdin");
+const STORED_OUTPUT: &[u8] = include_bytes!("../../../crates/program/stdout");
 
 /// So many runs where the command line says no number.
 const RUNS: u64 = 400;

@@ -61,11 +61,11 @@ pub struct Ended {
     pub time: Duration,
 }
 
-/// The program that PONDRESZI_FARM1 names, otherwise ../target/bin/farm1.
+/// The program that PONDRESZI_PROGRAM names, otherwise ../target/bin/program.
 pub fn path() -> PathBuf {
-    match std::env::var_os("PONDRESZI_FARM1") {
+    match std::env::var_os("PONDRESZI_PROGRAM") {
         Some(path) if !path.is_empty() => PathBuf::from(path),
-        _ => Path::new(env!("CARGO_MANIFEST_DIR")).join("../target/bin/farm1"),
+        _ => Path::new(env!("CARGO_MANIFEST_DIR")).join("../target/bin/program"),
     }
 }
 

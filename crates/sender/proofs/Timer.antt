@@ -6,7 +6,7 @@ use borrow.Author.Tests.{eq-eqb, ne-eqb}
 use Rattle.base.proofs.Tests.{yes, no}
 use Rattle.sender_values.specs.declared.SenderState.{SenderState}
 use Rattle.sender_values.specs.Parts.{clocked}
-use Rattle.fop_events.specs.Events.{expiryNumber}
+use Rattle.sender_events.specs.Events.{expiryNumber}
 use Rattle.sender.specs.Events.{ticked, tickNumber}
 
 module _ (s : SenderState) where

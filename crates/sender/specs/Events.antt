@@ -1,5 +1,5 @@
--- The events of the sender: "Sender events are judged 10, 12, 7, 11, then by the table." The rows are crate fop_rows' (table 7-8), which row
--- it is crate fop_events', and the frame handed down crate sender_frames'.
+-- The events of the sender: "Sender events are judged 10, 12, 7, 11, then by the table." The rows are crate sender_rows' (table 7-8), which row
+-- it is crate sender_events', and the frame handed down crate sender_frames'.
 use Prim.Native.Nat.{ℕ, _-_}
 use mathlib.Core.Bool.{Bool}
 use mathlib.Core.List.{List}
@@ -18,7 +18,7 @@ use Rattle.sender_values.specs.Actions.{unitsHeld}
 use Rattle.sender_values.specs.Start.{begun}
 use Rattle.sender_table.specs.Rows.{rowNumbered, inMain}
 use Rattle.fop.specs.declared.Lower.{Lower}
-use Rattle.fop_events.specs.Events.{wordNumber, directiveNumber, expiryNumber, adNumber, bdNumber, lowerNumber}
+use Rattle.sender_events.specs.Events.{wordNumber, directiveNumber, expiryNumber, adNumber, bdNumber, lowerNumber}
 use Rattle.sender_frames.specs.Limits.{smallestStore}
 use Rattle.sender_frames.specs.Frames.{handedWriting, unitBefore, unitOffered, mustBeUnit}
 use Rattle.sender.specs.declared.Event.{Event}

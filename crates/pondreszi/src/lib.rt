@@ -1,0 +1,68 @@
+// What C and Rust call: numbers, and octets as a pointer and a length. Each function passes its arguments on and puts the answer into numbers
+// (crates pondreszi_numbers, pondreszi_receiver and pondreszi_sender). Only this crate's functions are exported. This file: channel coding (clause
+// 8); the modules: frames and control words (clause 6), receiver and sender (clause 7).
+pub mod frames;
+pub mod receivers;
+pub mod senders;
+pub mod words;
+
+use pondreszi_numbers::coding::told_reading;
+use pondreszi_numbers::coding::told_written;
+use pondreszi_numbers::flag;
+ghost use mathlib.Core.Path.{_≡_};
+ghost use lib.ListN.{length};
+ghost use Rattle.base.specs.Outcome.{answer, after, numberOf, countOf};
+ghost use Rattle.base.specs.Flags.{bitOf};
+ghost use Rattle.codeblock.specs.Codeblock.{errorControl, judged, isGood};
+ghost use Rattle.randomizer.specs.Randomizer.{octet};
+ghost use Rattle.cltu.specs.Cltu.{writing, reading};
+ghost use Rattle.pondreszi_numbers.specs.Numbers.{placeOf, correctedOf};
+
+#[no_mangle]
+pub extern "C" fn pondreszi_codeblock_error_control(information: &[u8]) -> u8
+    ensures { λ r. ⌜ r ≡ errorControl (now (information .entry)) ⌝ }
+{
+    codeblock::error_control(information)
+}
+
+#[no_mangle]
+pub extern "C" fn pondreszi_codeblock_is_good(block: &[u8]) -> u8
+    ensures { λ r. ⌜ r ≡ bitOf (isGood (judged (now (block .entry)))) ⌝ }
+{
+    flag(codeblock::is_good(block))
+}
+
+#[no_mangle]
+pub extern "C" fn pondreszi_randomizer_octet(place: u64) -> u8
+    ensures { λ r. ⌜ r ≡ octet place ⌝ }
+{
+    randomizer::octet_at(place)
+}
+
+#[no_mangle]
+pub extern "C" fn pondreszi_cltu_write(frame: &[u8], output: &mut [u8], count: &mut u64) -> u8
+    ensures number { λ r. ⌜ r ≡ numberOf (answer (writing (now (frame .entry)) (length (now (output .entry))))) ⌝ }
+    ensures memory { λ r. ⌜ now (output .exit) ≡ after (writing (now (frame .entry)) (length (now (output .entry)))) (now (output .entry)) ⌝ }
+    ensures told { λ r. ⌜ now (count .exit) ≡ countOf (answer (writing (now (frame .entry)) (length (now (output .entry))))) ⌝ }
+{
+    let written = cltu::writer::write(frame, output);
+    told_written(written, count)
+}
+
+#[no_mangle]
+pub extern "C" fn pondreszi_cltu_read(
+    input: &[u8],
+    output: &mut [u8],
+    count: &mut u64,
+    place: &mut u64,
+    corrected: &mut u64,
+) -> u8
+    ensures number { λ r. ⌜ r ≡ numberOf (answer (reading (now (input .entry)) (length (now (output .entry))))) ⌝ }
+    ensures memory { λ r. ⌜ now (output .exit) ≡ after (reading (now (input .entry)) (length (now (output .entry)))) (now (output .entry)) ⌝ }
+    ensures counted { λ r. ⌜ now (count .exit) ≡ countOf (answer (reading (now (input .entry)) (length (now (output .entry))))) ⌝ }
+    ensures placed { λ r. ⌜ now (place .exit) ≡ placeOf (answer (reading (now (input .entry)) (length (now (output .entry))))) ⌝ }
+    ensures mended { λ r. ⌜ now (corrected .exit) ≡ correctedOf (answer (reading (now (input .entry)) (length (now (output .entry))))) ⌝ }
+{
+    let reading = cltu::reader::read(input, output);
+    told_reading(reading, count, place, corrected)
+}
