@@ -1,4 +1,4 @@
-//! Finds the static library `boundary` as the Rust crate does.
+//! Finds the static library `pondreszi` as the Rust crate does.
 
 #[path = "../bindings/rust/build.rs"]
 mod found;

@@ -1,4 +1,4 @@
-//! Says where the static library `boundary` is found: in the folder that PONDRESZI_LIB
+//! Says where the static library `pondreszi` is found: in the folder that PONDRESZI_LIB
 //! names, otherwise in target/staticlib of the repository. That it is linked, and
 //! statically, is said in src/library.rs.
 

@@ -14,7 +14,7 @@ pub type SenderEventWithOctets = unsafe extern "C" fn(
     answer_len: usize,
 ) -> u8;
 
-#[link(name = "boundary", kind = "static")]
+#[link(name = "pondreszi", kind = "static")]
 extern "C" {
     pub fn pondreszi_codeblock_error_control(information: *const u8, information_len: usize) -> u8;
     pub fn pondreszi_codeblock_is_good(block: *const u8, block_len: usize) -> u8;

@@ -84,7 +84,7 @@ impl Met {
     /// How often each event met each state, and what else was met.
     pub fn report(&self) {
         for event in EVENTS {
-            print!("farm1 {event:?}:");
+            print!("program {event:?}:");
             for before in STATES {
                 for after in STATES {
                     let times = self.times(event, before, after);
@@ -95,12 +95,12 @@ impl Met {
             }
             println!();
         }
-        print!("farm1 refused:");
+        print!("program refused:");
         for cause in CAUSES {
             print!(" {cause:?} {};", self.causes[place_of(cause)]);
         }
         println!();
-        print!("farm1 runs by buffers:");
+        print!("program runs by buffers:");
         for times in &self.buffers[1..] {
             print!(" {times}");
         }
@@ -138,7 +138,7 @@ impl Met {
         }
         let possible_distances = 127 * STATES.len() * 256;
         println!(
-            "farm1 met: {} of {} cells of table 7-9; {steps_met} of {possible_steps} with flags \
+            "program met: {} of {} cells of table 7-9; {steps_met} of {possible_steps} with flags \
              and window; {} of {possible_distances} distances with state and window",
             cells_met.len(),
             cells.len(),

@@ -233,12 +233,12 @@ fn report(kinds: &[Kind], met: &Met) -> ExitCode {
     let mut differences = 0;
     for kind in kinds {
         for shown in &kind.tally.shown {
-            print!("difference: farm1 {}\n{shown}", kind.name);
+            print!("difference: program {}\n{shown}", kind.name);
         }
     }
     for kind in kinds {
         println!(
-            "farm1 {}: {} runs, {} lines, {} differences",
+            "program {}: {} runs, {} lines, {} differences",
             kind.name, kind.tally.inputs, kind.lines, kind.tally.differences
         );
         runs += kind.tally.inputs;
@@ -268,7 +268,7 @@ fn compare_one_run(task: &Task, lines: usize) -> io::Result<ExitCode> {
     let mut kind = Kind::new("one run");
     let program = compare_run(&run, &mut kind, &mut Met::new(), task)?;
     for shown in &kind.tally.shown {
-        print!("difference: farm1 {}\n{shown}", kind.name);
+        print!("difference: program {}\n{shown}", kind.name);
     }
     let seconds = program.time.as_secs_f64();
     println!(
