@@ -1,4 +1,4 @@
--- The event that the table's conditions pick meets what its row depends on (crate sender_rows_view, specs/Rows): most rows depend on nothing; for
+-- The event that the table's conditions pick meets what its row depends on (crate sender_rows_view, proofs/Rows): most rows depend on nothing; for
 -- the others the condition of the event's own line says it, with the limits of the directive's value and, for a control word, with N(R)
 -- from NN(R) to V(S), since otherwise the event is E13. A valid directive is never E40, an invalid one always.
 use Prim.Native.Nat.{ℕ, _≤_, _<_}
@@ -18,7 +18,7 @@ use Rattle.fop.specs.Events.{Line, when, first, seen, wordLines, wordEvent, exp
 use Rattle.sender_values.specs.declared.SenderState.{SenderState}
 use Rattle.sender_values.specs.Start.{begun}
 use Rattle.sender_events.specs.Events.{eventNumber, variablesOf}
-use Rattle.sender_rows_view.specs.Rows.{acknowledging, Needed, Meets}
+use Rattle.sender_rows_view.proofs.Rows.{acknowledging, Needed, Meets}
 use Rattle.session.proofs.Choices.{by-pick, and-l, and-r, upto, _also_}
 use Rattle.session.proofs.Test.{first-all}
 

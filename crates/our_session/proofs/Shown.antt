@@ -1,4 +1,4 @@
--- An event whose row shows the machine's work (crate sender_rows_view, specs/Rows) agrees with it, by the unit that is written: the one that the
+-- An event whose row shows the machine's work (crate sender_rows_view, proofs/Rows) agrees with it, by the unit that is written: the one that the
 -- machine hands down.
 use Prim.Native.Nat.{ℕ, _≤_, _<_}
 use mathlib.Core.Path.{_≡_, sym, ap, subst, _∙_}
@@ -25,8 +25,8 @@ use Rattle.sender_view.specs.View.{fopOf, framesOf}
 use Rattle.sender_values.specs.Actions.{unitsHeld}
 use Rattle.store.specs.Places.{unitAt}
 use Rattle.sender_events.specs.Events.{eventNumber}
-use Rattle.sender_rows_view.specs.State.{Good}
-use Rattle.sender_rows_view.specs.Rows.{Shows}
+use Rattle.sender_rows_view.proofs.State.{Good}
+use Rattle.sender_rows_view.proofs.Rows.{Shows}
 use Rattle.sender.specs.Answers.{stepBy}
 use Rattle.sender_frames.specs.Frames.{handedWriting}
 use Rattle.our_session.specs.Ours.{lentOutput}

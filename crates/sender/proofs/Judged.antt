@@ -4,7 +4,7 @@ use mathlib.Core.Bool.{Bool, true, false}
 use mathlib.Core.List.{List}
 use Prim.Native.Nat.{ℕ, _<_, _≤_}
 use native.Mathlib.Omega.{arith}
-use borrow.Author.Tests.{le-leb, lt-leb, eq-eqb, ne-eqb}
+use borrow.Author.Tests.{eq-eqb, ne-eqb}
 use lib.ListN.{length}
 use lib.Dec.{leb}
 use Rattle.base.specs.Choice.{pick, must, both}
@@ -25,7 +25,7 @@ use Rattle.sender_values.specs.Start.{begun}
 use Rattle.sender_table.specs.Rows.{rowNumbered, inMain}
 use Rattle.fop.specs.declared.Lower.{Lower}
 use Rattle.sender_events.specs.Events.{wordNumber, directiveNumber, lowerNumber, adNumber, bdNumber}
-use Rattle.sender_frames.specs.Limits.{smallestStore}
+use Rattle.sender_frames.specs.Limits.{needOf}
 use Rattle.sender_frames.specs.Frames.{requestRefusal, unitBefore, mustBeUnit, unitOffered}
 use Rattle.sender_frames.proofs.Written.{Writes}
 use Rattle.sender.specs.declared.Answer.{Answer}
@@ -52,16 +52,16 @@ module _ (event : ℕ) (s : SenderState) (w : Work) (store output : List ℕ) (x
 
 -- by the event's row
 module _ (event n : ℕ) (s g : SenderState) (store output : List ℕ) {a : Answer} where
-  pub served-short : length store < smallestStore → a ≡ refusing 11 s → Meets a store output (served event n s g store output)
+  pub served-short : {t : Bool} → t ≡ leb (needOf s) (length store) → t ≡ false → a ≡ refusing 11 s → Meets a store output (served event n s g store output)
   unfolding served
-  served-short h e = refuses 11 s (fails _ _ _ (lt-leb smallestStore (length store) h)) e
+  served-short h t e = refuses 11 s (fails _ _ _ (sym h ∙ t)) e
 
-  pub served-row : {new out : List ℕ} {b w : Work} → smallestStore ≤ length store → b ≡ begun g → w ≡ rowNumbered event n b
+  pub served-row : {t : Bool} {new out : List ℕ} {b w : Work} → t ≡ leb (needOf s) (length store) → t ≡ true → b ≡ begun g → w ≡ rowNumbered event n b
       → Meets a new out (servedBy event s w store output) → Meets a new out (served event n s g store output)
   unfolding served
-  served-row h p q m =
+  served-row h t p q m =
       same-step
-      (holds _ _ _ (le-leb smallestStore (length store) h) ∙ ap (λ (v : Work). servedBy event s v store output) (sym (q ∙ ap (rowNumbered event n) p)))
+      (holds _ _ _ (sym h ∙ t) ∙ ap (λ (v : Work). servedBy event s v store output) (sym (q ∙ ap (rowNumbered event n) p)))
       m
 
 -- a directive
@@ -104,18 +104,18 @@ Request = SenderState → List ℕ → List ℕ → List ℕ → Step
 
 abbrev requestOf : Request → Request
 requestOf t s o store output =
-    mustBeUnit o (refusedStep 10 s store output) (must (leb smallestStore (length store)) (refusedStep 11 s store output) (t s o store output))
+    mustBeUnit o (refusedStep 10 s store output) (must (leb (needOf s) (length store)) (refusedStep 11 s store output) (t s o store output))
 
-module _ (t : Request) (s : SenderState) (o store output : List ℕ) {n : ℕ} (judged : n ≡ requestRefusal o store) where
+module _ (t : Request) (s : SenderState) (o store output : List ℕ) {n : ℕ} (judged : n ≡ requestRefusal s o store) where
   abbrev refusal : ℕ → Step
   refusal k = refusedStep k s store output
 
-  checked : Told refusal (t s o store output) n (requestRefusal o store) (requestOf t s o store output)
+  checked : Told refusal (t s o store output) n (requestRefusal s o store) (requestOf t s o store output)
   checked =
       let on = t s o store output in
       check refusal on n (leb 1 (length o)) 10 (λ z. omega arith)
       (check refusal on n (leb (length o) largestUnit) 10 (λ z. omega arith)
-      (check refusal on n (leb smallestStore (length store)) 11 (λ z. omega arith) (no-check refusal on n)))
+      (check refusal on n (leb (needOf s) (length store)) 11 (λ z. omega arith) (no-check refusal on n)))
 
   pub request-refused : {a : Answer} → (n ≡ 0 → ⊥) → a ≡ refusing n s → Meets a store output (requestOf t s o store output)
   request-refused h e = refuses n s (checked .0 judged h) e

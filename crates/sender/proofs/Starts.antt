@@ -2,12 +2,12 @@
 use mathlib.Core.Path.{_≡_, sym, ap, _∙_}
 use mathlib.Core.Bool.{Bool, true, false}
 use Prim.Native.Nat.{ℕ, _≤_, _<_}
-use borrow.Author.Tests.{le-leb, lt-leb}
+use lib.Dec.{leb}
 use Rattle.base.proofs.Tests.{yes, no}
 use Rattle.sender_values.specs.declared.Settings.{Settings}
 use Rattle.sender_values.specs.declared.SenderState.{SenderState}
 use Rattle.sender_values.specs.Start.{startOf}
-use Rattle.sender_frames.specs.Limits.{smallestStore}
+use Rattle.store.specs.Places.{storeNeed}
 use Rattle.sender_state.specs.State.{settingsHold, wellFormed}
 use Rattle.sender.specs.declared.Start.{Start}
 use Rattle.sender.specs.Start.{refusedStart, startingOf, restoredOf}
@@ -18,16 +18,17 @@ module _ (g : Settings) (vs nnr lent : ℕ) (within : Bool) (of-settings : withi
   unfolding startingOf
   start-setting r f e = e ∙ sym (fails _ _ _ (sym of-settings ∙ f))
 
-  pub start-store : (r : Start) → within ≡ true → lent < smallestStore → r ≡ refusedStart 11 → r ≡ startingOf g vs nnr lent
+  pub start-store : (r : Start) {t : Bool} → within ≡ true → t ≡ leb (storeNeed (g .k) 0) lent → t ≡ false → r ≡ refusedStart 11
+      → r ≡ startingOf g vs nnr lent
   unfolding startingOf
-  start-store r f h e = e ∙ sym (holds _ _ _ (sym of-settings ∙ f) ∙ fails _ _ _ (lt-leb smallestStore lent h))
+  start-store r f h t e = e ∙ sym (holds _ _ _ (sym of-settings ∙ f) ∙ fails _ _ _ (sym h ∙ t))
 
-  pub start-done : (s : SenderState) → within ≡ true → smallestStore ≤ lent → s ≡ startOf g vs nnr
+  pub start-done : (s : SenderState) {t : Bool} → within ≡ true → t ≡ leb (storeNeed (g .k) 0) lent → t ≡ true → s ≡ startOf g vs nnr
       → record { refusal = 0; sender = record { fop = s } } ≡ startingOf g vs nnr lent
   unfolding startingOf
-  start-done s f h e =
+  start-done s f h t e =
       ap (λ (x : SenderState). record { refusal = 0; sender = record { fop = x } }) e
-      ∙ sym (holds _ _ _ (sym of-settings ∙ f) ∙ holds _ _ _ (le-leb smallestStore lent h))
+      ∙ sym (holds _ _ _ (sym of-settings ∙ f) ∙ holds _ _ _ (sym h ∙ t))
 
 -- a state by whether it is well-formed
 module _ (s : SenderState) (a : Bool) (ea : a ≡ wellFormed s) where

@@ -19,7 +19,7 @@ use Rattle.sender_values.specs.Start.{begun}
 use Rattle.sender_table.specs.Rows.{rowNumbered, inMain}
 use Rattle.fop.specs.declared.Lower.{Lower}
 use Rattle.sender_events.specs.Events.{wordNumber, directiveNumber, expiryNumber, adNumber, bdNumber, lowerNumber}
-use Rattle.sender_frames.specs.Limits.{smallestStore}
+use Rattle.sender_frames.specs.Limits.{needOf}
 use Rattle.sender_frames.specs.Frames.{handedWriting, unitBefore, unitOffered, mustBeUnit}
 use Rattle.sender.specs.declared.Event.{Event}
 use Rattle.sender.specs.declared.Event.the-variants as event
@@ -42,7 +42,7 @@ servedBy event s w store output =
 -- the same by the event's row, with the value n that it brings; 11 where the lent store is too short
 unfoldable pub served : ℕ → ℕ → SenderState → SenderState → List ℕ → List ℕ → Step
 served event n s g store output =
-    must (leb smallestStore (length store)) (refusedStep 11 s store output) (servedBy event s (rowNumbered event n (begun g)) store output)
+    must (leb (needOf s) (length store)) (refusedStep 11 s store output) (servedBy event s (rowNumbered event n (begun g)) store output)
 
 -- the unit offered is added to the Wait_Queue: E19 in S1 to S3
 abbrev pub added : ℕ → SenderState → Bool
@@ -63,7 +63,7 @@ offeredBy event s w o store output =
 unfoldable pub requestAdOf : SenderState → List ℕ → List ℕ → List ℕ → Step
 requestAdOf s o store output =
     mustBeUnit o (refusedStep 10 s store output)
-    (must (leb smallestStore (length store)) (refusedStep 11 s store output)
+    (must (leb (needOf s) (length store)) (refusedStep 11 s store output)
     (offeredBy (adNumber s) s (rowNumbered (adNumber s) 0 (begun s)) o store output))
 
 -- a BD request by its number and the work on it
@@ -74,7 +74,7 @@ bypassedBy event s w o store output = stepBy event s w (s .lengths) (handedWriti
 unfoldable pub requestBdOf : SenderState → List ℕ → List ℕ → List ℕ → Step
 requestBdOf s o store output =
     mustBeUnit o (refusedStep 10 s store output)
-    (must (leb smallestStore (length store)) (refusedStep 11 s store output)
+    (must (leb (needOf s) (length store)) (refusedStep 11 s store output)
     (bypassedBy (bdNumber s) s (rowNumbered (bdNumber s) 0 (begun s)) o store output))
 
 -- a directive by its number d and value v: 12 for the invalid directive, E40

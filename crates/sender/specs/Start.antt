@@ -5,7 +5,7 @@ use Rattle.base.specs.Choice.{pick, must}
 use Rattle.sender_values.specs.declared.SenderState.{SenderState}
 use Rattle.sender_values.specs.declared.Settings.{Settings}
 use Rattle.sender_values.specs.Start.{startOf}
-use Rattle.sender_frames.specs.Limits.{smallestStore}
+use Rattle.store.specs.Places.{storeNeed}
 use Rattle.sender_state.specs.State.{settingsHold, wellFormed}
 use Rattle.sender.specs.declared.Start.{Start}
 
@@ -21,7 +21,7 @@ refusedStart number = record { refusal = number; sender = record { fop = startOf
 unfoldable pub startingOf : Settings → ℕ → ℕ → ℕ → Start
 startingOf g vs nnr lent =
     must (settingsHold g) (refusedStart 12)
-    (must (leb smallestStore lent) (refusedStart 11) (record { refusal = 0; sender = record { fop = startOf g vs nnr } }))
+    (must (leb (storeNeed (g .k) 0) lent) (refusedStart 11) (record { refusal = 0; sender = record { fop = startOf g vs nnr } }))
 
 -- a sender from a state that was kept; 12 where it is none
 unfoldable pub restoredOf : SenderState → Start

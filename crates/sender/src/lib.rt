@@ -19,7 +19,6 @@ use sender_events::directives::directive_event;
 use sender_events::expiry_event;
 use sender_events::lower_event;
 use sender_events::words::word_event;
-use sender_frames::SMALLEST_STORE;
 use sender_frames::request_refusal;
 use sender_frames::units::lengths_left;
 use sender_frames::units::remove_confirmed;
@@ -36,6 +35,7 @@ use sender_values::start::begin;
 use sender_values::start::start;
 use store::PLACES;
 use store::lengths::set_length;
+use store::suffices;
 use store::units::put_unit;
 ghost use mathlib.Core.Path.{_≡_};
 ghost use Prim.Native.Nat.{_≤_};
@@ -134,7 +134,8 @@ fn serve(
     ensures store { λ r. ⌜ now (store .exit) ≡ served event value sender by (now (store .entry)) (now (output .entry)) .store ⌝ }
     ensures output { λ r. ⌜ now (output .exit) ≡ served event value sender by (now (store .entry)) (now (output .entry)) .output ⌝ }
 {
-    if store.len() < SMALLEST_STORE {
+    let suffices = suffices(store, sender.settings.k, sender.queues.sent);
+    if !suffices {
         return refused(sender, 11);
     }
     let work = row(begin(by), event, value);
@@ -295,7 +296,8 @@ impl Sender {
         if !settings_hold(settings) {
             return refused_start(12);
         }
-        if store.len() < SMALLEST_STORE {
+        let suffices = suffices(store, settings.k, 0);
+        if !suffices {
             return refused_start(11);
         }
         let sender = Sender {
@@ -314,7 +316,7 @@ impl Sender {
         ensures output { λ r. ⌜ now (output .exit) ≡ requestAdOf (self .fop) (now (unit .entry)) (now (store .entry)) (now (output .entry)) .output ⌝ }
     {
         let sender = self.fop;
-        let number = request_refusal(unit, store);
+        let number = request_refusal(sender, unit, store);
         if number != 0 {
             return refused(sender, number);
         }
@@ -330,7 +332,7 @@ impl Sender {
         ensures output { λ r. ⌜ now (output .exit) ≡ requestBdOf (self .fop) (now (unit .entry)) (now (store .entry)) (now (output .entry)) .output ⌝ }
     {
         let sender = self.fop;
-        let number = request_refusal(unit, store);
+        let number = request_refusal(sender, unit, store);
         if number != 0 {
             return refused(sender, number);
         }

@@ -14,15 +14,15 @@ use Rattle.sender_values.specs.declared.Handed.{Handed}
 use Rattle.sender_values.specs.declared.Handed.the-variants as handed
 use Rattle.sender_values.specs.declared.SenderState.{SenderState}
 use Rattle.sender_values.specs.declared.Work.{Work}
-use Rattle.sender_frames.specs.Limits.{smallestStore}
+use Rattle.sender_frames.specs.Limits.{needOf}
 
 -- "Legal: within the limits": the length of a unit
 abbrev pub mustBeUnit : {A : Type 0} → List ℕ → A → A → A
 mustBeUnit o refusal on = must (leb 1 (length o)) refusal (must (leb (length o) largestUnit) refusal on)
 
 -- "Sender events are judged 10, 12, 7, 11": the refusal of a request by the length of its unit, then by the lent store; 0 where there is none
-abbrev pub requestRefusal : List ℕ → List ℕ → ℕ
-requestRefusal o store = mustBeUnit o 10 (must (leb smallestStore (length store)) 11 0)
+abbrev pub requestRefusal : SenderState → List ℕ → List ℕ → ℕ
+requestRefusal s o store = mustBeUnit o 10 (must (leb (needOf s) (length store)) 11 0)
 
 -- the frame handed down, with the unit u of an AD or BD frame, into output of the length lent
 unfoldable pub handedWriting : Settings → Handed → List ℕ → ℕ → Outcome (Unit {0})

@@ -13,6 +13,7 @@ use sender_values::SenderState;
 use sender_values::Settings;
 use sender_values::Work;
 use store::PLACES;
+use store::suffices;
 use store::units::unit_at;
 ghost use mathlib.Core.Path.{_≡_};
 ghost use Prim.Native.Nat.{_+_, _≤_};
@@ -23,12 +24,9 @@ ghost use Rattle.frame.specs.Answers.{writtenAnswer};
 ghost use Rattle.store.specs.Places.{unitAt};
 ghost use Rattle.sender_frames.specs.Frames.{requestRefusal, handedWriting, placeHanded, unitBefore, unitOffered};
 
-// Document 01: a place for each sent unit of the largest K, and one for the unit waiting.
-pub const SMALLEST_STORE: usize = LARGEST_UNIT * PLACES;
-
 // The refusal of a request, 0 where there is none: 10 for the length of its unit, then 11 for the lent store.
-pub fn request_refusal(unit: &[u8], store: &[u8]) -> u8
-    ensures number { λ r. ⌜ r ≡ requestRefusal (now (unit .entry)) (now (store .entry)) ⌝ }
+pub fn request_refusal(sender: SenderState, unit: &[u8], store: &[u8]) -> u8
+    ensures number { λ r. ⌜ r ≡ requestRefusal sender (now (unit .entry)) (now (store .entry)) ⌝ }
     ensures fits { λ r. ⌜ (r ≡ 0 → length (now (unit .entry)) ≤ largestUnit) ⌝ }
 {
     let n = unit.len();
@@ -38,10 +36,11 @@ pub fn request_refusal(unit: &[u8], store: &[u8]) -> u8
     if LARGEST_UNIT < n {
         return 10;
     }
-    if store.len() < SMALLEST_STORE {
-        return 11;
+    let suffices = suffices(store, sender.settings.k, sender.queues.sent);
+    if suffices {
+        return 0;
     }
-    0
+    11
 }
 
 // The place of the unit that is handed down.

@@ -1,10 +1,10 @@
 -- An action by its number, and the actions of a cell in turn.
 use mathlib.Core.Path.{_≡_, sym, ap, _∙_}
-use mathlib.Core.List.{List, _∷_}
+use mathlib.Core.List.{List}
 use Prim.Native.Nat.{ℕ, _+_, _≤_, _<_}
 use native.Mathlib.Omega.{arith}
-use lib.ListN.{length, take, drop, getD, length-take, List·getD-eq-default}
-use lib.Seq.{getD-take, drop-length}
+use lib.ListN.{length, drop, getD, List·getD-eq-default}
+use lib.Seq.{drop-length}
 use Rattle.base.proofs.Lists.{next}
 use Rattle.fop.specs.Table.{Action, Ignore}
 use Rattle.sender_values.specs.declared.Work.{Work}
@@ -38,17 +38,14 @@ unfolding done actionOf
 behind a n w h = ap (λ (x : Action). done x n w) (sym (List·getD-eq-default actions Ignore h))
 
 -- the actions from place i on are the one at i and those behind it
-pub in-turn : (numbers : List ℕ) (i n : ℕ) (w v : Work) → length numbers ≡ 6 → i < 5 → v ≡ done (actionOf (getD numbers i 0)) n w
-    → doneNumbers (drop (i + 1) (take 5 numbers)) n v ≡ doneNumbers (drop i (take 5 numbers)) n w
+pub in-turn : (numbers : List ℕ) (i n : ℕ) (w v : Work) → i < length numbers → v ≡ done (actionOf (getD numbers i 0)) n w
+    → doneNumbers (drop (i + 1) numbers) n v ≡ doneNumbers (drop i numbers) n w
 unfolding doneNumbers
-in-turn numbers i n w v six h e =
-    let k : i < length (take 5 numbers) = simp length-take (omega arith) in
-    let d : drop i (take 5 numbers) ≡ getD numbers i 0 ∷ drop (i + 1) (take 5 numbers) = next (take 5 numbers) i k ∙ ap (λ (x : ℕ). x ∷ drop (i + 1) (take 5 numbers)) (getD-take 5 numbers i 0 h) in
-    ap (doneNumbers (drop (i + 1) (take 5 numbers)) n) e ∙ ap (λ (s : List ℕ). doneNumbers s n w) (sym d)
+in-turn numbers i n w v h e =
+    ap (doneNumbers (drop (i + 1) numbers) n) e ∙ ap (λ (s : List ℕ). doneNumbers s n w) (sym (next numbers i h))
 
--- behind the fifth there is none
-pub all-done : (numbers : List ℕ) (i n : ℕ) (w : Work) → length numbers ≡ 6 → i ≡ 5 → doneNumbers (drop i (take 5 numbers)) n w ≡ w
+-- behind the last there is none
+pub all-done : (numbers : List ℕ) (i n : ℕ) (w : Work) → i ≡ length numbers → doneNumbers (drop i numbers) n w ≡ w
 unfolding doneNumbers
-all-done numbers i n w six h =
-    let e : i ≡ length (take 5 numbers) = simp length-take (omega arith) in
-    ap (λ (j : ℕ). doneNumbers (drop j (take 5 numbers)) n w) e ∙ ap (λ (s : List ℕ). doneNumbers s n w) (drop-length (take 5 numbers))
+all-done numbers i n w e =
+    ap (λ (j : ℕ). doneNumbers (drop j numbers) n w) e ∙ ap (λ (s : List ℕ). doneNumbers s n w) (drop-length numbers)

@@ -1,19 +1,19 @@
 -- "IF SS = 0 .. ELSE .." of row E35: while suspended its row is E40's, so the row chosen is the event's own, and its cell done is the event's row.
-use mathlib.Core.Path.{_≡_, refl, sym, ap, ap₂, _∙_}
+use mathlib.Core.Path.{_≡_, refl, sym, ap, _∙_}
 use mathlib.Core.Bool.{false}
-use mathlib.Core.List.{List}
 use Prim.Native.Nat.{ℕ}
 use borrow.Author.Tests.{eqb-true}
 use lib.Dec.{eqb}
-use lib.ListN.{getD, take}
 use Rattle.fop.specs.Table.{table78, cell78, E35, E40}
 use Rattle.fop.specs.declared.State.{State}
 use Rattle.fop.specs.declared.State.the-variants.{S1, S2, S3, S4, S5, S6}
 use Rattle.sender_values.specs.declared.Work.{Work}
 use Rattle.sender_values.specs.Actions.{toState}
+use Rattle.sender_table.specs.declared.CellNumbers.{CellNumbers}
 use Rattle.sender_table.specs.Rows.{doneCell, rowOf, eventOf, rowIf, rowNumbered}
-use Rattle.sender_table.specs.Numbers.{doneNumbers, stateNumbered, doneNumbered, unlessSuspended, Says}
+use Rattle.sender_table.specs.Numbers.{doneNumbers, cellOf, unlessSuspended}
 use Rattle.sender_table.proofs.Places.{chosen}
+use Rattle.sender_table.proofs.Done.{cell-row}
 
 module _ (n : ℕ) (w : Work) where
   abbrev suspendState : ℕ
@@ -46,8 +46,12 @@ module _ (n : ℕ) (w : Work) where
       (λ a. refl)
 
   -- the cell of the row chosen, done
-  pub chosen-row : (k c : ℕ) (numbers : List ℕ) (next : State) (after r : Work) → c ≡ unlessSuspended k suspendState → Says numbers c (w .state)
-      → after ≡ doneNumbers (take 5 numbers) n w → next ≡ stateNumbered (getD numbers 5 0) (w .state) → r ≡ toState next after → r ≡ rowNumbered k n w
-  unfolding doneNumbered
-  chosen-row k c numbers next after r p says q s h =
-      h ∙ ap₂ toState s q ∙ says n w refl (ap (λ (x : ℕ). unlessSuspended x suspendState) p ∙ settled k ∙ sym p) ∙ ap (λ (x : ℕ). rowNumbered x n w) p ∙ same-row k
+  pub chosen-row : (k c : ℕ) (asked : CellNumbers) (after r : Work) → c ≡ unlessSuspended k suspendState → asked ≡ cellOf c (w .state)
+      → after ≡ doneNumbers (asked .actions) n w → r ≡ toState (asked .next) after → r ≡ rowNumbered k n w
+  chosen-row k c asked after r p a q h =
+      h
+      ∙ ap (toState (asked .next)) q
+      ∙ ap (λ (x : CellNumbers). toState (x .next) (doneNumbers (x .actions) n w)) a
+      ∙ cell-row c n w (ap (λ (x : ℕ). unlessSuspended x suspendState) p ∙ settled k ∙ sym p)
+      ∙ ap (λ (x : ℕ). rowNumbered x n w) p
+      ∙ same-row k

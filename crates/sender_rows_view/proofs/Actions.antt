@@ -18,7 +18,7 @@ use Rattle.sender_values.specs.Actions as act
 use Rattle.sender_view.proofs.ViewAnswers as answers
 use Rattle.sender_view.proofs.ViewAnswers.{Room}
 use Rattle.sender_table.specs.Rows.{done, doneAll}
-use Rattle.sender_rows_view.specs.Rows.{Brings, acknowledging, offering, numbering, widening, clocking, limiting, timing, Needed}
+use Rattle.sender_rows_view.proofs.Rows.{Brings, acknowledging, offering, numbering, widening, clocking, limiting, timing, Needed}
 use Rattle.sender_rows_view.proofs.Mode.{Stored, moved, put, Idle, started, ceased, released, suspendedAt, resumed, offered, remaining, sending, bothPurged, Mode, going, half, over, same, same-is, onGoing, onlyIf, taking, turned, answered, repeated, purged, handedDown, controlled, looked, given, after, afterAll}
 use Rattle.sender_rows_view.proofs.Known.{Case, seen, Open, At}
 use Rattle.sender_rows_view.proofs.Onward.{on-fresh, on-going, on-half, only-if, takes}

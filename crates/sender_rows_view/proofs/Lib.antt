@@ -1,3 +1,5 @@
+pub mod State
+pub mod Rows
 pub mod Mode
 pub mod Allowed
 pub mod Known

@@ -20,8 +20,8 @@ use Rattle.fop.specs.declared.State.the-variants as state
 use Rattle.sender_values.specs.Limits.{largestResponses}
 use Rattle.sender_table.specs.Rows.{inMain}
 use Rattle.fop.specs.Effective.{effectiveOf}
-use Rattle.sender_rows_view.specs.State.{withFrame, initial}
-use Rattle.sender_rows_view.specs.Rows.{Brings, nothing, acknowledging, again, offering, numbering, widening, clocking, limiting, timing, expiring, expiringAgain, resuming}
+use Rattle.sender_rows_view.proofs.State.{withFrame, initial}
+use Rattle.sender_rows_view.proofs.Rows.{Brings, nothing, acknowledging, again, offering, numbering, widening, clocking, limiting, timing, expiring, expiringAgain, resuming}
 
 -- the store: as it was, moved down by the units confirmed, or with the unit offered put into it
 pub data Stored : Type 0 where

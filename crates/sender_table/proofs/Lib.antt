@@ -1,4 +1,5 @@
 pub mod Once
 pub mod Places
 pub mod Cells
+pub mod Done
 pub mod Words

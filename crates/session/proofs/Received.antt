@@ -1,4 +1,4 @@
--- Crate farm's receiver at a written frame and at a release, seen as FARM-1's variables and a count of buffers taken.
+-- Crate receiver's receiver at a written frame and at a release, seen as FARM-1's variables and a count of buffers taken.
 use mathlib.Core.Path.{_≡_, refl, ap}
 use mathlib.Core.Bool.{true}
 use mathlib.Core.Option.{some}

@@ -7,6 +7,8 @@ pub mod units;
 use base::LARGEST_K;
 use base::LARGEST_UNIT;
 ghost use mathlib.Core.Path.{_≡_};
+ghost use lib.Dec.{leb};
+ghost use lib.ListN.{length};
 ghost use Rattle.store.specs.Places.{storeNeed};
 
 // The sent units of the largest K, and the unit waiting. The store has a place for each.
@@ -17,4 +19,11 @@ pub fn store_need(_k: u8, _outstanding: u8) -> usize
     ensures { λ r. ⌜ r ≡ storeNeed «_k» «_outstanding» ⌝ }
 {
     LARGEST_UNIT * PLACES
+}
+
+// Whether the lent store has them.
+pub fn suffices(store: &[u8], k: u8, outstanding: u8) -> bool
+    ensures { λ r. ⌜ r ≡ leb (storeNeed k outstanding) (length (now (store .entry))) ⌝ }
+{
+    store_need(k, outstanding) <= store.len()
 }

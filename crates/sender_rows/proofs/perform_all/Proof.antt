@@ -3,7 +3,7 @@ use mathlib.Core.Path.{_≡_, sym, _∙_}
 use Prim.Native.Nat.{_-_, _≤_}
 use native.Mathlib.Omega.{arith}
 use lib.ListN as list
-use lib.ListN.{take, drop}
+use lib.ListN.{drop}
 use Rattle.sender_table.specs.Numbers.{doneNumbers}
 use Rattle.sender_rows.proofs.Numbered.{in-turn, all-done}
 use borrow.Author.Needs.{needs}
@@ -11,7 +11,7 @@ use Rattle.sender_rows.proofs.perform_all.Statement.{statement}
 use Rattle.sender_rows.proofs.perform_all.Tie as tie
 
 abbrev Inv-loop : tie.InvT-loop
-Inv-loop value numbers next₀ i₀ next i = (i ≤ 5) × (doneNumbers (drop i (take 5 numbers)) value next ≡ doneNumbers (take 5 numbers) value next₀)
+Inv-loop value numbers next₀ i₀ next i = (i ≤ 5) × (doneNumbers (drop i numbers) value next ≡ doneNumbers numbers value next₀)
 
 abbrev μ-loop : tie.MeasureT-loop
 μ-loop value numbers next₀ i₀ next i = 5 - i
@@ -35,16 +35,15 @@ loop-again : tie.Need-loop-again Inv-loop μ-loop
 loop-again c =
     let a = c .before .before .before .args in
     let l = c .before .before .loop in
-    let six : list.length (a .t2) ≡ 6 = search needs in
-    (omega arith, in-turn (a .t2) (l .i) (a .value) (l .next) (c .perform .result) six (c .before .loop-test .taken) (c .perform .ensures) ∙ l .inv .1)
+    let five : list.length (a .t2) ≡ 5 = search needs in
+    (omega arith, in-turn (a .t2) (l .i) (a .value) (l .next) (c .perform .result) (omega arith) (c .perform .ensures) ∙ l .inv .1)
 
 returns : tie.Need-returns Inv-loop μ-loop
 returns c =
     let a = c .before .before .args in
     let l = c .before .loop in
-    let six : list.length (a .t2) ≡ 6 = search needs in
-    let five : l .i ≡ 5 = omega arith in
-    sym (all-done (a .t2) (l .i) (a .value) (l .next) six five) ∙ l .inv .1
+    let five : list.length (a .t2) ≡ 5 = search needs in
+    sym (all-done (a .t2) (l .i) (a .value) (l .next) (omega arith)) ∙ l .inv .1
 
 pub perform-all-spec : {M : Type 1} → statement M
 perform-all-spec =

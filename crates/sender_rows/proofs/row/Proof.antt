@@ -13,12 +13,6 @@ cell-requires c κs = search needs
 perform-all-requires : tie.Need-perform-all-requires
 perform-all-requires c κs = search needs
 
-array-read-next-state : tie.Need-array-read-next-state
-array-read-next-state c = search needs
-
-next-state-requires : tie.Need-next-state-requires
-next-state-requires c κs = search needs
-
 to-state-requires : tie.Need-to-state-requires
 to-state-requires c κs = search needs
 
@@ -32,7 +26,5 @@ row-spec =
     unless-suspended-requires
     cell-requires
     perform-all-requires
-    array-read-next-state
-    next-state-requires
     to-state-requires
     returns)

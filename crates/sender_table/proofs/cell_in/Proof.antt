@@ -1,4 +1,5 @@
 -- The row stands at the event's place, the cell's number in the state's column, and the cell at its number.
+use mathlib.Core.Path.{_∙_}
 use native.Mathlib.Omega.{arith}
 use Rattle.sender_table.proofs.Places.{place-below, column-below}
 use borrow.Author.Needs.{needs}
@@ -20,19 +21,23 @@ column-requires c κs = search needs
 array-read-number : tie.Need-array-read-number
 array-read-number c = omega (arith, column-below (c .before .before .before .args .state))
 
-cast-result : tie.Need-cast-result
-cast-result c = record { fits = omega (arith, c .before .before .before .pre .numbers (c .before .before .place .result) (c .column .result)) }
+cast-numbered : tie.Need-cast-numbered
+cast-numbered c = record { fits = omega (arith, c .before .before .before .pre .numbers (c .before .before .place .result) (c .column .result)) }
 
-mul-result : tie.Need-mul-result
-mul-result c = record { fits = omega (arith, c .before .before .before .pre .numbers (c .before .before .place .result) (c .column .result)) }
+mul-numbered : tie.Need-mul-numbered
+mul-numbered c = record { fits = omega (arith, c .before .before .before .pre .numbers (c .before .before .place .result) (c .column .result)) }
 
-array-copy-out-result : tie.Need-array-copy-out-result
-array-copy-out-result c = c .before .before .before .pre .numbers (c .before .before .place .result) (c .column .result)
+array-copy-out-numbered : tie.Need-array-copy-out-numbered
+array-copy-out-numbered c = c .before .before .before .pre .numbers (c .before .before .place .result) (c .column .result)
+
+numbered-requires : tie.Need-numbered-requires
+numbered-requires c κs = search needs
 
 returns : tie.Need-returns
 returns c =
-    let start = c .before .before .before .before in
-    rw (c .before .before .before .place .ensures, c .before .column .ensures) (start .pre .says (start .args .event) (start .args .state))
+    let start = c .before .before .before .before .before in
+    c .numbered .ensures
+    ∙ rw (c .before .before .before .before .place .ensures, c .before .before .column .ensures) (start .pre .says (start .args .event) (start .args .state))
 
 pub cell-in-spec : {M : Type 1} → statement M
 cell-in-spec =
@@ -43,7 +48,8 @@ cell-in-spec =
     array-copy-out-row
     column-requires
     array-read-number
-    cast-result
-    mul-result
-    array-copy-out-result
+    cast-numbered
+    mul-numbered
+    array-copy-out-numbered
+    numbered-requires
     returns)

@@ -1,8 +1,8 @@
 -- Each number is a case of the definition.
 use Rattle.base.proofs.Tests.{tests}
 use Rattle.sender_table.specs.Numbers.{stateNumbered}
-use Rattle.sender_rows.proofs.next_state.Statement.{statement}
-use Rattle.sender_rows.proofs.next_state.Tie as tie
+use Rattle.sender_table.proofs.next_state.Statement.{statement}
+use Rattle.sender_table.proofs.next_state.Tie as tie
 
 returns : tie.Need-returns
 unfolding stateNumbered

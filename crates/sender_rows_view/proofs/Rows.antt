@@ -23,7 +23,7 @@ use Rattle.sender_values.specs.Actions.{unitsHeld}
 use Rattle.sender_values.specs.Start.{senderOf}
 use Rattle.sender_view.specs.View.{view}
 use Rattle.sender_table.specs.Rows.{inMain}
-use Rattle.sender_rows_view.specs.State.{Good}
+use Rattle.sender_rows_view.proofs.State.{Good}
 
 -- what an event brings, as its conditions in table 7-8 and document 01's limits give it
 pub data Brings : Type 0 where
