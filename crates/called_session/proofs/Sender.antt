@@ -24,7 +24,7 @@ use Rattle.sender_values.specs.Start.{begun}
 use Rattle.sender_view.specs.View.{responsesOf}
 use Rattle.sender_table.specs.Rows.{eventOf}
 use Rattle.fop.specs.declared.Lower.{Lower}
-use Rattle.sender_rows_view.proofs.State.{Good}
+use Rattle.sender_rows_view.specs.State.{Good}
 use Rattle.sender.specs.declared.Answer.{Answer as SenderAnswer}
 use Rattle.sender.specs.declared.Start.{Start}
 use Rattle.sender_state.specs.State.{wellFormed}

@@ -15,7 +15,7 @@ use Rattle.fop.specs.Limits.{largestK, largestNumber, largestTimer, largestTran
 use Rattle.fop.specs.Events.{directive}
 use Rattle.sender_values.specs.declared.SenderState.{SenderState}
 use Rattle.sender_values.specs.Start.{startOf}
-use Rattle.sender_rows_view.proofs.State.{Good}
+use Rattle.sender_rows_view.specs.State.{Good}
 use Rattle.receiver_octets.specs.Kept as farm
 use Rattle.receiver.specs.Receiver as farmStart
 use Rattle.receiver.specs.declared.Start.{Start as FarmStart}

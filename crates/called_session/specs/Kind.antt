@@ -7,7 +7,7 @@ use mathlib.Core.Option.{none, some}
 use Rattle.base.specs.Octets.{Octets}
 use Rattle.fop.specs.Units.{Own, Frame, AD, BD, Unlock, SetVR, Refused}
 use Rattle.fop.specs.Events.{SenderEvent}
-use Rattle.sender_rows_view.proofs.State.{Good}
+use Rattle.sender_rows_view.specs.State.{Good}
 use Rattle.session.specs.Frames.{read}
 use Rattle.sender_octets.specs.Kept.{isState, stateIn}
 use Rattle.sender_octets.specs.Answer.{kindNumber, answerIn}

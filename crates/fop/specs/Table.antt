@@ -22,6 +22,7 @@ pub data Action : Type 0 where
   Accept Reject Confirm RejectAd AcceptBd RejectBd : Action
   AddToWaitQueue LookForFdu LookForDirective RemoveAcknowledgedFrames InitiateAdRetransmission InitiateBcRetransmission ReleaseBcFrame : Action
   CancelTimer StartTimer : Action
+  -- with its reason; None is no reason, and no cell has it
   Alert : Reason → Action
   Initialise TransmitUnlock TransmitSetVr TransmitBd : Action
   -- SS := n

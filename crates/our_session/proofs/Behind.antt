@@ -10,7 +10,7 @@ use Rattle.store.proofs.Laws.{put-rest, without-behind}
 use Rattle.fop.specs.Units.{Own}
 use Rattle.fop.specs.Events.{SenderEvent}
 use Rattle.sender_values.specs.Start.{begun}
-use Rattle.sender_rows_view.proofs.State.{Good}
+use Rattle.sender_rows_view.specs.State.{Good}
 use Rattle.sender.specs.Answers.{stored}
 use Rattle.sender_frames.specs.Limits.{smallestStore}
 use Rattle.our_session.specs.Ours.{Held, stepOf}

@@ -25,7 +25,7 @@ use Rattle.sender_values.specs.Actions.{responsesWith}
 use Rattle.sender_values.specs.Start.{begun, senderOf}
 use Rattle.sender_view.specs.View.{responsesOf, fopOf, view}
 use Rattle.sender_table.specs.Rows.{eventOf}
-use Rattle.sender_rows_view.proofs.State.{Good}
+use Rattle.sender_rows_view.specs.State.{Good}
 use Rattle.sender.specs.Answers as sender
 use Rattle.sender.specs.Answers.{Step, stepBy, refusedStep}
 use Rattle.our_session.specs.Ours.{handedDown, answerBy, lentOutput}

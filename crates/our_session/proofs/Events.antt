@@ -42,7 +42,7 @@ use Rattle.sender_view.specs.View.{fopOf}
 use Rattle.sender_values.specs.Actions.{unitsHeld}
 use Rattle.sender_table.specs.Rows.{eventOf, rowIf, rowOf, rowNumbered}
 use Rattle.sender_events.specs.Events.{eventNumber, variablesOf, expiryNumber, adNumber, bdNumber, lowerNumber, directiveNumber, wordNumber, told}
-use Rattle.sender_rows_view.proofs.State.{Good}
+use Rattle.sender_rows_view.specs.State.{Good}
 use Rattle.sender_rows_view.proofs.Rows.{brings, Meets, isOffering}
 use Rattle.session.proofs.Test.{first-all}
 use Rattle.session.proofs.Octets.{octets-are}

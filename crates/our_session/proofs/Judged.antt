@@ -14,7 +14,7 @@ use Rattle.fop.specs.Answers.{Answer, octetsDown, room, needed, judged, senderR
 use Rattle.sender_values.specs.declared.SenderState.{SenderState}
 use Rattle.sender_values.specs.Start.{begun}
 use Rattle.sender_view.specs.View.{fopOf}
-use Rattle.sender_rows_view.proofs.State.{Good}
+use Rattle.sender_rows_view.specs.State.{Good}
 use Rattle.sender.specs.Answers as sender
 use Rattle.sender.specs.Answers.{Step, refusedStep}
 use Rattle.our_session.specs.Ours.{answerBy}

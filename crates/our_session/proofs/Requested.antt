@@ -30,7 +30,7 @@ use Rattle.sender_values.specs.Start.{begun, noneTold, senderOf}
 use Rattle.sender_view.specs.View.{fopOf}
 use Rattle.sender_table.specs.Rows.{inMain, done, doneAll, doneCell, rowOf}
 use Rattle.sender_events.specs.Events.{eventNumber}
-use Rattle.sender_rows_view.proofs.State.{Good}
+use Rattle.sender_rows_view.specs.State.{Good}
 use Rattle.sender_rows_view.proofs.Rows.{Meets, Shows, brings, isOffering, lengthsAfter}
 use Rattle.sender_rows_view.proofs.Allowed.{in-states}
 use Rattle.session.proofs.Choices.{never}

@@ -24,7 +24,7 @@ use Rattle.store.specs.Places.{places}
 use Rattle.sender_values.specs.Start.{startOf, begun}
 use Rattle.sender_table.specs.Rows.{inMain, isFrame}
 use Rattle.sender_values.specs.Actions.{unitsHeld}
-use Rattle.sender_rows_view.proofs.State.{Good, withFrame, effective}
+use Rattle.sender_rows_view.specs.State.{Good, withFrame, effective}
 use Rattle.sender_rows_view.proofs.Theorem.{effective-state}
 use Rattle.sender_frames.specs.Limits.{smallestStore}
 use Rattle.sender_state.specs.State.{settingsHold, numbersHold, isEmpty, stateHolds, lengthsHold, wellFormed}

@@ -27,7 +27,7 @@ use Rattle.sender_view.specs.View.{fopOf}
 use Rattle.sender_view.proofs.SentQueue.{held-least, held-most}
 use Rattle.sender_table.specs.Rows.{rowOf}
 use Rattle.sender_events.specs.Events.{eventNumber}
-use Rattle.sender_rows_view.proofs.State.{Good}
+use Rattle.sender_rows_view.specs.State.{Good}
 use Rattle.sender_rows_view.proofs.Rows.{Brings, brings, Meets, Shows, storeBy, lengthsBy, isOffering}
 use Rattle.sender_rows_view.proofs.Theorem.{row-view, row-few}
 use Rattle.sender_frames.specs.Frames.{placeHanded, unitBefore}

@@ -25,7 +25,7 @@ use Rattle.sender_view.specs.View.{fopOf, framesOf}
 use Rattle.sender_values.specs.Actions.{unitsHeld}
 use Rattle.store.specs.Places.{unitAt}
 use Rattle.sender_events.specs.Events.{eventNumber}
-use Rattle.sender_rows_view.proofs.State.{Good}
+use Rattle.sender_rows_view.specs.State.{Good}
 use Rattle.sender_rows_view.proofs.Rows.{Shows}
 use Rattle.sender.specs.Answers.{stepBy}
 use Rattle.sender_frames.specs.Frames.{handedWriting}

@@ -22,7 +22,7 @@ use Rattle.fop.specs.Answers.{senderNext}
 use Rattle.sender_values.specs.declared.SenderState.{SenderState}
 use Rattle.sender_values.specs.Start.{startOf, begun}
 use Rattle.sender_view.specs.View.{fopOf}
-use Rattle.sender_rows_view.proofs.State.{Good}
+use Rattle.sender_rows_view.specs.State.{Good}
 use Rattle.receiver.specs.Receiver as farm
 use Rattle.receiver.specs.declared.Start.the-variants.{Ready}
 use Rattle.session.specs.Ends.{Settings, Within, Tied, startSender, startReceiver, tables}

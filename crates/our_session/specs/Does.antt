@@ -10,7 +10,7 @@ use Rattle.fop.specs.Events.{SenderEvent}
 use Rattle.fop.specs.Answers.{senderAnswer, senderNext}
 use Rattle.sender_values.specs.Start.{begun}
 use Rattle.sender_view.specs.View.{fopOf}
-use Rattle.sender_rows_view.proofs.State.{Good}
+use Rattle.sender_rows_view.specs.State.{Good}
 use Rattle.sender.specs.Answers.{Step}
 use Rattle.our_session.specs.Ours.{Held, stepOf, answerBy, reads}
 

@@ -15,7 +15,7 @@ use Rattle.sender_values.specs.declared.Settings.{Settings as SenderSettings}
 use Rattle.sender_values.specs.Start.{begun}
 use Rattle.sender_view.specs.View.{responsesOf, fopOf}
 use Rattle.sender_table.specs.Rows.{eventOf}
-use Rattle.sender_rows_view.proofs.State.{Good}
+use Rattle.sender_rows_view.specs.State.{Good}
 use Rattle.receiver.specs.declared.Receiver.{Receiver}
 use Rattle.session.specs.Ends.{Settings, Ends, startSender, startReceiver}
 use Rattle.session.specs.Receiver.{receiverNext, receiverAnswer, receiverWord}

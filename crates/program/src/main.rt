@@ -1,5 +1,5 @@
 // Reads lines of events from standard input, and writes a row for each (document 01, "The program"). What is written is the
-// console's: see proofs/Program of that crate. Here are only the reading and the writing.
+// that of crate program_console: see its proofs/Program. Here are only the reading and the writing.
 use libc::STDIN_FILENO;
 use libc::STDOUT_FILENO;
 use program_console::Console;

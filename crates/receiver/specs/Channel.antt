@@ -56,8 +56,9 @@ answered e star c = record {
 unfoldable pub arrived : Bool → Channel → Kind → ChannelAnswer
 arrived room c kind = answered (eventOf room c kind) (starOf kind) c
 
--- a release is E10 where a unit is held, and in Wait where there is room; else it is refused by 13. A channel that has its buffers for itself never
--- waits with room (proofs/Facts, `release-alike`).
+-- document 02, request 8: "A release naming a channel that holds a buffer gives one back and is E10. Naming one that holds none is 13, except for
+-- a channel in Wait while the pool has room: that is E10". A receiver with one channel judges 13 first, as document 01 says (specs/Receiver), and
+-- never waits with room (proofs/Kept, `wait-full`), so both rules agree there (proofs/Facts, `release-alike`).
 abbrev pub mayRelease : ℕ → State → Bool → Bool
 mayRelease held state room = pick (ltb 0 held) true (pick (notWait state) false room)
 

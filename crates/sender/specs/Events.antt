@@ -25,7 +25,7 @@ use Rattle.sender.specs.declared.Event.{Event}
 use Rattle.sender.specs.declared.Event.the-variants as event
 use Rattle.sender.specs.Answers.{Step, refusedStep, stepBy}
 
--- the store without the units that the event confirms; the others that were held stay
+-- the store without the units that the event confirms; the others that were held before it move down, those too that it then denies or rejects
 abbrev pub storeServed : SenderState → Work → List ℕ → List ℕ
 storeServed s w store =
     without (s .lengths) (w .told .confirmed .count) (unitsHeld (s .queues .sent) (s .queues .waiting) - w .told .confirmed .count) store

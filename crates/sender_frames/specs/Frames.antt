@@ -1,4 +1,4 @@
--- The frame that an event hands down to the lower layer, written by crate frame; its unit, and what a unit offered is judged by.
+-- The frame that an event hands down to the lower layer, as crate frame defines it; its unit, and what a unit offered is judged by.
 use Prim.Native.Nat.{ℕ, _+_}
 use mathlib.Core.List.{List, []}
 use lib.Dec.{leb, eqb}

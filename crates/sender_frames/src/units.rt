@@ -22,7 +22,7 @@ fn units_staying(queues: Queues, count: u8) -> u16
     held - gone
 }
 
-// Removes the `count` oldest units from the store; the others that are held stay.
+// Removes the `count` oldest units from the store; the others of these queues move down.
 pub fn remove_confirmed(store: &mut [u8], lengths: [u16; PLACES], queues: Queues, count: u8)
     ensures { λ _. ⌜ now (store .exit) ≡ without lengths count (unitsHeld (queues .sent) (queues .waiting) - count) (now (store .entry)) ⌝ }
 {

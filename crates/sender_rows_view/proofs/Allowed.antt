@@ -14,7 +14,7 @@ use Rattle.fop.specs.Table.{E35, E36, E37, E38, E39, E40, E41, E42, E43, E44, E
 use Rattle.fop.specs.declared.State.{State}
 use Rattle.fop.specs.declared.State.the-variants as state
 use Rattle.sender_values.specs.declared.SenderState.{SenderState}
-use Rattle.sender_rows_view.proofs.State.{initial}
+use Rattle.sender_rows_view.specs.State.{initial}
 use Rattle.sender_rows_view.proofs.Rows.{Brings, nothing, acknowledging, again, offering, numbering, widening, clocking, limiting, timing, expiring, expiringAgain, resuming, brings, Needed, Meets}
 use Rattle.sender_rows_view.proofs.Mode.{same, implied, meetsAt, after, afterAll, allows}
 

@@ -29,7 +29,7 @@ use Rattle.sender_view.specs.View.{fopOf}
 use Rattle.sender_view.proofs.SentQueue.{held-most}
 use Rattle.sender_view.proofs.ViewValues as values
 use Rattle.sender_table.specs.Rows.{doneAll, doneCell, inMain}
-use Rattle.sender_rows_view.proofs.State.{Good, initial}
+use Rattle.sender_rows_view.specs.State.{Good, initial}
 use Rattle.sender_rows_view.proofs.Rows.{Brings, nothing, acknowledging, again, offering, numbering, widening, clocking, limiting, timing, expiring, expiringAgain, resuming, brings, Needed, isOffering, storeBy, lengthsBy, Shows}
 use Rattle.sender_rows_view.proofs.Mode.{Stored, kept, moved, put, Idle, suspendedAt, Mode, fresh, going, half, over, bad, same, ceased, idleIn, repeats, expired, begins, implied, agrees, covers, notPut, putWhere, fits, maySuspend, stays, leaves, ends, afterAll, allows}
 use Rattle.sender_rows_view.proofs.Known.{Case, seen, Where, Left, StoreIs, LengthsIs, IdleIs, most, Shut, At, known, where-on, suspends, none-below, no-more-first}

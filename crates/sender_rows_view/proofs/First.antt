@@ -33,7 +33,7 @@ use Rattle.sender_view.proofs.ViewRemoval.{gone-is, least-first}
 use Rattle.sender_view.proofs.ViewRuns.{confirmed-run}
 use Rattle.sender_view.proofs.ViewStart.{room-begun}
 use Rattle.sender_view.proofs.ViewWaiting as waiting
-use Rattle.sender_rows_view.proofs.State.{Good}
+use Rattle.sender_rows_view.specs.State.{Good}
 use Rattle.sender_rows_view.proofs.Mode.{moved, put, Idle, offered, remaining}
 use Rattle.sender_rows_view.proofs.Known.{Case, Fresh, NoMore, Open, octet-is, held-waiting, good-settled, good-counted, counts-one, none-below}
 

@@ -32,7 +32,7 @@ use Rattle.sender_view.proofs.SentQueue.{held-least}
 use Rattle.sender_view.proofs.ViewAnswers.{Room}
 use Rattle.sender_view.proofs.ViewStart.{room-begun}
 use Rattle.sender_table.specs.Rows.{isFrame}
-use Rattle.sender_rows_view.proofs.State.{Good}
+use Rattle.sender_rows_view.specs.State.{Good}
 use Rattle.sender_rows_view.proofs.Mode.{Stored, kept, moved, put, Idle, started, ceased, framed, released, suspendedAt, Mode, fresh, going, half, over, bad}
 
 -- an event at a sender and its store

@@ -1,4 +1,3 @@
-pub mod State
 pub mod Rows
 pub mod Mode
 pub mod Allowed

@@ -20,7 +20,7 @@ use Rattle.fop.specs.declared.State.the-variants as state
 use Rattle.sender_values.specs.Limits.{largestResponses}
 use Rattle.sender_table.specs.Rows.{inMain}
 use Rattle.fop.specs.Effective.{effectiveOf}
-use Rattle.sender_rows_view.proofs.State.{withFrame, initial}
+use Rattle.sender_rows_view.specs.State.{withFrame, initial}
 use Rattle.sender_rows_view.proofs.Rows.{Brings, nothing, acknowledging, again, offering, numbering, widening, clocking, limiting, timing, expiring, expiringAgain, resuming}
 
 -- the store: as it was, moved down by the units confirmed, or with the unit offered put into it
@@ -292,7 +292,7 @@ covers asked z =
     both (implied (asked .unsent) (z .unsent))
     (both (implied (asked .unasked) (z .unasked)) (both (implied (asked .stopped) (z .stopped)) (agrees (asked .frame) (z .frame))))
 
--- the store is the one that the event leaves (specs/Rows, storeBy)
+-- the store is the one that the event leaves (proofs/Rows, `storeBy`)
 abbrev pub notPut : Stored → Bool
 notPut kept = true
 notPut moved = true

@@ -23,7 +23,7 @@ use Rattle.sender_values.specs.Actions.{unitsHeld}
 use Rattle.sender_values.specs.Start.{senderOf}
 use Rattle.sender_view.specs.View.{view}
 use Rattle.sender_table.specs.Rows.{inMain}
-use Rattle.sender_rows_view.proofs.State.{Good}
+use Rattle.sender_rows_view.specs.State.{Good}
 
 -- what an event brings, as its conditions in table 7-8 and document 01's limits give it
 pub data Brings : Type 0 where
@@ -95,7 +95,7 @@ brings E102 = nothing
 brings E103 = nothing
 brings E104 = expiringAgain
 
--- what holds of the unit, the value and the sender where an event brings that
+-- what holds of the unit, the value and the sender where an event brings that; what E18, E104 and E31 to E34 need is not met for now (`Good`)
 abbrev pub Needed : Brings → List ℕ → ℕ → SenderState → Type 0
 Needed nothing o n s = Unit {0}
 Needed acknowledging o n s = (n < 256) × (offset n (s .variables .nnr) ≤ offset (s .variables .vs) (s .variables .nnr))

@@ -17,7 +17,7 @@ use Rattle.sender_values.specs.Actions.{unitsHeld}
 use Rattle.sender_values.specs.Start.{begun, noneTold}
 use Rattle.sender_view.specs.View.{fopOf}
 use Rattle.sender_table.specs.Rows.{rowOf}
-use Rattle.sender_rows_view.proofs.State.{Good, effective}
+use Rattle.sender_rows_view.specs.State.{Good, effective}
 use Rattle.sender_rows_view.proofs.Rows.{brings, isOffering, Meets, storeAfter, lengthsAfter, Shows}
 use Rattle.sender_rows_view.proofs.Allowed.{allowed}
 use Rattle.sender_rows_view.proofs.Cells.{Shown, cell-view}

@@ -1,4 +1,4 @@
--- The well-formed states of the sender, as a test: what every event keeps (crate sender_rows_view, proofs/State), so that a state that was kept over a
+-- The well-formed states of the sender, as a test: what every event keeps (crate sender_rows_view, specs/State), so that a state that was kept over a
 -- reset can be told from one that no sender has.
 use Prim.Native.Nat.{ℕ, zero, suc}
 use mathlib.Core.Bool.{Bool, true, not}
@@ -53,7 +53,7 @@ lengthsHold held [] = true
 lengthsHold zero (x ∷ xs) = both (leb x largestUnit) (lengthsHold zero xs)
 lengthsHold (suc held) (x ∷ xs) = both (leb 1 x) (both (leb x largestUnit) (lengthsHold held xs))
 
--- a well-formed sender: all of these, which is what every event keeps (crate sender_rows_view, proofs/State, `Good`)
+-- a well-formed sender: all of these, which is what every event keeps (crate sender_rows_view, specs/State, `Good`)
 unfoldable pub wellFormed : SenderState → Bool
 wellFormed s =
     both (settingsHold (s .settings))

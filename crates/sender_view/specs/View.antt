@@ -76,7 +76,7 @@ framesOf handed.Bd lengths store o = BD o ∷ []
 framesOf handed.Unlock lengths store o = Unlock ∷ []
 framesOf (handed.SetVr n) lengths store o = SetVR n ∷ []
 
--- a response by its number (specs/Actions, responseNumber)
+-- a response by its number (crate sender_values, specs/Actions, `responseNumber`)
 abbrev pub responseOf : ℕ → Response
 responseOf n =
     pick (eqb n 1) AcceptAdUnit

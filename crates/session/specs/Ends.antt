@@ -90,7 +90,7 @@ pub record Ends : Type 1 where
   pub answerReceiver : ReceiverEvent → Receiver → ReceiverAnswer
   pub word : ℕ → Receiver → WordAnswer
 
--- the ends that the tables themselves are: table 7-8 by crate fop, table 7-9 by crate receiver
+-- the ends that the tables themselves are: table 7-8 by crate fop, table 7-9 by crates farm and receiver
 abbrev pub tables : Settings → Ends
 tables s = record {
   Sender = Fop;

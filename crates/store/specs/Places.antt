@@ -31,7 +31,8 @@ unitPut place unit store = placed store (placeOffset place) unit
 abbrev pub movedDown : List ℕ → ℕ → ℕ → List ℕ → List ℕ
 movedDown lengths count i store = unitPut i (unitAt lengths (count + i) store) store
 
--- the store with its `count` oldest units removed: the `staying` units behind them move down, one after another, the oldest first
+-- the store with its `count` oldest units removed: the `staying` units behind them move down, one after another, the oldest first. Where no length
+-- is above largestUnit each is read as it stood before (proofs/Laws, `without-unit`), and no other octet changes (`without-octet`).
 unfoldable pub without : List ℕ → ℕ → ℕ → List ℕ → List ℕ
 without lengths count zero store = store
 without lengths count (suc staying) store = movedDown lengths count staying (without lengths count staying store)
