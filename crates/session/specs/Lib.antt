@@ -5,3 +5,5 @@ pub mod Session
 pub mod Claims
 pub mod Stronger
 pub mod Signed
+pub mod Channels
+pub mod Beyond

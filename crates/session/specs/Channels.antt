@@ -1,0 +1,87 @@
+-- Beyond demand 3: channels that repeat, a recorder that repeats frames, and noise. A repeated frame is what once put an old date over a new one.
+-- Demand 3 as document 01 words it is the case of its own events alone (proofs/Theorem).
+use mathlib.Core.Bool.{Bool, true, false, _&&_}
+use mathlib.Core.List.{List, [], _∷_}
+use mathlib.Core.Option.{Option, none, some}
+use Prim.Native.Nat.{ℕ, _+_, _/_}
+use lib.Dec.{ltb, leb}
+use lib.ListN.{length, getD}
+use Rattle.base.specs.Choice.{pick}
+use Rattle.fop.specs.Units.{Fdu, Frame, AD, BD, Unlock, SetVR, Refused, WordReceived, valid, invalid, other, Own, written, readWord}
+use Rattle.session.specs.Frames.{read}
+use Rattle.session.specs.Ends.{Settings, Ends}
+use Rattle.session.specs.Session.{Event, Linked, noUnit, enters, channels, wordCome, frameCome, step}
+
+-- Demand 3's events, and five more. A number that stands last is the room lent for a frame.
+pub data LinkEvent : Type 0 where
+  -- an event of demand 3
+  demanded : Event → LinkEvent
+  -- the oldest frame arrives at the receiver and also stays; the oldest word arrives at the sender and also stays
+  frameStays : LinkEvent
+  wordStays : ℕ → LinkEvent
+  -- a recorder repeats the frame of the unit at this place of Sent
+  frameAgain : ℕ → LinkEvent
+  -- octets that the frame reader refuses arrive at the receiver; octets that are refused as a control word arrive at the sender
+  noise : List ℕ → LinkEvent
+  wordNoise : List ℕ → ℕ → LinkEvent
+
+-- a type-AD frame; "Refused": the reader's answer is a refusal
+abbrev pub isAd : Frame → Bool
+isAd (AD u) = true
+isAd (BD o) = false
+isAd Unlock = false
+isAd (SetVR v) = false
+isAd (Refused r) = false
+
+abbrev pub isRefused : Frame → Bool
+isRefused (AD u) = false
+isRefused (BD o) = false
+isRefused Unlock = false
+isRefused (SetVR v) = false
+isRefused (Refused r) = true
+
+-- octets refused as a control word: with 10 (not four octets) or 7 (another channel's). An invalid word is no refusal, but event E15.
+abbrev pub isRefusedWord : WordReceived → Bool
+isRefusedWord (valid w) = false
+isRefusedWord invalid = false
+isRefusedWord (other r) = true
+
+-- a channel whose oldest stays: it stands there twice, one of the two arrives
+abbrev pub stays : {A : Type 0} → List A → List A
+stays [] = []
+stays (x ∷ xs) = x ∷ x ∷ xs
+
+-- of the frames, only a type-AD frame stays: type-B frames have no number, so the receiver takes each of them for a new one
+abbrev pub staysAd : Own → List (List ℕ) → List (List ℕ)
+staysAd own [] = []
+staysAd own (x ∷ fs) = pick (isAd (read own x)) (stays (x ∷ fs)) []
+
+-- octets that arrive before all that is under way, if so; otherwise nothing arrives
+abbrev pub arriving : Bool → List ℕ → List (List ℕ) → List (List ℕ)
+arriving b o xs = pick b (o ∷ xs) []
+
+-- document 01, "Limits": "PW = NW = W/2"
+abbrev pub negativeWindow : Settings → ℕ
+negativeWindow set = set .w / 2
+
+-- the unit at place i is one of the last `kept` units sent
+abbrev pub isKept : ℕ → List Fdu → ℕ → Bool
+isKept kept sent i = ltb i (length sent) && leb (length sent) (i + kept)
+
+-- a recorder that keeps so many units: the frame of the unit at place i, if it is one of these
+abbrev pub repeated : Own → ℕ → List Fdu → ℕ → Option (List ℕ)
+repeated own kept sent i = pick (isKept kept sent i) (some (written own (AD (getD sent i noUnit)))) none
+
+-- An event, with a recorder that keeps so many units. "An empty channel gives nothing".
+unfoldable pub linkStep : Settings → ℕ → (m : Ends) → LinkEvent → Linked m → Linked m
+linkStep set kept m (demanded e) σ = step set m e σ
+linkStep set kept m frameStays σ = frameCome set m (staysAd (set .own) (σ .frames)) σ
+linkStep set kept m (wordStays lent) σ = wordCome set m lent (stays (σ .words)) σ
+linkStep set kept m (frameAgain i) σ = channels m (enters (σ .frames) (repeated (set .own) kept (σ .history .sent) i)) (σ .words) σ
+linkStep set kept m (noise o) σ = frameCome set m (arriving (isRefused (read (set .own) o)) o (σ .frames)) σ
+linkStep set kept m (wordNoise o lent) σ = wordCome set m lent (arriving (isRefusedWord (readWord (set .own) o)) o (σ .words)) σ
+
+-- a list of them
+unfoldable pub linkRun : Settings → ℕ → (m : Ends) → List LinkEvent → Linked m → Linked m
+linkRun set kept m [] σ = σ
+linkRun set kept m (e ∷ es) σ = linkRun set kept m es (linkStep set kept m e σ)
