@@ -141,7 +141,7 @@ module _ (set : Settings) (vw : Within set) (m : Ends) (t : Tied set m) (σ : Li
   frame-refusal s fs e =
       ap (λ (a : ReceiverAnswer). a .refusal) (t .answerReceiver (frameArrives s) (σ .receiver) (R .goodReceiver))
       ∙ ap (λ (r : Receiver). (receiverAnswer (frameArrives s) r) .refusal) (R .farm)
-      ∙ oldest (κ .frames) s fs (fly-reads (set .n) (set .k) (κ .sent) (I .base .num) _ _ (κ .frames) (I .base .fly)) (sym e ∙ R .frames)
+      ∙ oldest (κ .frames) s fs (fly-reads (set .n) _ (κ .sent) (I .base .num) _ _ (κ .frames) (I .base .fly)) (sym e ∙ R .frames)
 
   abbrev pub Released-or-not : ReceiverAnswer → Type 0
   Released-or-not a = ((a .refusal ≡ 0) × (κ .released < length (κ .accepted))) ⊎ ((a .refusal ≡ 13) × (κ .released ≡ length (κ .accepted)))

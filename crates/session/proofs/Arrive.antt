@@ -4,7 +4,7 @@ use mathlib.Core.Path.{_≡_, refl, sym, ap, _∙_}
 use mathlib.Core.Bool.{Bool, true, false, false≢true}
 use mathlib.Core.List.{List, [], _∷_, _++_}
 use mathlib.Core.Option.{some}
-use Prim.Native.Nat.{ℕ, _-_, _≤_}
+use Prim.Native.Nat.{ℕ, _-_, _/_, _≤_}
 use native.Mathlib.Omega.{arith}
 use lib.ListN.{length, length-append}
 use borrow.Author.Tests.{ltb-true, ltb-false}
@@ -53,7 +53,7 @@ both-open a s o e = sym (both-true a) ∙ ap (λ (x : FarmState). both a (notWai
 
 -- an AD frame that is handed out
 module _ (set : Settings) (vw : Within set) (σ : Session) (I : Inv set σ) (u : Fdu) (fs : List Frame) (e : σ .frames ≡ AD u ∷ fs) where
-  fly : Fly (set .k) (σ .sent) (length (σ .accepted)) (length (σ .accepted)) (AD u ∷ fs)
+  fly : Fly (set .w / 2) (σ .sent) (length (σ .accepted)) (length (σ .accepted)) (AD u ∷ fs)
   fly = rw e at (I .base .fly)
 
   num-is : u .ns ≡ advanced (set .n) (fly .0)

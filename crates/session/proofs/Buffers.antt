@@ -3,7 +3,7 @@
 use mathlib.Core.Path.{_≡_, sym, _∙_}
 use mathlib.Core.Bool.{true, false, false≢true}
 use mathlib.Core.List.{List, [], _∷_}
-use Prim.Native.Nat.{ℕ, _+_, _-_, _≤_}
+use Prim.Native.Nat.{ℕ, _+_, _-_, _/_, _≤_}
 use native.Mathlib.Omega.{arith}
 use lib.Dec.{ltb}
 use lib.ListN.{length, length-append}
@@ -105,7 +105,7 @@ word-stock set lent [] σ h = h
 word-stock set lent (w ∷ ws) σ h = sender-stock set (wordArrives (wordOctets (set .own) w)) lent (channels (σ .frames) ws σ) h
 
 frame-stock : (set : Settings) → Within set → (σ : Session) (l : List Frame) → Inv set σ
-    → Fly (set .k) (σ .sent) (length (σ .accepted)) (length (σ .accepted)) l → Stocked set σ → Stocked set (frameCome set (free set σ) l σ)
+    → Fly (set .w / 2) (σ .sent) (length (σ .accepted)) (length (σ .accepted)) l → Stocked set σ → Stocked set (frameCome set (free set σ) l σ)
 unfolding frameCome frameEvent receiver
 frame-stock set vw σ [] I f h = h
 frame-stock set vw σ (AD u ∷ fs) I f h =

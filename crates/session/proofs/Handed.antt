@@ -19,7 +19,7 @@ use Rattle.fop.specs.Table.{Action, Cell, cell, NotApplicable, FopEvent, table7
 use Rattle.fop.specs.Table.{AcceptBd, RejectBd, AddToWaitQueue, LookForFdu, LookForDirective, RemoveAcknowledgedFrames, InitiateAdRetransmission, InitiateBcRetransmission}
 use Rattle.fop.specs.Table.{ReleaseBcFrame, CancelTimer, StartTimer, Alert, Initialise, TransmitUnlock, TransmitSetVr, TransmitBd, SetVs, SetNnr, SetK}
 use Rattle.fop.specs.Table.{SetT1Initial, SetTransmissionLimit, SetTimeoutType, AdOutReady, BcOutReady, BdOutReady}
-use Rattle.fop.specs.Variables.{Work, Preset}
+use Rattle.fop.specs.Variables.{Work}
 use Rattle.fop.specs.Machine.{fdus, firstMarked, perform, performAll, performCell, lookForFdu, sendNext, sendWaiting, transmitAd, removeAcknowledged, fopDo}
 use Rattle.fop.specs.Variables.{begin}
 use Rattle.fop.specs.Effective.{effectiveOf, effective}
@@ -31,13 +31,13 @@ use Rattle.fop.specs.Table.{ifNotSuspended, Ignore, SetSuspendState, Suspend, R
 use Rattle.session.proofs.Ways.{look-ways}
 use Rattle.session.proofs.Core.{Session, addAll}
 use Rattle.session.proofs.Lists.{addAll-append, member-out}
-use Rattle.session.proofs.Values.{Mode, live, dead, bad, Given, word, unit, nothing, Reports, same-sent, new-sent, queue-length, queue-at}
+use Rattle.session.proofs.Values.{Bounds, Mode, live, dead, bad, Given, word, unit, nothing, Reports, same-sent, new-sent, queue-length, queue-at}
 use Rattle.session.proofs.Rows.{after, afterAll, modeOf, sound, cellOk, leads, Tested}
 use Rattle.session.proofs.Suspended.{suspend-all}
 use Rattle.session.proofs.Sender.{WInv, keeps}
 use Rattle.session.proofs.Queue.{found}
 use Rattle.session.proofs.Few.{purge-few}
-use Rattle.session.proofs.Inv.{Inv, Side, presetOf, row-passes, row-sound, row-begins}
+use Rattle.session.proofs.Inv.{Inv, Side, boundsOf, row-passes, row-sound, row-begins}
 use Rattle.session.proofs.Next.{historyOf}
 
 -- each AD frame of the list is a unit sent, at a place from C on; and there is one only where m is live
@@ -67,7 +67,7 @@ from-append m C s (Unlock ∷ fs) gs h g = from-append m C s fs gs h g
 from-append m C s (SetVR v ∷ fs) gs h g = from-append m C s fs gs h g
 from-append m C s (Refused r ∷ fs) gs h g = from-append m C s fs gs h g
 
-module _ (n : ℕ) (P : Preset) (C : ℕ) (gone : List (Option ℕ)) (acc sent0 : List Fdu) (fr0 : List Frame) (given : Given) (a : ℕ) (m0 : Mode) where
+module _ (n : ℕ) (P : Bounds) (C : ℕ) (gone : List (Option ℕ)) (acc sent0 : List Fdu) (fr0 : List Frame) (given : Given) (a : ℕ) (m0 : Mode) where
   abbrev Down : Mode → List Frame → Type 0
   Down live fs = (m0 ≡ live) × From m0 C (addAll n sent0 fs) fs
   Down dead fs = From m0 C (addAll n sent0 fs) fs
@@ -198,14 +198,14 @@ module _ (n : ℕ) (P : Preset) (C : ℕ) (gone : List (Option ℕ)) (acc sent0 
       (subst (λ (m : Mode). D m (performCell (cell xs s) w)) (leads given (w .fop .suspendState) (w .fop .state) xs s t)
       (from-all xs (modeOf (effective (w .fop))) w h d))
 
-start-from : (n C : ℕ) (P : Preset) (gone : List (Option ℕ)) (acc sent0 : List Fdu) (fr0 : List Frame) (given : Given) (a : ℕ) (m : Mode) (w : Work)
+start-from : (n C : ℕ) (P : Bounds) (gone : List (Option ℕ)) (acc sent0 : List Fdu) (fr0 : List Frame) (given : Given) (a : ℕ) (m : Mode) (w : Work)
     → w .frames ≡ []
     → D n P C gone acc sent0 fr0 given a m m w
 start-from n C P gone acc sent0 fr0 given a live w e = (refl, rw e tt)
 start-from n C P gone acc sent0 fr0 given a dead w e = rw e tt
 start-from n C P gone acc sent0 fr0 given a bad w e = tt
 
-end-from : (n C : ℕ) (P : Preset) (gone : List (Option ℕ)) (acc sent0 : List Fdu) (fr0 : List Frame) (given : Given) (a : ℕ) (m0 m : Mode) (w : Work)
+end-from : (n C : ℕ) (P : Bounds) (gone : List (Option ℕ)) (acc sent0 : List Fdu) (fr0 : List Frame) (given : Given) (a : ℕ) (m0 m : Mode) (w : Work)
     → T (sound m) → D n P C gone acc sent0 fr0 given a m0 m w → From m0 C (addAll n sent0 (w .frames)) (w .frames)
 end-from n C P gone acc sent0 fr0 given a m0 live w g d = d .1
 end-from n C P gone acc sent0 fr0 given a m0 dead w g d = d
@@ -217,13 +217,13 @@ module _ (set : Settings) (σ : Session) (I : Inv set σ) where
       → From (modeOf (effective (σ .fop))) (length (σ .confirmed)) (addAll (set .n) (σ .sent) ((fopDo e o v (σ .fop)) .frames)) ((fopDo e o v (σ .fop)) .frames)
   unfolding fopDo
   row-from given a e o v t l r =
-      end-from (set .n) (length (σ .confirmed)) (presetOf set) (σ .denied) (σ .accepted) (σ .sent) (σ .frames) given a (modeOf (effective (σ .fop)))
+      end-from (set .n) (length (σ .confirmed)) (boundsOf set) (σ .denied) (σ .accepted) (σ .sent) (σ .frames) given a (modeOf (effective (σ .fop)))
       (modeOf (effective ((fopDo e o v (σ .fop)) .fop))) (fopDo e o v (σ .fop))
       (row-sound set σ I given e t o v)
-      (cell-from (set .n) (presetOf set) (length (σ .confirmed)) (σ .denied) (σ .accepted) (σ .sent) (σ .frames) given a (modeOf (effective (σ .fop)))
+      (cell-from (set .n) (boundsOf set) (length (σ .confirmed)) (σ .denied) (σ .accepted) (σ .sent) (σ .frames) given a (modeOf (effective (σ .fop)))
       (cell78 (table78 e) (σ .fop .state)) (begin (some e) o v (σ .fop))
       (row-passes set σ I given e t) (row-begins set σ I given a o v l r (some e))
-      (start-from (set .n) (length (σ .confirmed)) (presetOf set) (σ .denied) (σ .accepted) (σ .sent) (σ .frames) given a (modeOf (effective (σ .fop)))
+      (start-from (set .n) (length (σ .confirmed)) (boundsOf set) (σ .denied) (σ .accepted) (σ .sent) (σ .frames) given a (modeOf (effective (σ .fop)))
       (begin (some e) o v (σ .fop)) refl))
 
   -- a sender in service has denied nothing

@@ -4,7 +4,7 @@ use mathlib.Core.Path.{_≡_, refl, sym, ap, _∙_}
 use mathlib.Core.Bool.{Bool, true, false, false≢true}
 use mathlib.Core.List.{List, [], _∷_, _++_, append-nil}
 use mathlib.Core.Option.{Option, none, some}
-use Prim.Native.Nat.{ℕ, _+_, _%_, _≤_, _<_}
+use Prim.Native.Nat.{ℕ, _+_, _/_, _%_, _≤_, _<_}
 use native.Mathlib.Nat.{zero-add}
 use native.Mathlib.Omega.{arith}
 use lib.Dec.{leb, eqb, T}
@@ -38,7 +38,7 @@ use Rattle.session.proofs.Suspended.{unsuspended}
 use Rattle.session.proofs.Core.{Session, addAll, firstOf, answered, sender, goes, channels, wordCome}
 use Rattle.session.proofs.Lists.{iota, iota-append, length-iota}
 use Rattle.session.proofs.Chan.{Wds, wds-le, wds-lower}
-use Rattle.session.proofs.Values.{Base, Live, Dead, Mode, live, dead, bad, Given, word, unit, nothing, Reports, WaitOk, WI, run-places}
+use Rattle.session.proofs.Values.{Bounds, Base, Live, Dead, Mode, live, dead, bad, Given, word, unit, nothing, Reports, WaitOk, WI, run-places}
 use Rattle.session.proofs.Rows.{modeOf, sound, rowAny, Tested, any, Passes, passes, do-stays, do-sound, do-unsuspended, word-ok, timer-ok, ad-ok, bd-ok, lower-ok, terminate-ok}
 use Rattle.session.proofs.Sender.{do-keeps, WInv}
 use Rattle.session.proofs.Octets.{word-back}
@@ -47,6 +47,10 @@ use Rattle.session.proofs.Bds.{bdsOf, bd-handed}
 -- the sender's part of the settings
 abbrev pub presetOf : Settings → Preset
 presetOf s = record { k = s .k; transmissionLimit = s .limit; t1Initial = s .t1; timeoutType = s .timeoutType }
+
+-- with half the receiver's window
+abbrev pub boundsOf : Settings → Bounds
+boundsOf s = record { preset = presetOf s; half = s .w / 2 }
 
 -- the sender's part
 abbrev pub Side : Mode → ℕ → ℕ → List Fdu → List (Option ℕ) → List Fdu → ℕ → ℕ → Type 0
@@ -75,7 +79,7 @@ pub record Suspension (set : Settings) (state : State) (suspendState : ℕ) : Ty
 
 -- the invariant; it knows nothing of buffers
 pub record Inv (set : Settings) (σ : Session) : Type 0 where
-  pub base : Base (set .n) (set .k) (length (σ .confirmed)) (σ .accepted) (σ .sent) (σ .frames) []
+  pub base : Base (set .n) (boundsOf set) (length (σ .confirmed)) (σ .accepted) (σ .sent) (σ .frames) []
   pub side : Side (modeOf (effective (σ .fop))) (set .n) (length (σ .confirmed)) (σ .sent) (σ .denied) (fdus (σ .fop .queues .sentQueue)) (σ .fop .numbers .vs) (σ .fop .numbers .nnr)
   pub suspension : Suspension set (σ .fop .state) (σ .fop .suspendState)
   pub isSet : σ .fop .preset ≡ presetOf set
@@ -92,10 +96,10 @@ conf-iota l m c e f =
     rw (k, ← iota-append 0 (length l) c, zero-add (length l), ← f, ← e)
 
 -- the count confirmed takes in what this event confirmed
-rebase : (n K C D : ℕ) (acc sent : List Fdu) (fr : List Frame) (conf : List Fdu) → D ≡ C + length conf → Base n K C acc sent fr conf
-    → Base n K D acc sent fr []
-rebase n K C D acc sent fr conf e b =
-    record { num = b .num; order = b .order; behind = b .behind; truly = omega arith; room = omega arith; small = b .small; fly = b .fly }
+rebase : (n : ℕ) (P : Bounds) (C D : ℕ) (acc sent : List Fdu) (fr : List Frame) (conf : List Fdu) → D ≡ C + length conf → Base n P C acc sent fr conf
+    → Base n P D acc sent fr []
+rebase n P C D acc sent fr conf e b =
+    record { num = b .num; order = b .order; behind = b .behind; truly = omega arith; room = omega arith; fits = b .fits; small = b .small; fly = b .fly }
 
 -- what is left of Sent behind what is confirmed
 recut : (C D : ℕ) (sent conf q : List Fdu) → D ≡ C + length conf → conf ++ q ≡ drop C sent → q ≡ drop D sent
@@ -103,9 +107,9 @@ recut C D sent conf q e c =
     sym (drop-append-seam conf q) ∙ ap (λ (l : List Fdu). drop (length conf) l) c ∙ drop-drop (length conf) C sent ∙ ap (λ (i : ℕ). drop i sent) (sym e)
 
 -- the sender's part before an event
-pub enter : (m : Mode) (n : ℕ) (P : Preset) (C : ℕ) (acc sent : List Fdu) (fr : List Frame) (gone : List (Option ℕ)) (q : List Fdu) (vs nn : ℕ) (p : Preset)
+pub enter : (m : Mode) (n : ℕ) (P : Bounds) (C : ℕ) (acc sent : List Fdu) (fr : List Frame) (gone : List (Option ℕ)) (q : List Fdu) (vs nn : ℕ) (p : Preset)
     (given : Given) (a v : ℕ) (wt : Option (List ℕ)) (o : List ℕ)
-    → Base n (P .k) C acc sent fr [] → Side m n C sent gone q vs nn → C ≤ a → Reports given n a (length acc) v o → p ≡ P → WaitOk wt
+    → Base n P C acc sent fr [] → Side m n C sent gone q vs nn → C ≤ a → Reports given n a (length acc) v o → p ≡ P .preset → WaitOk wt
     → WI n P C gone acc given a m sent (fr ++ []) [] [] q vs nn p v wt o
 enter live n P C acc sent fr gone q vs nn p given a v wt o b s l r e k = rw (append-nil fr) (b, s, omega arith, r, e, k)
 enter dead n P C acc sent fr gone q vs nn p given a v wt o b s l r e k = rw (append-nil fr) (b, s, omega arith, r, e, k)
@@ -118,17 +122,17 @@ is-sound dead n C sent gone q vs nn s = tt
 is-sound bad n C sent gone q vs nn s = s
 
 -- what an event leaves
-pub record Left (n : ℕ) (P : Preset) (C : ℕ) (acc : List Fdu) (a : ℕ) (sent : List Fdu) (fr : List Frame) (conf : List Fdu) (p : Preset)
+pub record Left (n : ℕ) (P : Bounds) (C : ℕ) (acc : List Fdu) (a : ℕ) (sent : List Fdu) (fr : List Frame) (conf : List Fdu) (p : Preset)
     (wt : Option (List ℕ)) : Type 0 where
-  pub base : Base n (P .k) C acc sent fr conf
+  pub base : Base n P C acc sent fr conf
   pub most : C + length conf ≤ a
   pub more : List Fdu
   pub cut : conf ++ more ≡ drop C sent
-  pub isSet : p ≡ P
+  pub isSet : p ≡ P .preset
   pub waiting : WaitOk wt
 
 -- which the invariant of either mode gives
-pub base-of : (m : Mode) (n : ℕ) (P : Preset) (C : ℕ) (gone : List (Option ℕ)) (acc : List Fdu) (given : Given) (a : ℕ) (sent : List Fdu) (fr : List Frame)
+pub base-of : (m : Mode) (n : ℕ) (P : Bounds) (C : ℕ) (gone : List (Option ℕ)) (acc : List Fdu) (given : Given) (a : ℕ) (sent : List Fdu) (fr : List Frame)
     (conf den q : List Fdu) (vs nn : ℕ) (p : Preset) (v : ℕ) (wt : Option (List ℕ)) (o : List ℕ)
     → T (sound m) → WI n P C gone acc given a m sent fr conf den q vs nn p v wt o → Left n P C acc a sent fr conf p wt
 base-of live n P C gone acc given a sent fr conf den q vs nn p v wt o g h =
@@ -138,7 +142,7 @@ base-of dead n P C gone acc given a sent fr conf den q vs nn p v wt o g h =
 base-of bad n P C gone acc given a sent fr conf den q vs nn p v wt o g h = absurd g
 
 -- and the sender's part after it
-leave : (m : Mode) (n : ℕ) (P : Preset) (C D : ℕ) (gone : List (Option ℕ)) (acc : List Fdu) (given : Given) (a : ℕ) (sent : List Fdu) (fr : List Frame)
+leave : (m : Mode) (n : ℕ) (P : Bounds) (C D : ℕ) (gone : List (Option ℕ)) (acc : List Fdu) (given : Given) (a : ℕ) (sent : List Fdu) (fr : List Frame)
     (conf den q : List Fdu) (vs nn : ℕ) (p : Preset) (v : ℕ) (wt : Option (List ℕ)) (o : List ℕ) → D ≡ C + length conf → T (sound m)
     → WI n P C gone acc given a m sent fr conf den q vs nn p v wt o
     → Side m n D sent (gone ++ places sent (firstOf den) (length den)) q vs nn
@@ -162,15 +166,15 @@ leave bad n P C D gone acc given a sent fr conf den q vs nn p v wt o e g h = abs
 
 -- an answer, with ws the words left, and a the count that the word in hand reports, or the count confirmed
 answered-keeps : (set : Settings) (σ : Session) (ws : List Word) (given : Given) (a : ℕ) (w : Work) → Inv set σ → Suspension set (w .fop .state) (w .fop .suspendState) → T (sound (modeOf (effective (w .fop))))
-    → WInv (set .n) (presetOf set) (length (σ .confirmed)) (σ .denied) (σ .accepted) (σ .sent) (σ .frames) given a (modeOf (effective (w .fop))) w
+    → WInv (set .n) (boundsOf set) (length (σ .confirmed)) (σ .denied) (σ .accepted) (σ .sent) (σ .frames) given a (modeOf (effective (w .fop))) w
     → Wds (set .n) a (length (σ .accepted)) ws → Inv set (answered (set .n) w (channels (σ .frames) ws σ))
 unfolding answered channels
 answered-keeps set σ ws given a w I ss g h ww =
     let n : ℕ = set .n in
-    let P : Preset = presetOf set in
+    let P : Bounds = boundsOf set in
     let C : ℕ = length (σ .confirmed) in
     let s : List Fdu = addAll (set .n) (σ .sent) (w .frames) in
-    let b : Left (set .n) (presetOf set) (length (σ .confirmed)) (σ .accepted) a (addAll (set .n) (σ .sent) (w .frames)) (σ .frames ++ w .frames)
+    let b : Left (set .n) (boundsOf set) (length (σ .confirmed)) (σ .accepted) a (addAll (set .n) (σ .sent) (w .frames)) (σ .frames ++ w .frames)
     (w .confirmed) (w .fop .preset) (w .fop .queues .waitQueue) =
     base-of (modeOf (effective (w .fop))) n P C (σ .denied) (σ .accepted) given a s (σ .frames ++ w .frames) (w .confirmed) (w .denied) (fdus (w .fop .queues .sentQueue))
     (w .fop .numbers .vs) (w .fop .numbers .nnr) (w .fop .preset) (w .asked .value) (w .fop .queues .waitQueue) (w .asked .octets) g h in
@@ -184,7 +188,7 @@ answered-keeps set σ ws given a w I ss g h ww =
     let D : length (σ .confirmed ++ places s (firstOf (w .confirmed)) (length (w .confirmed))) ≡ C + length (w .confirmed) =
     length-append (σ .confirmed) _ ∙ ap (λ (x : ℕ). C + x) (ap length p ∙ length-iota C (length (w .confirmed))) in
     record {
-      base = rebase n (set .k) C _ (σ .accepted) s (σ .frames ++ w .frames) (w .confirmed) D (b .base);
+      base = rebase n P C _ (σ .accepted) s (σ .frames ++ w .frames) (w .confirmed) D (b .base);
       side = leave (modeOf (effective (w .fop))) n P C _ (σ .denied) (σ .accepted) given a s (σ .frames ++ w .frames) (w .confirmed) (w .denied)
           (fdus (w .fop .queues .sentQueue))
           (w .fop .numbers .vs) (w .fop .numbers .nnr) (w .fop .preset) (w .asked .value) (w .fop .queues .waitQueue) (w .asked .octets) D g h;
@@ -220,16 +224,16 @@ module _ (set : Settings) (σ : Session) (I : Inv set σ) (given : Given) (e : F
 module _ (set : Settings) (σ : Session) (I : Inv set σ) (given : Given) (a : ℕ) (o : List ℕ) (v : ℕ) (l : length (σ .confirmed) ≤ a)
     (rp : Reports given (set .n) a (length (σ .accepted)) v o) where
   abbrev W : Mode → Work → Type 0
-  W m w = WInv (set .n) (presetOf set) (length (σ .confirmed)) (σ .denied) (σ .accepted) (σ .sent) (σ .frames) given a m w
+  W m w = WInv (set .n) (boundsOf set) (length (σ .confirmed)) (σ .denied) (σ .accepted) (σ .sent) (σ .frames) given a m w
 
   pub row-begins : (e : Option FopEvent) → W (modeOf (effective (σ .fop))) (begin e o v (σ .fop))
   row-begins e =
-      enter (modeOf (effective (σ .fop))) (set .n) (presetOf set) _ (σ .accepted) (σ .sent) (σ .frames) (σ .denied) _ _ _ (σ .fop .preset) given a v
+      enter (modeOf (effective (σ .fop))) (set .n) (boundsOf set) _ (σ .accepted) (σ .sent) (σ .frames) (σ .denied) _ _ _ (σ .fop .preset) given a v
       (σ .fop .queues .waitQueue) o (I .base) (I .side) l rp (I .isSet) (I .waiting)
 
   row-does : (e : FopEvent) → Tested given e (σ .fop .suspendState) → W (modeOf (effective ((fopDo e o v (σ .fop)) .fop))) (fopDo e o v (σ .fop))
   row-does e t =
-      do-keeps (set .n) (presetOf set) (length (σ .confirmed)) (σ .denied) (σ .accepted) (σ .sent) (σ .frames) given a e o v (σ .fop) (row-passes set σ I given e t)
+      do-keeps (set .n) (boundsOf set) (length (σ .confirmed)) (σ .denied) (σ .accepted) (σ .sent) (σ .frames) given a e o v (σ .fop) (row-passes set σ I given e t)
       (row-begins (some e))
 
 -- a row of the table keeps the invariant
@@ -246,7 +250,7 @@ pub row-bound : (set : Settings) (σ : Session) (given : Given) (a : ℕ) (e : F
     → length (σ .confirmed) + length ((fopDo e o v (σ .fop)) .confirmed) ≤ a
 row-bound set σ given a e o v I t l rp =
     let w : Work = fopDo e o v (σ .fop) in
-    base-of (modeOf (effective (w .fop))) (set .n) (presetOf set) (length (σ .confirmed)) (σ .denied) (σ .accepted) given a _ _ _ _ _ _ _
+    base-of (modeOf (effective (w .fop))) (set .n) (boundsOf set) (length (σ .confirmed)) (σ .denied) (σ .accepted) given a _ _ _ _ _ _ _
     (w .fop .preset) (w .asked .value) (w .fop .queues .waitQueue) (w .asked .octets) (row-sound set σ I given e t o v) (row-does set σ I given a o v l rp e t)
     .most
 

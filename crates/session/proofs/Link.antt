@@ -3,7 +3,7 @@ use mathlib.Core.Path.{_≡_, refl, sym, ap, _∙_, subst}
 use mathlib.Core.Bool.{Bool, true, false}
 use mathlib.Core.List.{List, [], _∷_, _++_, map, append-nil, map-append}
 use mathlib.Core.Option.{some}
-use Prim.Native.Nat.{_-_, ℕ, suc, _+_, _≤_, max}
+use Prim.Native.Nat.{_-_, _/_, ℕ, suc, _+_, _≤_, max}
 use native.Mathlib.Omega.{arith}
 use lib.Dec.{leb}
 use lib.ListN.{length}
@@ -90,7 +90,7 @@ reads-of set e lent κ b J =
     let τ : Session = core.answered (set .n) (work (set .own) e (κ .fop)) κ in
     let K : Inv set (core.answered (set .n) (work (set .own) e (κ .fop)) κ) = rw b at J in
     reads-last (κ .frames) ((work (set .own) e (κ .fop)) .frames)
-    (fly-reads (set .n) (set .k) (τ .sent) (K .base .num) (length (τ .accepted)) (length (τ .accepted)) (τ .frames) (K .base .fly))
+    (fly-reads (set .n) _ (τ .sent) (K .base .num) (length (τ .accepted)) (length (τ .accepted)) (τ .frames) (K .base .fly))
 
 -- what the answer's octets say of Sent, and of the channel
 module _ (set : Settings) (vw : Within set) where
@@ -207,7 +207,7 @@ module _ (set : Settings) (vw : Within set) where
     word-in σ κ lent (w ∷ ws) R J = to-sender σ κ (wordArrives (wordOctets (set .own) w)) lent ws R J
 
     -- no frame of the session locks the receiver out
-    unlocks : (κ : Session) (x : Frame) (fs : List Frame) → Inv set κ → Fly (set .k) (κ .sent) (length (κ .accepted)) (length (κ .accepted)) (x ∷ fs)
+    unlocks : (κ : Session) (x : Frame) (fs : List Frame) → Inv set κ → Fly (set .w / 2) (κ .sent) (length (κ .accepted)) (length (κ .accepted)) (x ∷ fs)
         → locks (some (frameEvent (set .w) (free set κ) x (κ .farm))) ≡ false
     unfolding frameEvent
     unlocks κ (AD u) fs I h = ad-cases set vw κ (free set κ) u fs I h (λ e. locks (some e) ≡ false) (λ i p. refl) (λ i p. refl) (λ i. refl) (λ i. refl)
@@ -217,14 +217,14 @@ module _ (set : Settings) (vw : Within set) where
     unlocks κ (Refused r) fs I h = absurd h
 
     -- the histories after the receiver's answer
-    said : (κ : Session) (x : Frame) (fs : List Frame) → Inv set κ → Fly (set .k) (κ .sent) (length (κ .accepted)) (length (κ .accepted)) (x ∷ fs)
+    said : (κ : Session) (x : Frame) (fs : List Frame) → Inv set κ → Fly (set .w / 2) (κ .sent) (length (κ .accepted)) (length (κ .accepted)) (x ∷ fs)
         → afterFrame x (answerTo κ x) (historyOf κ) ≡ historyOf (core.frameCome set (free set κ) (x ∷ fs) κ)
     unfolding core.frameCome core.receiver afterFrame
     said κ x fs I h = rw (unlocks κ x fs I h, accepted-is set vw κ I x fs h, acceptedBd-is set vw κ I x)
 
     -- a frame arrives
     arrives : (σ : Linked m) (κ : Session) (x : Frame) (fs : List Frame) → Rel σ κ → Inv set κ
-        → Fly (set .k) (κ .sent) (length (κ .accepted)) (length (κ .accepted)) (x ∷ fs)
+        → Fly (set .w / 2) (κ .sent) (length (κ .accepted)) (length (κ .accepted)) (x ∷ fs)
         → Readable x → Stocked set (core.frameCome set (free set κ) (x ∷ fs) κ)
         → Rel (ses.frameCome set m (map (written (set .own)) (x ∷ fs)) σ) (core.frameCome set (free set κ) (x ∷ fs) κ)
     unfolding ses.frameCome core.frameCome core.receiver receiverNext receiverAnswer farm.answered channel.answered
@@ -253,13 +253,13 @@ module _ (set : Settings) (vw : Within set) where
         }
 
     -- the oldest frame to the receiver
-    got : (σ : Linked m) (κ : Session) (fs : List Frame) → Rel σ κ → Inv set κ → Fly (set .k) (κ .sent) (length (κ .accepted)) (length (κ .accepted)) fs
+    got : (σ : Linked m) (κ : Session) (fs : List Frame) → Rel σ κ → Inv set κ → Fly (set .w / 2) (κ .sent) (length (κ .accepted)) (length (κ .accepted)) fs
         → Stocked set (core.frameCome set (free set κ) fs κ)
         → Rel (ses.frameCome set m (map (written (set .own)) fs) σ) (core.frameCome set (free set κ) fs κ)
     unfolding ses.frameCome core.frameCome
     got σ κ [] R I h S = R
     got σ κ (x ∷ fs) R I h S =
-        arrives σ κ x fs R I h (fly-reads (set .n) (set .k) (κ .sent) (I .base .num) _ _ (x ∷ fs) h .0) S
+        arrives σ κ x fs R I h (fly-reads (set .n) _ (κ .sent) (I .base .num) _ _ (x ∷ fs) h .0) S
 
     -- a release; b says whether a buffer is taken
     gave : (b : Bool) (σ : Linked m) (κ : Session) → Rel σ κ → Stocked set (core.releases b κ)

@@ -37,7 +37,7 @@ use Rattle.session.proofs.Values.{Live, live, word, same-sent, new-sent
 use Rattle.session.proofs.Rows.{modeOf}
 use Rattle.session.proofs.Queue.{found}
 use Rattle.session.proofs.Sender.{acks}
-use Rattle.session.proofs.Inv.{Inv, Side, presetOf, enter, goes-is, word-read, fine}
+use Rattle.session.proofs.Inv.{Inv, Side, boundsOf, enter, goes-is, word-read, fine}
 
 -- the histories; the invariant says that the receiver never locks out
 abbrev pub historyOf : Session → History
@@ -182,8 +182,8 @@ module _ (set : Settings) (σ : Session) (I : Inv set σ) (sv : inService (σ .f
       → (acknowledged (σ .fop .numbers .nnr) v (σ .fop .queues .sentQueue) ≡ take (offset v (σ .fop .numbers .nnr)) (fdus (σ .fop .queues .sentQueue)))
       × (fdus (unacknowledged (σ .fop .numbers .nnr) v (σ .fop .queues .sentQueue)) ≡ drop (offset v (σ .fop .numbers .nnr)) (fdus (σ .fop .queues .sentQueue)))
   acked a v l e m =
-      acks (set .n) (presetOf set) (length (σ .confirmed)) (σ .denied) (σ .accepted) (σ .sent) (σ .frames) a (begin none [] v (σ .fop))
-      (enter live (set .n) (presetOf set) (length (σ .confirmed)) (σ .accepted) (σ .sent) (σ .frames) (σ .denied) (fdus (σ .fop .queues .sentQueue))
+      acks (set .n) (boundsOf set) (length (σ .confirmed)) (σ .denied) (σ .accepted) (σ .sent) (σ .frames) a (begin none [] v (σ .fop))
+      (enter live (set .n) (boundsOf set) (length (σ .confirmed)) (σ .accepted) (σ .sent) (σ .frames) (σ .denied) (fdus (σ .fop .queues .sentQueue))
       (σ .fop .numbers .vs) (σ .fop .numbers .nnr) (σ .fop .preset) word a v (σ .fop .queues .waitQueue) [] (I .base) lv l (e, m) (I .isSet) (I .waiting))
 
   -- the window has room

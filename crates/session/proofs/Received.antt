@@ -3,7 +3,7 @@ use mathlib.Core.Path.{_≡_, refl, ap}
 use mathlib.Core.Bool.{true}
 use mathlib.Core.Option.{some}
 use mathlib.Core.List.{List, [], _∷_}
-use Prim.Native.Nat.{ℕ, _+_, _-_, _≤_, _<_}
+use Prim.Native.Nat.{ℕ, _+_, _-_, _/_, _≤_, _<_}
 use native.Mathlib.Omega.{arith}
 use lib.Dec.{ltb}
 use lib.ListN.{length, length-append}
@@ -102,7 +102,7 @@ e6-adds l o Wait = refl
 e6-adds l o Lockout = refl
 
 module _ (set : Settings) (vw : Within set) (κ : Session) (I : Inv set κ) where
-  pub accepted-is : (x : Frame) (fs : List Frame) → Fly (set .k) (κ .sent) (length (κ .accepted)) (length (κ .accepted)) (x ∷ fs)
+  pub accepted-is : (x : Frame) (fs : List Frame) → Fly (set .w / 2) (κ .sent) (length (κ .accepted)) (length (κ .accepted)) (x ∷ fs)
       → addAccepted (κ .accepted) x (answerBy (frameEvent (set .w) (free set κ) x (κ .farm)) (κ .farm .state) x)
       ≡ taken x (isHanded (unitOf (frameEvent (set .w) (free set κ) x (κ .farm)) (κ .farm .state))) (κ .accepted)
   unfolding frameEvent
@@ -141,7 +141,7 @@ e6-takes n Wait = omega arith
 e6-takes n Lockout = omega arith
 
 pub used-is : (set : Settings) → Within set → (κ : Session) → Inv set κ → κ .released ≤ length (κ .accepted) → (x : Frame) (fs : List Frame)
-    → Fly (set .k) (κ .sent) (length (κ .accepted)) (length (κ .accepted)) (x ∷ fs)
+    → Fly (set .w / 2) (κ .sent) (length (κ .accepted)) (length (κ .accepted)) (x ∷ fs)
     → used κ + takes (unitOf (frameEvent (set .w) (free set κ) x (κ .farm)) (κ .farm .state))
     ≡ length (taken x (isHanded (unitOf (frameEvent (set .w) (free set κ) x (κ .farm)) (κ .farm .state))) (κ .accepted)) - κ .released
 unfolding frameEvent

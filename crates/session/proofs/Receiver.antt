@@ -35,7 +35,7 @@ use Rattle.session.proofs.Inv.{Inv, Rcv, isLocked, words-are, ad-keeps,
 
 -- a receiver that accepted no AD unit, with fs the frames left
 unchanged : (set : Settings) (σ : Session) (v : Variables) (b : List (List ℕ)) (fs : List Frame) (r : ℕ) → Inv set σ
-    → Fly (set .k) (σ .sent) (length (σ .accepted)) (length (σ .accepted)) fs → Sub (b ++ bdsOf fs) (σ .sentBd)
+    → Fly (set .w / 2) (σ .sent) (length (σ .accepted)) (length (σ .accepted)) fs → Sub (b ++ bdsOf fs) (σ .sentBd)
     → Rcv set v (length (σ .accepted)) (length b)
     → Inv set (receiver v (σ .accepted) b r fs σ)
 unfolding receiver
@@ -45,7 +45,7 @@ unchanged set σ v b fs r I f s h =
 -- one that accepted the expected unit
 accepted : (set : Settings) (σ : Session) (v : Variables) (u : Fdu) (fs : List Frame) → Inv set σ
     → u ≡ getD (σ .sent) (length (σ .accepted)) noUnit → length (σ .accepted) < length (σ .sent)
-    → Fly (set .k) (σ .sent) (length (σ .accepted)) (suc (length (σ .accepted))) fs → Sub (σ .acceptedBd ++ bdsOf fs) (σ .sentBd)
+    → Fly (set .w / 2) (σ .sent) (length (σ .accepted)) (suc (length (σ .accepted))) fs → Sub (σ .acceptedBd ++ bdsOf fs) (σ .sentBd)
     → Rcv set v (suc (length (σ .accepted))) (length (σ .acceptedBd))
     → Inv set (receiver v (σ .accepted ++ (u ∷ [])) (σ .acceptedBd) (σ .released) fs σ)
 unfolding receiver
@@ -58,8 +58,9 @@ accepted set σ v u fs I eu b f s h =
         behind = omega arith;
         truly = omega arith;
         room = I .base .room;
+        fits = I .base .fits;
         small = I .base .small;
-        fly = fly-mono (set .k) (σ .sent) _ _ _ _ fs (omega arith) (omega arith) f;
+        fly = fly-mono (set .w / 2) (σ .sent) _ _ _ _ fs (omega arith) (omega arith) f;
       };
       side = I .side;
       suspension = I .suspension;
@@ -94,13 +95,13 @@ module _ (set : Settings) (σ : Session) (u : Fdu) (fs : List Frame) (I : Inv se
   R e s =
       Inv set (receiver (stepOf e 0 (at s (σ .farm))) (taken (AD u) (isHanded (unitOf e s)) (σ .accepted)) (σ .acceptedBd) (σ .released) fs σ)
 
-  module _ (fl : Fly (set .k) (σ .sent) (length (σ .accepted)) (length (σ .accepted)) fs) (sb : Sub (σ .acceptedBd ++ bdsOf fs) (σ .sentBd)) where
+  module _ (fl : Fly (set .w / 2) (σ .sent) (length (σ .accepted)) (length (σ .accepted)) fs) (sb : Sub (σ .acceptedBd ++ bdsOf fs) (σ .sentBd)) where
     stays : (v : Variables) → Rcv set v (length (σ .accepted)) (length (σ .acceptedBd))
         → Inv set (receiver v (σ .accepted) (σ .acceptedBd) (σ .released) fs σ)
     stays v h = unchanged set σ v (σ .acceptedBd) fs (σ .released) I fl sb h
 
     takes : u ≡ getD (σ .sent) (length (σ .accepted)) noUnit → length (σ .accepted) < length (σ .sent)
-        → Fly (set .k) (σ .sent) (length (σ .accepted)) (suc (length (σ .accepted))) fs
+        → Fly (set .w / 2) (σ .sent) (length (σ .accepted)) (suc (length (σ .accepted))) fs
         → (s : FarmState) → isLocked s ≡ false → R E1 s
     unfolding table stepOf performAll perform accepts
     takes e b f Open l =
@@ -130,7 +131,7 @@ module _ (set : Settings) (σ : Session) (u : Fdu) (fs : List Frame) (I : Inv se
 -- which events an AD frame of the session can be: P holds of it if P holds of E1 and E2 where it is expected, of E3 where units before it are
 -- missing, and of E4 where it was accepted before
 pub ad-cases : (set : Settings) → Within set → (σ : Session) (room : Bool) (u : Fdu) (fs : List Frame) → Inv set σ
-    → (h : Fly (set .k) (σ .sent) (length (σ .accepted)) (length (σ .accepted)) (AD u ∷ fs)) → (P : FarmEvent → Type 0)
+    → (h : Fly (set .w / 2) (σ .sent) (length (σ .accepted)) (length (σ .accepted)) (AD u ∷ fs)) → (P : FarmEvent → Type 0)
     → (h .0 ≡ length (σ .accepted) → both room (notWait (σ .farm .state)) ≡ true → P E1)
     → (h .0 ≡ length (σ .accepted) → both room (notWait (σ .farm .state)) ≡ false → P E2)
     → (length (σ .accepted) < h .0 → P E3)
@@ -139,8 +140,8 @@ pub ad-cases : (set : Settings) → Within set → (σ : Session) (room : Bool) 
 unfolding adEvent
 ad-cases set vw σ room u fs I h P p1 p2 p3 p4 = go (ltb (h .0) (length (σ .accepted))) refl
   where
-    half : (set .k ≤ set .w / 2) × (set .w / 2 ≤ 127)
-    half = (vw .fits, omega (arith, vw .farmMost))
+    half : set .w / 2 ≤ 127
+    half = omega (arith, vw .farmMost)
 
     d-is : offset (u .ns) (σ .farm .vr) ≡ offset (advanced (set .n) (h .0)) (advanced (set .n) (length (σ .accepted)))
     d-is =
@@ -154,7 +155,7 @@ ad-cases set vw σ room u fs I h P p1 p2 p3 p4 = go (ltb (h .0) (length (σ .acc
         let l : h .0 < length (σ .accepted) = ltb-true _ _ b in
         let e : offset (u .ns) (σ .farm .vr) ≡ 256 - (length (σ .accepted) - h .0) =
         d-is ∙ offset-back (set .n) (h .0) (length (σ .accepted)) l (omega (arith, h .3, I .base .small)) in
-        let k : length (σ .accepted) - h .0 ≤ set .k = omega (arith, h .3) in
+        let k : length (σ .accepted) - h .0 ≤ set .w / 2 = omega (arith, h .3) in
         let z : offset (u .ns) (σ .farm .vr) ≢ 0 = λ q. omega (arith, e, q, half, k) in
         let y : set .w / 2 ≤ offset (u .ns) (σ .farm .vr) = omega (arith, e, half, k) in
         let x : 256 ≤ offset (u .ns) (σ .farm .vr) + set .w / 2 = omega (arith, e, half, k) in
@@ -168,7 +169,7 @@ ad-cases set vw σ room u fs I h P p1 p2 p3 p4 = go (ltb (h .0) (length (σ .acc
         let l : length (σ .accepted) ≤ h .0 = ltb-false _ _ b in
         let e : offset (u .ns) (σ .farm .vr) ≡ h .0 - length (σ .accepted) =
         d-is ∙ offset-advanced (set .n) (h .0) (length (σ .accepted)) l (omega (arith, h .4, I .base .small)) in
-        let k : h .0 - length (σ .accepted) < set .k = omega (arith, h .4) in
+        let k : h .0 - length (σ .accepted) < set .w / 2 = omega (arith, h .4) in
         by-pick P (eqb (offset (u .ns) (σ .farm .vr)) 0)
         (λ t. let i : h .0 ≡ length (σ .accepted) = omega (arith, eqb-true (offset (u .ns) (σ .farm .vr)) 0 t, e) in
         by-pick P (both room (notWait (σ .farm .state))) (λ p. p1 i p) (λ p. p2 i p))
@@ -176,7 +177,7 @@ ad-cases set vw σ room u fs I h P p1 p2 p3 p4 = go (ltb (h .0) (length (σ .acc
         rw (lt-ltb (offset (u .ns) (σ .farm .vr)) (set .w / 2) y) (p3 (omega (arith, eqb-false (offset (u .ns) (σ .farm .vr)) 0 t, e))))
 
 bd-cell : (set : Settings) (σ : Session) (o : List ℕ) (fs : List Frame) → Inv set σ
-    → Fly (set .k) (σ .sent) (length (σ .accepted)) (length (σ .accepted)) fs
+    → Fly (set .w / 2) (σ .sent) (length (σ .accepted)) (length (σ .accepted)) fs
     → Sub (σ .acceptedBd ++ bdsOf (BD o ∷ fs)) (σ .sentBd) → (s : FarmState) → isLocked s ≡ false
     → Inv set (receiver (stepOf E6 0 (at s (σ .farm))) (σ .accepted) (takenBd (BD o) (isHanded (unitOf E6 s)) (σ .acceptedBd)) (σ .released) fs σ)
 unfolding table stepOf performAll perform accepts
@@ -193,14 +194,14 @@ bd-cell set σ o fs I fl sb Wait l =
 bd-cell set σ o fs I fl sb Lockout l = never l
 
 frame-keeps : (set : Settings) → Within set → (σ : Session) (room : Bool) (l : List Frame) → Inv set σ
-    → Fly (set .k) (σ .sent) (length (σ .accepted)) (length (σ .accepted)) l
+    → Fly (set .w / 2) (σ .sent) (length (σ .accepted)) (length (σ .accepted)) l
     → Sub (σ .acceptedBd ++ bdsOf l) (σ .sentBd) → Inv set (frameCome set room l σ)
 unfolding frameCome frameEvent
 frame-keeps set vw σ room [] I h sb = I
 frame-keeps set vw σ room (AD u ∷ fs) I h sb =
-    let fl = tail-fly (set .k) (σ .sent) (length (σ .accepted)) (AD u) fs h in
+    let fl = tail-fly (set .w / 2) (σ .sent) (length (σ .accepted)) (AD u) fs h in
     ad-cases set vw σ room u fs I h (λ e. R set σ u fs I e (σ .farm .state))
-    (λ i p. takes set σ u fs I fl sb (rw (← i) (h .1)) (omega arith) (fly-mono (set .k) (σ .sent) _ _ _ _ fs (omega arith) (omega arith) (h .5))
+    (λ i p. takes set σ u fs I fl sb (rw (← i) (h .1)) (omega arith) (fly-mono (set .w / 2) (σ .sent) _ _ _ _ fs (omega arith) (omega arith) (h .5))
     (σ .farm .state) (I .receiver .unlocked))
     (λ i p. drops-e2 set σ u fs I fl sb (σ .farm .state) (I .receiver .unlocked))
     (λ i. drops-e3 set σ u fs I fl sb (σ .farm .state) (I .receiver .unlocked))
@@ -218,7 +219,7 @@ lost-keeps : (set : Settings) (σ : Session) → Inv set σ → Inv set (channel
 unfolding channels
 lost-keeps set σ I =
     record {
-      base = refly (I .base) (rest-fly (set .k) (σ .sent) (length (σ .accepted)) (σ .frames) (I .base .fly));
+      base = refly (I .base) (rest-fly (set .w / 2) (σ .sent) (length (σ .accepted)) (σ .frames) (I .base .fly));
       side = I .side;
       suspension = I .suspension;
       isSet = I .isSet;
@@ -295,7 +296,8 @@ start-inv set vw =
         behind = omega arith;
         truly = omega arith;
         room = omega arith;
-        small = omega (arith, vw .windowMost);
+        fits = vw .fits;
+        small = omega (arith, vw .farmMost);
         fly = tt;
       };
       side = record { cut = refl; undenied = refl; fresh = refl; isVs = omega (arith, vw .number); isNn = omega (arith, vw .number) };

@@ -13,7 +13,7 @@ use Rattle.fop.specs.Table.{Ignore, SetSuspendState, Suspend, Resume, Action, C
 use Rattle.fop.specs.Table.{RejectAd, AcceptBd, RejectBd, AddToWaitQueue, LookForFdu, LookForDirective, RemoveAcknowledgedFrames, InitiateAdRetransmission}
 use Rattle.fop.specs.Table.{InitiateBcRetransmission, ReleaseBcFrame, CancelTimer, StartTimer, Alert, Initialise, TransmitUnlock, TransmitSetVr, TransmitBd}
 use Rattle.fop.specs.Table.{SetVs, SetNnr, SetK, SetT1Initial, SetTransmissionLimit, SetTimeoutType, AdOutReady, BcOutReady, BdOutReady}
-use Rattle.fop.specs.Variables.{Fop, Work, Preset}
+use Rattle.fop.specs.Variables.{Fop, Work}
 use Rattle.fop.specs.Machine.{fdus, firstMarked, acknowledged, unacknowledged, perform, performAll}
 use Rattle.fop.specs.Variables.{begin}
 use Rattle.fop.specs.Effective.{effectiveOf, effective}
@@ -21,13 +21,13 @@ use Rattle.fop.specs.Machine.{performCell, transmitAd, sendWaiting, sendNext, l
 use Rattle.session.proofs.Ways.{look-ways, purge-ways}
 use Rattle.session.proofs.Core.{addAll}
 use Rattle.session.proofs.Lists.{addAll-append}
-use Rattle.session.proofs.Values.{Mode, live, dead, bad, Given, word, unit, nothing, WI, resent, sent-new, sent-bd, confirmed, queue-length, queue-at}
+use Rattle.session.proofs.Values.{Bounds, Mode, live, dead, bad, Given, word, unit, nothing, WI, resent, sent-new, sent-bd, confirmed, queue-length, queue-at}
 use Rattle.session.proofs.Values.{run-places}
 use Rattle.session.proofs.Queue.{fdus-mark, fdus-unmark, fdus-append, found, ack}
 use Rattle.session.proofs.Rows.{after, afterAll, modeOf, cellOk, leads, Passes}
 use Rattle.session.proofs.Suspended.{suspend-all}
 
-module _ (n : ℕ) (P : Preset) (C : ℕ) (gone : List (Option ℕ)) (acc sent0 : List Fdu) (fr0 : List Frame) (given : Given) (a : ℕ) where
+module _ (n : ℕ) (P : Bounds) (C : ℕ) (gone : List (Option ℕ)) (acc sent0 : List Fdu) (fr0 : List Frame) (given : Given) (a : ℕ) where
   abbrev pub WInv : Mode → Work → Type 0
   WInv m w =
       WI n P C gone acc given a m (addAll n sent0 (w .frames)) (fr0 ++ w .frames) (w .confirmed) (w .denied) (fdus (w .fop .queues .sentQueue)) (w .fop .numbers .vs)
@@ -82,7 +82,7 @@ module _ (n : ℕ) (P : Preset) (C : ℕ) (gone : List (Option ℕ)) (acc sent0 
         tt,
       ) (λ r v k. k)
 
-module _ (n : ℕ) (P : Preset) (C : ℕ) (gone : List (Option ℕ)) (acc sent0 : List Fdu) (fr0 : List Frame) where
+module _ (n : ℕ) (P : Bounds) (C : ℕ) (gone : List (Option ℕ)) (acc sent0 : List Fdu) (fr0 : List Frame) where
   -- what is acknowledged, of a sender in service
   pub acks : (a : ℕ) (w : Work) → WInv n P C gone acc sent0 fr0 word a live w
       → (acknowledged (w .fop .numbers .nnr) (w .asked .value) (w .fop .queues .sentQueue) ≡ take (offset (w .asked .value) (w .fop .numbers .nnr)) (fdus (w .fop .queues .sentQueue)))
@@ -124,7 +124,7 @@ module _ (n : ℕ) (P : Preset) (C : ℕ) (gone : List (Option ℕ)) (acc sent0 
       rw (addAll-append n sent0 (w .frames) (BD (w .asked .octets) ∷ []), ← append-assoc fr0 (w .frames) (BD (w .asked .octets) ∷ []))
       (sent-bd n P C gone acc a m _ _ _ _ _ _ _ _ (w .asked .value) (w .fop .queues .waitQueue) (w .asked .octets) h)
 
-module _ (n : ℕ) (P : Preset) (C : ℕ) (gone : List (Option ℕ)) (acc sent0 : List Fdu) (fr0 : List Frame) (given : Given) (a : ℕ) where
+module _ (n : ℕ) (P : Bounds) (C : ℕ) (gone : List (Option ℕ)) (acc sent0 : List Fdu) (fr0 : List Frame) (given : Given) (a : ℕ) where
   abbrev I : Mode → Work → Type 0
   I m w = WInv n P C gone acc sent0 fr0 given a m w
 

@@ -246,7 +246,7 @@ module _ (set : Settings) (vw : Within set) (m : Ends) (t : Tied set m) (σ : Li
               ap (λ (h : History). h .sentBd) (n .history) ∙ x .1 ∙ ap (λ (h : History). h .sentBd ++ (o ∷ [])) (sym (R .history)),
             );
         acceptsBd = λ s fs o e q.
-            let l = oldest-frame set vw (κ .frames) s fs (BD o) (fly-reads (set .n) (set .k) (κ .sent) (I .base .num) _ _ (κ .frames) (I .base .fly))
+            let l = oldest-frame set vw (κ .frames) s fs (BD o) (fly-reads (set .n) _ (κ .sent) (I .base .num) _ _ (κ .frames) (I .base .fly))
             (sym e ∙ R .frames) q in
             ap (λ (h : History). h .acceptedBd) (same-step set vw m t frameIn σ κ R I .history) ∙ accepts-bd set κ o (l .0) (l .1)
             ∙ ap (λ (h : History). h .acceptedBd ++ (o ∷ [])) (sym (R .history));

@@ -139,7 +139,7 @@ module _ (set : Settings) (vw : Within set) (m : Ends) (t : Tied set m) (σ : Li
           λ e. true≢false (ap isLocked (sym e ∙ ap (λ (f : Receiver). f .farm .channel .variables .state) (G .farm)) ∙ I .receiver .unlocked),
         );
         accepts = λ s fs u e q.
-            let l = oldest-frame set vw (κ .frames) s fs (AD u) (fly-reads (set .n) (set .k) (κ .sent) (I .base .num) _ _ (κ .frames) (I .base .fly))
+            let l = oldest-frame set vw (κ .frames) s fs (AD u) (fly-reads (set .n) _ (κ .sent) (I .base .num) _ _ (κ .frames) (I .base .fly))
             (sym e ∙ R .frames) q in
             let a = accepts set vw κ I u (l .0) (l .1) in
             let n = ap (λ (h : History). h .accepted) (next frameIn .history) in

@@ -5,7 +5,7 @@ use mathlib.Core.Path.{_≡_, refl, sym, ap, subst, _∙_}
 use mathlib.Core.Bool.{Bool, true, false, not, _&&_}
 use mathlib.Core.List.{List, [], _∷_, _++_}
 use mathlib.Core.Option.{Option, none, some}
-use Prim.Native.Nat.{ℕ, _+_, _*_, _≤_, _<_}
+use Prim.Native.Nat.{ℕ, _+_, _*_, _/_, _≤_, _<_}
 use native.Mathlib.Omega.{arith}
 use lib.Dec.{leb, eqb, T, leb→le, eqb→eq}
 use lib.ListN.{length, length-append}
@@ -326,7 +326,7 @@ module _ (n : ℕ) (σ : Session) (fs : List Frame) (t : Tidy n σ) where
   e10-tidy r Lockout h = never (h .0)
 
 frame-tidy : (set : Settings) → Within set → (σ : Session) (room : Bool) (l : List Frame) → Inv set σ → Tidy (set .n) σ
-    → Fly (set .k) (σ .sent) (length (σ .accepted)) (length (σ .accepted)) l → Tidy (set .n) (frameCome set room l σ)
+    → Fly (set .w / 2) (σ .sent) (length (σ .accepted)) (length (σ .accepted)) l → Tidy (set .n) (frameCome set room l σ)
 unfolding frameCome frameEvent
 frame-tidy set vw σ room [] I t h = t
 frame-tidy set vw σ room (AD u ∷ fs) I t h =

@@ -16,15 +16,21 @@ use Rattle.session.proofs.Core.{addAll, firstOf}
 use Rattle.session.proofs.Lists.{Numbered, numbered-add, iota, places-are}
 use Rattle.session.proofs.Chan.{Fly, fly-more, fly-add, fly-bd}
 
+-- what the settings give: the sender's, and PW = NW = W/2, half the receiver's window, which bounds the frames under way
+pub record Bounds : Type 0 where
+  pub preset : Preset
+  pub half : ℕ
+
 -- what holds whatever the sender's state: C confirmed before the event, conf confirmed by it
-pub record Base (n K C : ℕ) (acc sent : List Fdu) (fr : List Frame) (conf : List Fdu) : Type 0 where
+pub record Base (n : ℕ) (P : Bounds) (C : ℕ) (acc sent : List Fdu) (fr : List Frame) (conf : List Fdu) : Type 0 where
   pub num : Numbered n sent
   pub order : acc ≡ take (length acc) sent
   pub behind : length acc ≤ length sent
   pub truly : C + length conf ≤ length acc
-  pub room : length sent ≤ C + length conf + K
-  pub small : K ≤ 127
-  pub fly : Fly K sent (length acc) (length acc) fr
+  pub room : length sent ≤ C + length conf + P .preset .k
+  pub fits : P .preset .k ≤ P .half
+  pub small : P .half ≤ 127
+  pub fly : Fly (P .half) sent (length acc) (length acc) fr
 
 -- the sender is in service: its queue is what is sent and not confirmed
 pub record Live (n C : ℕ) (gone : List (Option ℕ)) (sent conf den q : List Fdu) (vs nn : ℕ) : Type 0 where
@@ -60,13 +66,13 @@ abbrev pub WaitOk : Option (List ℕ) → Type 0
 WaitOk none = Unit {0}
 WaitOk (some o) = legal o ≡ true
 
-module _ (n : ℕ) (P : Preset) (C : ℕ) (gone : List (Option ℕ)) (acc : List Fdu) (given : Given) (a : ℕ) where
+module _ (n : ℕ) (P : Bounds) (C : ℕ) (gone : List (Option ℕ)) (acc : List Fdu) (given : Given) (a : ℕ) where
   -- the sender's invariant in a mode, of the values of its fields and of the work on an event
   abbrev pub WI : Mode → List Fdu → List Frame → List Fdu → List Fdu → List Fdu → ℕ → ℕ → Preset → ℕ → Option (List ℕ) → List ℕ → Type 0
   WI live sent fr conf den q vs nn p v wt o =
-      Base n (P .k) C acc sent fr conf × Live n C gone sent conf den q vs nn × (C + length conf ≤ a) × Reports given n a (length acc) v o × (p ≡ P) × WaitOk wt
+      Base n P C acc sent fr conf × Live n C gone sent conf den q vs nn × (C + length conf ≤ a) × Reports given n a (length acc) v o × (p ≡ P .preset) × WaitOk wt
   WI dead sent fr conf den q vs nn p v wt o =
-      Base n (P .k) C acc sent fr conf × Dead C gone sent conf den q × (C + length conf ≤ a) × Reports given n a (length acc) v o × (p ≡ P) × WaitOk wt
+      Base n P C acc sent fr conf × Dead C gone sent conf den q × (C + length conf ≤ a) × Reports given n a (length acc) v o × (p ≡ P .preset) × WaitOk wt
   WI bad sent fr conf den q vs nn p v wt o = Unit {0}
 
 -- a unit sent again does not count anew
@@ -80,10 +86,10 @@ pub new-sent : (n : ℕ) (s : List Fdu) (u : Fdu) → u .ns ≡ advanced n (leng
 new-sent n s u e = rw (eq-eqb (u .ns) (advanced n (length s)) e)
 
 -- the same with another channel
-pub refly : {n K C : ℕ} {acc sent : List Fdu} {fr fr' : List Frame} {conf : List Fdu} → Base n K C acc sent fr conf
-    → Fly K sent (length acc) (length acc) fr' → Base n K C acc sent fr' conf
+pub refly : {n : ℕ} {P : Bounds} {C : ℕ} {acc sent : List Fdu} {fr fr' : List Frame} {conf : List Fdu} → Base n P C acc sent fr conf
+    → Fly (P .half) sent (length acc) (length acc) fr' → Base n P C acc sent fr' conf
 refly b f =
-    record { num = b .num; order = b .order; behind = b .behind; truly = b .truly; room = b .room; small = b .small; fly = f }
+    record { num = b .num; order = b .order; behind = b .behind; truly = b .truly; room = b .room; fits = b .fits; small = b .small; fly = f }
 
 -- the length of the queue is what is not confirmed
 pub queue-length : (C : ℕ) (sent conf q : List Fdu) → conf ++ q ≡ drop C sent → length conf + length q ≡ length sent - C
@@ -108,7 +114,7 @@ run-places n C sent conf (u ∷ us) more b e l =
     places-are n sent b (u .ns) (C + length conf) (suc (length us))
     (ap (λ (x : Fdu). x .ns) (eu ∙ ap (λ (i : ℕ). getD sent i noUnit) ej) ∙ b .at (C + length conf) (omega arith)) (omega arith) (omega arith)
 
-module _ (n : ℕ) (P : Preset) (C : ℕ) (gone : List (Option ℕ)) (acc : List Fdu) (given : Given) (a : ℕ) where
+module _ (n : ℕ) (P : Bounds) (C : ℕ) (gone : List (Option ℕ)) (acc : List Fdu) (given : Given) (a : ℕ) where
   -- a unit of the queue is sent again
   pub resent : (sent : List Fdu) (fr : List Frame) (conf den q : List Fdu) (vs nn : ℕ) (p : Preset) (v : ℕ) (wt : Option (List ℕ)) (o : List ℕ)
       → WI n P C gone acc given a live sent fr conf den q vs nn p v wt o → (u : Fdu) (i : ℕ) → i < length q → u ≡ getD q i noUnit
@@ -119,7 +125,7 @@ module _ (n : ℕ) (P : Preset) (C : ℕ) (gone : List (Option ℕ)) (acc : List
       let eu : u ≡ getD sent j noUnit = e ∙ queue-at C sent conf q (h .1 .cut) i in
       let bj : j < length sent = omega arith in
       rw (same-sent n sent u j (h .0 .num) bj (omega arith) eu) (
-        refly (h .0) (fly-add (P .k) sent (length acc) (length acc) fr u j eu bj (h .0 .behind) (omega arith) (omega arith) (h .0 .fly)),
+        refly (h .0) (fly-add (P .half) sent (length acc) (length acc) fr u j eu bj (h .0 .behind) (omega arith) (omega arith) (h .0 .fly)),
         h .1,
         h .2,
         h .3,
@@ -134,7 +140,7 @@ module _ (n : ℕ) (P : Preset) (C : ℕ) (gone : List (Option ℕ)) (acc : List
   sent-new sent fr conf den q vs nn p v wt o h r u e g =
       let ln : length (sent ++ (u ∷ [])) ≡ length sent + 1 = length-append sent (u ∷ []) in
       let le : C ≤ length sent = omega arith in
-      let pk : p .k ≡ P .k = ap (λ (x : Preset). x .k) (h .4) in
+      let pk : p .k ≡ P .preset .k = ap (λ (x : Preset). x .k) (h .4) in
       rw (new-sent n sent u (e ∙ h .1 .isVs)) (
         record {
           num = numbered-add n sent u (h .0 .num) (e ∙ h .1 .isVs) g;
@@ -142,10 +148,11 @@ module _ (n : ℕ) (P : Preset) (C : ℕ) (gone : List (Option ℕ)) (acc : List
           behind = omega arith;
           truly = h .0 .truly;
           room = omega arith;
+          fits = h .0 .fits;
           small = h .0 .small;
           fly =
-              fly-add (P .k) (sent ++ (u ∷ [])) (length acc) (length acc) fr u (length sent) (sym (getD-append-seam sent u [] noUnit)) (omega arith)
-              (omega arith) (omega arith) (omega arith) (fly-more (P .k) sent (u ∷ []) (length acc) (length acc) fr (h .0 .fly));
+              fly-add (P .half) (sent ++ (u ∷ [])) (length acc) (length acc) fr u (length sent) (sym (getD-append-seam sent u [] noUnit)) (omega arith)
+              (omega arith) (omega arith) (omega arith) (fly-more (P .half) sent (u ∷ []) (length acc) (length acc) fr (h .0 .fly));
         },
         record {
           cut = rw (← append-assoc conf q (u ∷ []), h .1 .cut, drop-append-le C sent (u ∷ []) le);
@@ -175,6 +182,7 @@ module _ (n : ℕ) (P : Preset) (C : ℕ) (gone : List (Option ℕ)) (acc : List
           behind = h .0 .behind;
           truly = omega arith;
           room = omega arith;
+          fits = h .0 .fits;
           small = h .0 .small;
           fly = h .0 .fly;
         },
@@ -192,12 +200,12 @@ module _ (n : ℕ) (P : Preset) (C : ℕ) (gone : List (Option ℕ)) (acc : List
       )
 
 -- a BD frame is sent
-pub sent-bd : (n : ℕ) (P : Preset) (C : ℕ) (gone : List (Option ℕ)) (acc : List Fdu) (a : ℕ) (m : Mode) (sent : List Fdu) (fr : List Frame)
+pub sent-bd : (n : ℕ) (P : Bounds) (C : ℕ) (gone : List (Option ℕ)) (acc : List Fdu) (a : ℕ) (m : Mode) (sent : List Fdu) (fr : List Frame)
     (conf den q : List Fdu) (vs nn : ℕ) (p : Preset) (v : ℕ) (wt : Option (List ℕ)) (o : List ℕ)
     → WI n P C gone acc unit a m sent fr conf den q vs nn p v wt o
     → WI n P C gone acc unit a m sent (fr ++ (BD o ∷ [])) conf den q vs nn p v wt o
 sent-bd n P C gone acc a live sent fr conf den q vs nn p v wt o h =
-    (refly (h .0) (fly-bd (P .k) sent (length acc) (length acc) fr o (h .3) (h .0 .fly)), h .1, h .2, h .3, h .4, h .5)
+    (refly (h .0) (fly-bd (P .half) sent (length acc) (length acc) fr o (h .3) (h .0 .fly)), h .1, h .2, h .3, h .4, h .5)
 sent-bd n P C gone acc a dead sent fr conf den q vs nn p v wt o h =
-    (refly (h .0) (fly-bd (P .k) sent (length acc) (length acc) fr o (h .3) (h .0 .fly)), h .1, h .2, h .3, h .4, h .5)
+    (refly (h .0) (fly-bd (P .half) sent (length acc) (length acc) fr o (h .3) (h .0 .fly)), h .1, h .2, h .3, h .4, h .5)
 sent-bd n P C gone acc a bad sent fr conf den q vs nn p v wt o h = tt
