@@ -99,12 +99,12 @@ sender-stock : (set : Settings) (e : SenderEvent) (lent : ℕ) (σ : Session) �
 unfolding sender answered
 sender-stock set e lent σ h = by-pick (Stocked set) (goes (set .own) e lent (σ .fop)) (λ t. h) (λ t. h)
 
-word-stock : (set : Settings) (lent : ℕ) (ws : List Word) (σ : Session) → Stocked set σ → Stocked set (wordCome set lent ws σ)
+pub word-stock : (set : Settings) (lent : ℕ) (ws : List Word) (σ : Session) → Stocked set σ → Stocked set (wordCome set lent ws σ)
 unfolding wordCome channels
 word-stock set lent [] σ h = h
 word-stock set lent (w ∷ ws) σ h = sender-stock set (wordArrives (wordOctets (set .own) w)) lent (channels (σ .frames) ws σ) h
 
-frame-stock : (set : Settings) → Within set → (σ : Session) (l : List Frame) → Inv set σ
+pub frame-stock : (set : Settings) → Within set → (σ : Session) (l : List Frame) → Inv set σ
     → Fly (set .w / 2) (σ .sent) (length (σ .accepted)) (length (σ .accepted)) l → Stocked set σ → Stocked set (frameCome set (free set σ) l σ)
 unfolding frameCome frameEvent receiver
 frame-stock set vw σ [] I f h = h

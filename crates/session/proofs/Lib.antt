@@ -37,6 +37,7 @@ pub mod Answered
 pub mod Strong
 pub mod Idle
 pub mod Once
+pub mod Channels
 pub mod Trace
 pub mod Example
 pub mod Premises

@@ -116,7 +116,7 @@ module _ (set : Settings) (vw : Within set) where
   answer-through w κ l h =
       rw (run-is (w .confirmed), run-is (w .denied), sent-through (κ .sent) (w .frames) l h, bd-through (κ .sentBd) (w .frames) l h)
 
-  refusal-through : (r : ℕ) (f : Fop) (κ : Session) → afterSender set (refused r f) (historyOf κ) ≡ historyOf κ
+  pub refusal-through : (r : ℕ) (f : Fop) (κ : Session) → afterSender set (refused r f) (historyOf κ) ≡ historyOf κ
   unfolding afterSender
   refusal-through r f κ = rw (append-nil (κ .confirmed), append-nil (κ .denied))
 
@@ -200,7 +200,7 @@ module _ (set : Settings) (vw : Within set) where
         (t .answer e lent (σ .sender) (R .good) ∙ ap (λ (f : Fop). senderAnswer (set .own) e lent f) (R .fop))
 
     -- the oldest word to the sender
-    word-in : (σ : Linked m) (κ : Session) (lent : ℕ) (ws : List Word) → Rel σ κ → Inv set (core.wordCome set lent ws κ)
+    pub word-in : (σ : Linked m) (κ : Session) (lent : ℕ) (ws : List Word) → Rel σ κ → Inv set (core.wordCome set lent ws κ)
         → Rel (ses.wordCome set m lent (map (wordOctets (set .own)) ws) σ) (core.wordCome set lent ws κ)
     unfolding ses.wordCome core.wordCome
     word-in σ κ lent [] R J = R
@@ -253,7 +253,7 @@ module _ (set : Settings) (vw : Within set) where
         }
 
     -- the oldest frame to the receiver
-    got : (σ : Linked m) (κ : Session) (fs : List Frame) → Rel σ κ → Inv set κ → Fly (set .w / 2) (κ .sent) (length (κ .accepted)) (length (κ .accepted)) fs
+    pub got : (σ : Linked m) (κ : Session) (fs : List Frame) → Rel σ κ → Inv set κ → Fly (set .w / 2) (κ .sent) (length (κ .accepted)) (length (κ .accepted)) fs
         → Stocked set (core.frameCome set (free set κ) fs κ)
         → Rel (ses.frameCome set m (map (written (set .own)) fs) σ) (core.frameCome set (free set κ) fs κ)
     unfolding ses.frameCome core.frameCome
@@ -300,7 +300,7 @@ module _ (set : Settings) (vw : Within set) where
     plain σ κ e lent R J = rw (R .words) (to-sender σ κ e lent (κ .words) R J)
 
     -- other channels
-    relink : (σ : Linked m) (κ : Session) (fs : List Frame) (ws : List Word) (fs' ws' : List (List ℕ)) → Rel σ κ → fs' ≡ map (written (set .own)) fs
+    pub relink : (σ : Linked m) (κ : Session) (fs : List Frame) (ws : List Word) (fs' ws' : List (List ℕ)) → Rel σ κ → fs' ≡ map (written (set .own)) fs
         → ws' ≡ map (wordOctets (set .own)) ws → Rel (ses.channels m fs' ws' σ) (core.channels fs ws κ)
     unfolding core.channels
     relink σ κ fs ws fs' ws' R f w =

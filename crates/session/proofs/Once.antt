@@ -231,14 +231,14 @@ module _ (set : Settings) where
   sender-once ws e lent κ i o =
       by-pick (λ (τ : Session). Once (τ .fop)) (goes (set .own) e lent (κ .fop)) (λ b. work-once (set .own) ws e (κ .fop) i o .0) (λ b. o)
 
-  word-in : (lent : ℕ) (l : List Word) (κ : Session) → Once (κ .fop) → Once ((wordCome set lent l κ) .fop)
+  pub word-in : (lent : ℕ) (l : List Word) (κ : Session) → Once (κ .fop) → Once ((wordCome set lent l κ) .fop)
   unfolding wordCome channels
   word-in lent [] κ o = o
   word-in lent (w ∷ ws) κ o =
       let s = wordOctets (set .own) w in
       sender-once (s ∷ []) (wordArrives s) lent (channels (κ .frames) ws κ) ([], refl) o
 
-  frame-in : (room : Bool) (l : List Frame) (κ : Session) → Once (κ .fop) → Once ((frameCome set room l κ) .fop)
+  pub frame-in : (room : Bool) (l : List Frame) (κ : Session) → Once (κ .fop) → Once ((frameCome set room l κ) .fop)
   unfolding frameCome receiver
   frame-in room [] κ o = o
   frame-in room (x ∷ fs) κ o = o

@@ -193,7 +193,7 @@ bd-cell set σ o fs I fl sb Wait l =
     (rcv-with (I .receiver) Wait _ _ _ _ _ (I .receiver .noLock) refl k)
 bd-cell set σ o fs I fl sb Lockout l = never l
 
-frame-keeps : (set : Settings) → Within set → (σ : Session) (room : Bool) (l : List Frame) → Inv set σ
+pub frame-keeps : (set : Settings) → Within set → (σ : Session) (room : Bool) (l : List Frame) → Inv set σ
     → Fly (set .w / 2) (σ .sent) (length (σ .accepted)) (length (σ .accepted)) l
     → Sub (σ .acceptedBd ++ bdsOf l) (σ .sentBd) → Inv set (frameCome set room l σ)
 unfolding frameCome frameEvent

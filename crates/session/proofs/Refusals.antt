@@ -51,7 +51,7 @@ e9-at v Wait = refl
 e9-at v Lockout = refl
 
 -- and the receiver
-e9 : (n : ℕ) (r : Receiver) → (farm.answered n E9 0 r) .next ≡ r
+pub e9 : (n : ℕ) (r : Receiver) → (farm.answered n E9 0 r) .next ≡ r
 unfolding farm.answered channel.answered
 e9 n r =
     let c = r .farm .channel in

@@ -224,14 +224,14 @@ tick-tidy set σ I t =
     (λ e h. plain-tidy set τ nothing e [] 0 (timed set _ _ σ I) t' (any nothing e (and-l (rowAny nothing e) _ h)) (and-r (rowAny nothing e) _ h) tt)
     (tidy-answered (set .n) τ (σ .words) (begin none [] 0 (τ .fop)) (floor (effective (σ .fop)) (length (σ .confirmed))) t' (t .keys) (omega arith) (t .below))
 
-words-tidy : (n : ℕ) (σ : Session) (fs : List Frame) (ws : List Word) → Tidy n σ
+pub words-tidy : (n : ℕ) (σ : Session) (fs : List Frame) (ws : List Word) → Tidy n σ
     → Keys n (length (σ .sent)) (floor (effective (σ .fop)) (length (σ .confirmed))) (2 * length (σ .accepted) + bit (σ .farm .retransmit)) ws
     → Tidy n (channels fs ws σ)
 unfolding channels
 words-tidy n σ fs ws t k =
     record { keys = k; waitFlag = t .waitFlag; waitMissing = t .waitMissing; missing = t .missing; below = t .below }
 
-word-tidy : (set : Settings) → Within set → (lent : ℕ) (σ : Session) (l : List Word) → Inv set σ → Tidy (set .n) σ
+pub word-tidy : (set : Settings) → Within set → (lent : ℕ) (σ : Session) (l : List Word) → Inv set σ → Tidy (set .n) σ
     → Wds (set .n) (length (σ .confirmed)) (length (σ .accepted)) l
     → Keys (set .n) (length (σ .sent)) (floor (effective (σ .fop)) (length (σ .confirmed))) (2 * length (σ .accepted) + bit (σ .farm .retransmit)) l
     → Tidy (set .n) (wordCome set lent l σ)
@@ -325,7 +325,7 @@ module _ (n : ℕ) (σ : Session) (fs : List Frame) (t : Tidy n σ) where
   e10-tidy r Wait h = as-it-was _ _ _ (omega arith) (omega arith) refl
   e10-tidy r Lockout h = never (h .0)
 
-frame-tidy : (set : Settings) → Within set → (σ : Session) (room : Bool) (l : List Frame) → Inv set σ → Tidy (set .n) σ
+pub frame-tidy : (set : Settings) → Within set → (σ : Session) (room : Bool) (l : List Frame) → Inv set σ → Tidy (set .n) σ
     → Fly (set .w / 2) (σ .sent) (length (σ .accepted)) (length (σ .accepted)) l → Tidy (set .n) (frameCome set room l σ)
 unfolding frameCome frameEvent
 frame-tidy set vw σ room [] I t h = t
