@@ -46,7 +46,7 @@ linkStep set kept (noise o) σ = σ
 linkStep set kept (wordNoise o lent) σ = σ
 
 -- the channels, where the oldest stays
-pub stays-fly : (H : ℕ) (s : List Fdu) (A : ℕ) (fs : List Frame) → 1 ≤ H → Fly H s A A fs → Fly H s A A (staysAd fs)
+stays-fly : (H : ℕ) (s : List Fdu) (A : ℕ) (fs : List Frame) → 1 ≤ H → Fly H s A A fs → Fly H s A A (staysAd fs)
 stays-fly H s A [] l h = tt
 stays-fly H s A (AD u ∷ fs) l h =
     let again : Fly H s A (max A (suc (h .0))) (AD u ∷ fs) = (
@@ -91,12 +91,13 @@ kept-is kept s i = by-first (ltb i (length s)) refl
     by-first true e t = (ltb-true i (length s) e, leb-true (length s) (i + kept) t)
     by-first false e t = absurd (false≢true t)
 
-module _ (set : Settings) (vw : Within set) (kept : ℕ) (most : kept ≤ set .w / 2) where
-  -- a frame or word that stays
-  stays-under-way : (σ : Session) → Inv set σ
-      → Fly (set .w / 2) (σ .sent) (length (σ .accepted)) (length (σ .accepted)) (staysAd (σ .frames))
-  stays-under-way σ I = stays-fly (set .w / 2) (σ .sent) (length (σ .accepted)) (σ .frames) (omega (arith, vw .farmLeast)) (I .base .fly)
+-- the frames under way, where the oldest stays
+pub stays-under-way : (set : Settings) → Within set → (σ : Session) → Inv set σ
+    → Fly (set .w / 2) (σ .sent) (length (σ .accepted)) (length (σ .accepted)) (staysAd (σ .frames))
+stays-under-way set vw σ I = stays-fly (set .w / 2) (σ .sent) (length (σ .accepted)) (σ .frames) (omega (arith, vw .farmLeast)) (I .base .fly)
 
+module _ (set : Settings) (vw : Within set) (kept : ℕ) (most : kept ≤ set .w / 2) where
+  -- and the words
   words-under-way : (σ : Session) → Inv set σ → Wds (set .n) (length (σ .confirmed)) (length (σ .accepted)) (stays (σ .words))
   words-under-way σ I = stays-words (set .n) _ _ (σ .words) (I .words)
 
@@ -129,7 +130,7 @@ module _ (set : Settings) (vw : Within set) (kept : ℕ) (most : kept ≤ set .w
   unfolding linkStep
   link-keeps (demanded e) σ I = step-keeps set vw e σ I
   link-keeps frameStays σ I =
-      frame-keeps set vw σ (free set σ) (staysAd (σ .frames)) I (stays-under-way σ I) (stays-bd (σ .acceptedBd) (σ .sentBd) (σ .frames) (I .bd))
+      frame-keeps set vw σ (free set σ) (staysAd (σ .frames)) I (stays-under-way set vw σ I) (stays-bd (σ .acceptedBd) (σ .sentBd) (σ .frames) (I .bd))
   link-keeps (wordStays lent) σ I = word-keeps set vw lent σ (stays (σ .words)) I (words-under-way σ I)
   link-keeps (frameAgain i) σ I =
       by-pick (λ (fs : List Frame). Inv set (channels fs (σ .words) σ)) (isKept kept (σ .sent) i) (λ t. again σ i I t) (λ t. as-they-are σ I)
@@ -140,7 +141,7 @@ module _ (set : Settings) (vw : Within set) (kept : ℕ) (most : kept ≤ set .w
   pub link-tidy : (e : LinkEvent) (σ : Session) → Inv set σ → Tidy (set .n) σ → Tidy (set .n) (linkStep set kept e σ)
   unfolding linkStep
   link-tidy (demanded e) σ I t = step-tidy set vw e σ I t
-  link-tidy frameStays σ I t = frame-tidy set vw σ (free set σ) (staysAd (σ .frames)) I t (stays-under-way σ I)
+  link-tidy frameStays σ I t = frame-tidy set vw σ (free set σ) (staysAd (σ .frames)) I t (stays-under-way set vw σ I)
   link-tidy (wordStays lent) σ I t =
       word-tidy set vw lent σ (stays (σ .words)) I t (words-under-way σ I) (stays-keys (set .n) _ _ _ (σ .words) (t .keys))
   link-tidy (frameAgain i) σ I t = words-tidy (set .n) σ _ (σ .words) t (t .keys)
@@ -161,7 +162,7 @@ module _ (set : Settings) (vw : Within set) (kept : ℕ) (most : kept ≤ set .w
   pub link-stock : (e : LinkEvent) (σ : Session) → Inv set σ → Stocked set σ → Stocked set (linkStep set kept e σ)
   unfolding linkStep channels
   link-stock (demanded e) σ I h = stock-keeps set vw e σ I h
-  link-stock frameStays σ I h = frame-stock set vw σ (staysAd (σ .frames)) I (stays-under-way σ I) h
+  link-stock frameStays σ I h = frame-stock set vw σ (staysAd (σ .frames)) I (stays-under-way set vw σ I) h
   link-stock (wordStays lent) σ I h = word-stock set lent (stays (σ .words)) σ h
   link-stock (frameAgain i) σ I h = h
   link-stock (noise o) σ I h = h

@@ -38,6 +38,8 @@ pub mod Strong
 pub mod Idle
 pub mod Once
 pub mod Channels
+pub mod Noise
+pub mod Linked
 pub mod Trace
 pub mod Example
 pub mod Premises

@@ -294,7 +294,7 @@ module _ (set : Settings) (vw : Within set) where
         }
 
     -- an event of the sender that is no word
-    plain : (σ : Linked m) (κ : Session) (e : SenderEvent) (lent : ℕ) → Rel σ κ → Inv set (core.sender set e lent κ)
+    pub plain : (σ : Linked m) (κ : Session) (e : SenderEvent) (lent : ℕ) → Rel σ κ → Inv set (core.sender set e lent κ)
         → Rel (toSender set m e lent (σ .words) σ) (core.sender set e lent κ)
     unfolding core.channels toSender core.sender
     plain σ κ e lent R J = rw (R .words) (to-sender σ κ e lent (κ .words) R J)

@@ -1,0 +1,166 @@
+-- The session of tied ends over channels that repeat and noise, octets and all, is Core's over the same events (Channels); and what holds of
+-- Core's session after every list of them holds of both.
+use mathlib.Core.Path.{_≡_, refl, sym, ap, _∙_, subst}
+use mathlib.Core.Bool.{Bool, true, false}
+use mathlib.Core.List.{List, [], _∷_, _++_, map, map-append}
+use mathlib.Core.Option.{none, some}
+use Prim.Native.Nat.{ℕ, _/_, _≤_}
+use lib.ListN.{getD}
+use Rattle.base.specs.Choice.{pick}
+use Rattle.fop.specs.Units.{Fdu, Frame, AD, BD, Unlock, SetVR, Refused, WordReceived, valid, invalid, other, written, wordOctets, readWord}
+use Rattle.fop.specs.Events.{wordArrives}
+use Rattle.receiver.specs.declared.Receiver.{Receiver}
+use Rattle.session.specs.Frames.{read}
+use Rattle.session.specs.Receiver.{frameArrives, ReceiverAnswer, receiverNext, receiverAnswer}
+use Rattle.session.specs.Ends.{Settings, Within, Ends, Tied, tables}
+use Rattle.session.specs.Session.{Event, Linked, History, begins, enters, afterFrame, noUnit, run}
+use Rattle.session.specs.Session as ses
+use Rattle.session.specs.Channels.{LinkEvent, demanded, frameStays, wordStays, frameAgain, noise, wordNoise, isAd, isRefused, isRefusedWord, stays, arriving, isKept}
+use Rattle.session.specs.Channels as spec
+use Rattle.session.proofs.Core as core
+use Rattle.session.proofs.Core.{Session, used, free}
+use Rattle.session.proofs.Received.{receiverOf}
+use Rattle.session.proofs.Inv.{Inv}
+use Rattle.session.proofs.Receiver.{begun, start-inv}
+use Rattle.session.proofs.Next.{historyOf}
+use Rattle.session.proofs.Link.{Rel, Reads, reads, fly-reads, word-in, got, relink, plain, same-step, at-start, tables-tied}
+use Rattle.session.proofs.Channels.{staysAd, addAgain, stays-under-way, linkStep, link-keeps, link-stock}
+use Rattle.session.proofs.Noise.{refused-reading, discarded, frame-next, frame-answer, refuses}
+
+-- the channels as octets and as they are read
+map-stays : {A B : Type 0} (f : A → B) (l : List A) → stays (map f l) ≡ map f (stays l)
+map-stays f [] = refl
+map-stays f (x ∷ l) = refl
+
+map-chosen : {A B : Type 0} (f : A → B) (b : Bool) (l : List A) → pick b (map f l) [] ≡ map f (pick b l [])
+map-chosen f true l = refl
+map-chosen f false l = refl
+
+-- an answer of E9 leaves the histories as they were
+unheard : (κ : Session) (n : ℕ) (x : Frame) → afterFrame x (discarded n) (historyOf κ) ≡ historyOf κ
+unfolding afterFrame
+unheard κ n (AD u) = refl
+unheard κ n (BD o) = refl
+unheard κ n Unlock = refl
+unheard κ n (SetVR v) = refl
+unheard κ n (Refused r) = refl
+
+module _ (set : Settings) (vw : Within set) where
+  map-stays-ad : (l : List Frame) → Reads l → spec.staysAd (set .own) (map (written (set .own)) l) ≡ map (written (set .own)) (staysAd l)
+  map-stays-ad [] h = refl
+  map-stays-ad (x ∷ fs) h =
+      ap (λ (y : Frame). pick (isAd y) (stays (map (written (set .own)) (x ∷ fs))) []) (reads set vw x (h .0))
+      ∙ map-chosen (written (set .own)) (isAd x) (stays (x ∷ fs))
+
+  map-again : (b : Bool) (u : Fdu) (fs : List Frame)
+      → enters (map (written (set .own)) fs) (pick b (some (written (set .own) (AD u))) none) ≡ map (written (set .own)) (pick b (fs ++ (AD u ∷ [])) fs)
+  map-again true u fs = sym (map-append (written (set .own)) fs (AD u ∷ []))
+  map-again false u fs = refl
+
+  module _ (m : Ends) (t : Tied set m) where
+    -- octets that the frame reader refuses
+    noise-in : (σ : Linked m) (κ : Session) (o : List ℕ) (fs : List (List ℕ)) → Rel set vw m t σ κ → fs ≡ σ .frames → isRefused (read (set .own) o) ≡ true
+        → Rel set vw m t (ses.frameCome set m (o ∷ fs) σ) κ
+    unfolding ses.frameCome
+    noise-in σ κ o fs R e h =
+        let n = refused-reading (set .own) o h in
+        let r : Receiver = receiverOf set (used κ) (κ .farm) in
+        let a : m .answerReceiver (frameArrives o) (σ .receiver) ≡ discarded (n .0) =
+        t .answerReceiver (frameArrives o) (σ .receiver) (R .goodReceiver) ∙ ap (receiverAnswer (frameArrives o)) (R .farm) ∙ frame-answer r o (n .0) (n .1) in
+        record {
+          good = R .good;
+          goodReceiver = t .keepsReceiver (frameArrives o) (σ .receiver) (R .goodReceiver);
+          fop = R .fop;
+          farm = t .nextReceiver (frameArrives o) (σ .receiver) (R .goodReceiver) ∙ ap (receiverNext (frameArrives o)) (R .farm)
+              ∙ frame-next r o (n .0) (n .1);
+          stock = R .stock;
+          frames = e ∙ R .frames;
+          words = R .words;
+          history = ap (λ (b : ReceiverAnswer). afterFrame (read (set .own) o) b (σ .history)) a
+              ∙ ap (λ (x : History). afterFrame (read (set .own) o) (discarded (n .0)) x) (R .history)
+              ∙ unheard κ (n .0) (read (set .own) o);
+        }
+
+    -- octets refused as a control word
+    word-noise-in : (σ : Linked m) (κ : Session) (o : List ℕ) (lent r : ℕ) (ws : List (List ℕ)) → Rel set vw m t σ κ → Inv set κ → ws ≡ σ .words
+        → readWord (set .own) o ≡ other r → Rel set vw m t (ses.wordCome set m lent (o ∷ ws) σ) κ
+    unfolding ses.wordCome core.sender
+    word-noise-in σ κ o lent r ws R I e q =
+        let same : core.sender set (wordArrives o) lent κ ≡ κ = rw (refuses (set .own) o r q lent (κ .fop)) in
+        rw e (subst (Rel set vw m t _) same (plain set vw m t σ κ (wordArrives o) lent R (subst (Inv set) (sym same) I)))
+
+    noise-arrives : (b : Bool) (σ : Linked m) (κ : Session) (o : List ℕ) → Rel set vw m t σ κ → isRefused (read (set .own) o) ≡ b
+        → Rel set vw m t (ses.frameCome set m (arriving b o (σ .frames)) σ) κ
+    unfolding ses.frameCome
+    noise-arrives true σ κ o R h = noise-in σ κ o (σ .frames) R refl h
+    noise-arrives false σ κ o R h = R
+
+    word-noise-arrives : (x : WordReceived) (σ : Linked m) (κ : Session) (o : List ℕ) (lent : ℕ) → Rel set vw m t σ κ → Inv set κ → readWord (set .own) o ≡ x
+        → Rel set vw m t (ses.wordCome set m lent (arriving (isRefusedWord x) o (σ .words)) σ) κ
+    unfolding ses.wordCome
+    word-noise-arrives (valid w) σ κ o lent R I q = R
+    word-noise-arrives invalid σ κ o lent R I q = R
+    word-noise-arrives (other r) σ κ o lent R I q = word-noise-in σ κ o lent r (σ .words) R I refl q
+
+    module _ (kept : ℕ) (most : kept ≤ set .w / 2) where
+      -- every event
+      pub same-link : (e : LinkEvent) (σ : Linked m) (κ : Session) → Rel set vw m t σ κ → Inv set κ
+          → Rel set vw m t (spec.linkStep set kept m e σ) (linkStep set kept e κ)
+      unfolding spec.linkStep linkStep
+      same-link (demanded e) σ κ R I = same-step set vw m t e σ κ R I
+      same-link frameStays σ κ R I =
+          let l = ap (spec.staysAd (set .own)) (R .frames)
+          ∙ map-stays-ad (κ .frames) (fly-reads (set .n) _ (κ .sent) (I .base .num) _ _ (κ .frames) (I .base .fly)) in
+          subst (λ (fs : List (List ℕ)). Rel set vw m t (ses.frameCome set m fs σ) (core.frameCome set (free set κ) (staysAd (κ .frames)) κ)) (sym l)
+          (got set vw m t σ κ (staysAd (κ .frames)) R I (stays-under-way set vw κ I) (link-stock set vw kept most frameStays κ I (R .stock)))
+      same-link (wordStays lent) σ κ R I =
+          let l = ap stays (R .words) ∙ map-stays (wordOctets (set .own)) (κ .words) in
+          subst (λ (ws : List (List ℕ)). Rel set vw m t (ses.wordCome set m lent ws σ) (core.wordCome set lent (stays (κ .words)) κ)) (sym l)
+          (word-in set vw m t σ κ lent (stays (κ .words)) R (link-keeps set vw kept most (wordStays lent) κ I))
+      same-link (frameAgain i) σ κ R I =
+          relink set vw m t σ κ (addAgain kept (κ .sent) i (κ .frames)) (κ .words) _ (σ .words) R
+          (rw (R .frames, R .history) (map-again (isKept kept (κ .sent) i) (getD (κ .sent) i noUnit) (κ .frames))) (R .words)
+      same-link (noise o) σ κ R I = noise-arrives (isRefused (read (set .own) o)) σ κ o R refl
+      same-link (wordNoise o lent) σ κ R I = word-noise-arrives (readWord (set .own) o) σ κ o lent R I refl
+
+-- the two sessions after a list of events, both seen as one, with whatever X else every event keeps
+module _ (set : Settings) (vw : Within set) (m : Ends) (t : Tied set m) (kept : ℕ) (most : kept ≤ set .w / 2) where
+  -- the ends' session, the tables' and Core's are one
+  pub record Same (X : Session → Type 0) (σ : Linked m) (γ : Linked (tables set)) : Type 0 where
+    pub session : Session
+    pub ends : Rel set vw m t σ session
+    pub ofTables : Rel set vw (tables set) (tables-tied set) γ session
+    pub inv : Inv set session
+    pub also : X session
+
+  pub same-run : (X : Session → Type 0) → ((e : LinkEvent) (κ : Session) → Inv set κ → X κ → X (linkStep set kept e κ))
+      → (es : List LinkEvent) (σ : Linked m) (γ : Linked (tables set)) → Same X σ γ
+      → Same X (spec.linkRun set kept m es σ) (spec.linkRun set kept (tables set) es γ)
+  unfolding spec.linkRun
+  same-run X keeps [] σ γ s = s
+  same-run X keeps (e ∷ es) σ γ s =
+      same-run X keeps es (spec.linkStep set kept m e σ) (spec.linkStep set kept (tables set) e γ) (record {
+        session = linkStep set kept e (s .session);
+        ends = same-link set vw m t kept most e σ (s .session) (s .ends) (s .inv);
+        ofTables = same-link set vw (tables set) (tables-tied set) kept most e γ (s .session) (s .ofTables) (s .inv);
+        inv = link-keeps set vw kept most e (s .session) (s .inv);
+        also = keeps e (s .session) (s .inv) (s .also);
+      })
+
+  -- and so from the start
+  pub from-start : (X : Session → Type 0) → ((e : LinkEvent) (κ : Session) → Inv set κ → X κ → X (linkStep set kept e κ)) → X (begun set)
+      → (es : List LinkEvent) → Same X (spec.linkRun set kept m es (begins m)) (spec.linkRun set kept (tables set) es (begins (tables set)))
+  from-start X keeps x es =
+      same-run X keeps es (begins m) (begins (tables set)) (record {
+        session = begun set;
+        ends = at-start set vw m t;
+        ofTables = at-start set vw (tables set) (tables-tied set);
+        inv = start-inv set vw;
+        also = x;
+      })
+
+-- a list of demand 3's events alone
+pub run-demanded : (set : Settings) (kept : ℕ) (m : Ends) (es : List Event) (σ : Linked m) → spec.linkRun set kept m (map demanded es) σ ≡ run set m es σ
+unfolding spec.linkRun spec.linkStep run
+run-demanded set kept m [] σ = refl
+run-demanded set kept m (e ∷ es) σ = run-demanded set kept m es (ses.step set m e σ)
