@@ -160,7 +160,15 @@ module _ (set : Settings) (vw : Within set) (m : Ends) (t : Tied set m) (kept : 
       })
 
 -- a list of demand 3's events alone
-pub run-demanded : (set : Settings) (kept : ℕ) (m : Ends) (es : List Event) (σ : Linked m) → spec.linkRun set kept m (map demanded es) σ ≡ run set m es σ
+run-demanded : (set : Settings) (kept : ℕ) (m : Ends) (es : List Event) (σ : Linked m) → spec.linkRun set kept m (map demanded es) σ ≡ run set m es σ
 unfolding spec.linkRun spec.linkStep run
 run-demanded set kept m [] σ = refl
 run-demanded set kept m (e ∷ es) σ = run-demanded set kept m es (ses.step set m e σ)
+
+-- so what holds over all events, holds over demand 3's
+pub as-demanded : (set : Settings) (m : Ends) (P : Linked m → Linked (tables set) → Type 0) (es : List Event)
+    → P (spec.linkRun set 0 m (map demanded es) (begins m)) (spec.linkRun set 0 (tables set) (map demanded es) (begins (tables set)))
+    → P (run set m es (begins m)) (run set (tables set) es (begins (tables set)))
+as-demanded set m P es h =
+    subst (P (run set m es (begins m))) (run-demanded set 0 (tables set) es (begins (tables set)))
+    (subst (λ σ. P σ (spec.linkRun set 0 (tables set) (map demanded es) (begins (tables set)))) (run-demanded set 0 m es (begins m)) h)

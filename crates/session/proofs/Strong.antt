@@ -45,10 +45,12 @@ use Rattle.session.proofs.Choices.{none-some}
 use Rattle.session.proofs.Few.{work-few}
 use Rattle.session.proofs.Handed.{From, row-from, is-handed}
 use Rattle.session.proofs.Keys.{Tidy}
-use Rattle.session.proofs.Tidy.{step-tidy, start-tidy}
-use Rattle.session.proofs.Theorem.{oldest-frame, word-comes, either, from-start}
+use Rattle.session.proofs.Tidy.{start-tidy}
+use Rattle.session.proofs.Theorem.{oldest-frame, word-comes, either}
+use Rattle.session.proofs.Channels.{link-tidy, link-once}
+use Rattle.session.proofs.Linked.{from-start, as-demanded}
 use Rattle.session.proofs.Standing.{initial-denied, all-units, at-most, standing, queued, states-are, opens}
-use Rattle.session.proofs.Once.{Run, Once, work-once, start-once, step-once}
+use Rattle.session.proofs.Once.{Run, Once, work-once, start-once}
 use Rattle.session.proofs.Serving.{NoAd, Serving, ad-serving, bd-serving, tick-serving, lower-serving, terminate-serving, word-serving}
 use Rattle.session.proofs.Exact.{exact}
 use Rattle.session.proofs.Clear.{length-places}
@@ -58,6 +60,7 @@ use Rattle.session.specs.Receiver.{releaseBuffer}
 use Rattle.fop.specs.Units.{readWord, valid}
 use lib.ListN.{length-append}
 use Rattle.session.specs.Claims.{serves}
+use Rattle.session.specs.Channels.{LinkEvent, demanded, negativeWindow, linkRun}
 use Rattle.session.proofs.Words.{word-refusal}
 use Rattle.session.proofs.Answered as A
 
@@ -261,10 +264,15 @@ module _ (set : Settings) (vw : Within set) (m : Ends) (t : Tied set m) (σ : Li
         wordRefusal = word-refusal set vw m t σ κ R I;
       }
 
--- the stronger claims: after every list of events and at whatever event comes next
+-- the stronger claims over channels that repeat and noise: after every list of events and at whatever event of demand 3 comes next
+pub stronger-linked : (set : Settings) → Within set → (m : Ends) → Tied set m → (kept : ℕ) → kept ≤ negativeWindow set → (es : List LinkEvent)
+    → Stronger set m (linkRun set kept m es (begins m)) (linkRun set kept (tables set) es (begins (tables set)))
+stronger-linked set vw m t kept most es =
+    let k = from-start set vw m t kept most (λ κ. Tidy (set .n) κ × (set .limit ≡ 1 → Once (κ .fop)))
+    (λ e κ I x. (link-tidy set vw kept most e κ I (x .0), λ l. link-once set vw kept most e κ (x .1 l))) (start-tidy set, start-once set (vw .countLeast)) es in
+    stronger set vw m t _ _ (k .session) (k .ends) (k .ofTables) (k .inv) (k .also .0) (k .also .1)
+
+-- and so over demand 3's events
 pub stronger-claims : (set : Settings) → Within set → (m : Ends) → Tied set m → (es : List Event)
     → Stronger set m (run set m es (begins m)) (run set (tables set) es (begins (tables set)))
-stronger-claims set vw m t es =
-    let k = from-start set vw m t (λ κ. Tidy (set .n) κ × (set .limit ≡ 1 → Once (κ .fop)))
-    (λ e κ I x. (step-tidy set vw e κ I (x .0), λ l. step-once set e κ (x .1 l))) (start-tidy set, start-once set (vw .countLeast)) es in
-    stronger set vw m t (run set m es (begins m)) (run set (tables set) es (begins (tables set))) (k .0) (k .1) (k .2) (k .3) (k .4 .0) (k .4 .1)
+stronger-claims set vw m t es = as-demanded set m (Stronger set m) es (stronger-linked set vw m t 0 (omega arith) (map demanded es))

@@ -1,10 +1,10 @@
 -- Demand 3: after every list of events, and at whatever event comes next, of all ends that do as the tables say (`demand3`), and so of the
--- table machines themselves (`demand3-tables`).
+-- table machines themselves (`demand3-tables`). It is derived from the same claims over channels that repeat and noise (`claims-linked`).
 --
 -- How it is proved. Core is the tables' session with frames and words before they are octets. Its invariant (Inv) is kept by every event,
 -- whatever is told of the buffers (Receiver, `stepWith-keeps`; the sender's rows in Rows and Sender); that a receiver which waits has no
 -- buffer free is a fact apart (Buffers). What holds at the next event is in Next, Clear, Arrive and Words. Link says that a session of tied ends,
--- octets and all, is a session of Core, so the ends' run and the tables' run share one.
+-- octets and all, is a session of Core, so the ends' run and the tables' run share one (Linked).
 use mathlib.Core.Logic.{_⊎_, inl, inr, _↔_}
 use mathlib.Core.Path.{_≡_, refl, sym, ap, _∙_, subst}
 use mathlib.Core.Bool.{true, true≢false}
@@ -24,6 +24,7 @@ use Rattle.farm.specs.declared.State.the-variants.{Open}
 use Rattle.session.specs.Frames.{read}
 use Rattle.session.specs.Ends.{Settings, Within, Ends, Tied, tables}
 use Rattle.session.specs.Session.{Linked, History, Event, adRequest, ticks, lowerSays, wordIn, frameIn, begins, run, noUnit}
+use Rattle.session.specs.Channels.{LinkEvent, demanded, negativeWindow, linkRun}
 use Rattle.session.specs.Claims.{unitsAt, member, Sends, Resends, Marked, Claims, serves, expected, BufferFree, nextUnit, nextNumber}
 use Rattle.fop.specs.Events as fop
 use Rattle.session.specs.Session as ses
@@ -33,12 +34,12 @@ use Rattle.session.proofs.Lists.{units-iota}
 use Rattle.session.proofs.Chan.{Wds}
 use Rattle.session.proofs.Octets.{word-back}
 use Rattle.session.proofs.Inv.{Inv, isLocked}
-use Rattle.session.proofs.Receiver.{step-keeps, begun, start-inv}
 use Rattle.session.proofs.Clear.{clears-all, clears-sends}
 use Rattle.session.proofs.Arrive.{accepts}
 use Rattle.session.proofs.Next.{historyOf, Sent, Resent, offers, ready-again, ready-new, expires}
 use Rattle.session.proofs.Words.{word-made}
-use Rattle.session.proofs.Link.{Rel, at-start, same-step, tables-tied, reads, fly-reads, Reads}
+use Rattle.session.proofs.Link.{Rel, same-step, tables-tied, reads, fly-reads, Reads}
+use Rattle.session.proofs.Linked.{from-start, as-demanded}
 
 -- confirmed units are a first part of those accepted, and these of those sent
 pub confirmed-are : (set : Settings) (κ : Session) → Inv set κ → unitsAt (κ .sent) (κ .confirmed) ≡ map some (take (length (κ .confirmed)) (κ .accepted))
@@ -175,34 +176,18 @@ module _ (set : Settings) (vw : Within set) (m : Ends) (t : Tied set m) (σ : Li
         words = word-made set vw m t σ κ R I (γ .receiver .farm .channel .variables) (ap (λ (f : Receiver). f .farm .channel .variables) (G .farm));
       }
 
--- the two sessions after a list of events, both seen as one, with whatever X else every event keeps
-together : (set : Settings) (vw : Within set) (m : Ends) (t : Tied set m) (X : Session → Type 0)
-    → ((e : Event) (κ : Session) → Inv set κ → X κ → X (core.step set e κ))
-    → (es : List Event) (σ : Linked m) (γ : Linked (tables set)) (κ : Session)
-    → Rel set vw m t σ κ → Rel set vw (tables set) (tables-tied set) γ κ → Inv set κ → X κ
-    → (κ' : Session) × Rel set vw m t (run set m es σ) κ' × Rel set vw (tables set) (tables-tied set) (run set (tables set) es γ) κ' × Inv set κ' × X κ'
-unfolding run
-together set vw m t X keeps [] σ γ κ R G I x = (κ, R, G, I, x)
-together set vw m t X keeps (e ∷ es) σ γ κ R G I x =
-    together set vw m t X keeps es (ses.step set m e σ) (ses.step set (tables set) e γ) (core.step set e κ) (same-step set vw m t e σ κ R I)
-    (same-step set vw (tables set) (tables-tied set) e γ κ G I) (step-keeps set vw e κ I) (keeps e κ I x)
+-- All of demand 3 over channels that repeat and noise, for all settings within their limits and all ends that do as the tables say, with a
+-- recorder that keeps at most NW units: after every list of events and at whatever event of demand 3 comes next.
+pub claims-linked : (set : Settings) → Within set → (m : Ends) → Tied set m → (kept : ℕ) → kept ≤ negativeWindow set → (es : List LinkEvent)
+    → Claims set m (linkRun set kept m es (begins m)) (linkRun set kept (tables set) es (begins (tables set)))
+claims-linked set vw m t kept most es =
+    let k = from-start set vw m t kept most (λ κ. Unit {0}) (λ e κ I x. tt) tt es in
+    claims set vw m t _ _ (k .session) (k .ends) (k .ofTables) (k .inv)
 
--- and so from the start
-pub from-start : (set : Settings) (vw : Within set) (m : Ends) (t : Tied set m) (X : Session → Type 0)
-    → ((e : Event) (κ : Session) → Inv set κ → X κ → X (core.step set e κ)) → X (begun set) → (es : List Event)
-    → (κ : Session) × Rel set vw m t (run set m es (begins m)) κ
-    × Rel set vw (tables set) (tables-tied set) (run set (tables set) es (begins (tables set))) κ × Inv set κ × X κ
-from-start set vw m t X keeps x es =
-    together set vw m t X keeps es (begins m) (begins (tables set)) (begun set) (at-start set vw m t) (at-start set vw (tables set) (tables-tied set))
-    (start-inv set vw) x
-
--- Demand 3, whole: for all settings within their limits and all ends that do as the tables say, after every list of events and at whatever
--- event comes next.
+-- Demand 3, whole: the case of its own events alone.
 pub demand3 : (set : Settings) → Within set → (m : Ends) → Tied set m → (es : List Event)
     → Claims set m (run set m es (begins m)) (run set (tables set) es (begins (tables set)))
-demand3 set vw m t es =
-    let k = from-start set vw m t (λ κ. Unit {0}) (λ e κ I x. tt) tt es in
-    claims set vw m t (run set m es (begins m)) (run set (tables set) es (begins (tables set))) (k .0) (k .1) (k .2) (k .3)
+demand3 set vw m t es = as-demanded set m (Claims set m) es (claims-linked set vw m t 0 (omega arith) (map demanded es))
 
 -- and the table machines are such ends
 pub demand3-tables : (set : Settings) → Within set → (es : List Event)
