@@ -40,6 +40,7 @@ pub mod Once
 pub mod Channels
 pub mod Noise
 pub mod Linked
+pub mod Harmless
 pub mod Trace
 pub mod Example
 pub mod Premises

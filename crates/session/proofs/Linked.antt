@@ -37,7 +37,7 @@ map-chosen f true l = refl
 map-chosen f false l = refl
 
 -- an answer of E9 leaves the histories as they were
-unheard : (κ : Session) (n : ℕ) (x : Frame) → afterFrame x (discarded n) (historyOf κ) ≡ historyOf κ
+pub unheard : (κ : Session) (n : ℕ) (x : Frame) → afterFrame x (discarded n) (historyOf κ) ≡ historyOf κ
 unfolding afterFrame
 unheard κ n (AD u) = refl
 unheard κ n (BD o) = refl
@@ -95,7 +95,7 @@ module _ (set : Settings) (vw : Within set) where
     noise-arrives true σ κ o R h = noise-in σ κ o (σ .frames) R refl h
     noise-arrives false σ κ o R h = R
 
-    word-noise-arrives : (x : WordReceived) (σ : Linked m) (κ : Session) (o : List ℕ) (lent : ℕ) → Rel set vw m t σ κ → Inv set κ → readWord (set .own) o ≡ x
+    pub word-noise-arrives : (x : WordReceived) (σ : Linked m) (κ : Session) (o : List ℕ) (lent : ℕ) → Rel set vw m t σ κ → Inv set κ → readWord (set .own) o ≡ x
         → Rel set vw m t (ses.wordCome set m lent (arriving (isRefusedWord x) o (σ .words)) σ) κ
     unfolding ses.wordCome
     word-noise-arrives (valid w) σ κ o lent R I q = R
