@@ -32,6 +32,9 @@ pub mod Serving
 pub mod Exact
 pub mod Handed
 pub mod Standing
+pub mod Denied
+pub mod Ended
+pub mod Split
 pub mod Refusals
 pub mod Answered
 pub mod Strong
@@ -46,4 +49,5 @@ pub mod Example
 pub mod Premises
 pub mod Refuted
 pub mod Renumbered
+pub mod Recorder
 pub mod Universal
