@@ -24,8 +24,8 @@ use Rattle.session.specs.Ends.{Settings, Within, Ends, Tied}
 use Rattle.session.specs.Session.{Linked, Event, adRequest, bdRequest, ticks, lowerSays, terminate, wordIn, wordLost, wordMade, frameIn, frameLost, release, rest}
 use Rattle.session.specs.Claims.{serves}
 use Rattle.session.specs.Stronger.{InSession}
-use Rattle.session.specs.Channels.{isAd, stays}
-use Rattle.session.specs.Beyond.{noAd}
+use Rattle.session.specs.Channels.{LinkEvent, demanded, frameStays, wordStays, frameAgain, noise, wordNoise, isAd, stays}
+use Rattle.session.specs.Beyond.{noAd, noneAgain}
 use Rattle.session.proofs.Choices.{by-pick, and-l, and-r, and-both}
 use Rattle.session.proofs.Test.{first-all, lower-all, lowered, tick-ways}
 use Rattle.session.proofs.Suspended.{suspendAll, suspend-all, effective-is}
@@ -33,7 +33,8 @@ use Rattle.session.proofs.Core.{Session, goes, sender, answered, wordCo
 use Rattle.session.proofs.Rows.{modeOf, sound}
 use Rattle.session.proofs.Inv.{Inv}
 use Rattle.session.proofs.Link.{Rel, Reads, reads, fly-reads}
-use Rattle.session.proofs.Serving.{NoAd, Serving, ad-serving, bd-serving, tick-serving, lower-serving, terminate-serving, word-serving}
+use Rattle.session.proofs.Channels.{staysAd, linkStep}
+use Rattle.session.proofs.Serving.{NoAd, none-more, Serving, ad-serving, bd-serving, tick-serving, lower-serving, terminate-serving, word-serving}
 
 -- The sender.
 
@@ -130,14 +131,6 @@ work-kept own ws (wordArrives s) f i h = received-kept (readWord own s) f h
 
 -- The session.
 
-none-joined : (fs gs : List Frame) → NoAd fs → NoAd gs → NoAd (fs ++ gs)
-none-joined [] gs h g = g
-none-joined (AD u ∷ fs) gs h g = absurd h
-none-joined (BD o ∷ fs) gs h g = none-joined fs gs h g
-none-joined (Unlock ∷ fs) gs h g = none-joined fs gs h g
-none-joined (SetVR v ∷ fs) gs h g = none-joined fs gs h g
-none-joined (Refused r ∷ fs) gs h g = none-joined fs gs h g
-
 none-behind : (f : Frame) (fs : List Frame) → NoAd (f ∷ fs) → NoAd fs
 none-behind (AD u) fs h = absurd h
 none-behind (BD o) fs h = h
@@ -149,14 +142,14 @@ pub none-rest : (fs : List Frame) → NoAd fs → NoAd (rest fs)
 none-rest [] h = h
 none-rest (f ∷ fs) h = none-behind f fs h
 
--- also where the oldest stays
-pub none-stays : (fs : List Frame) → NoAd fs → NoAd (stays fs)
-none-stays [] h = h
+-- no AD frame is there to stay
+none-stays : (fs : List Frame) → NoAd fs → NoAd (staysAd fs)
+none-stays [] h = tt
 none-stays (AD u ∷ fs) h = absurd h
-none-stays (BD o ∷ fs) h = h
-none-stays (Unlock ∷ fs) h = h
-none-stays (SetVR v ∷ fs) h = h
-none-stays (Refused r ∷ fs) h = h
+none-stays (BD o ∷ fs) h = tt
+none-stays (Unlock ∷ fs) h = tt
+none-stays (SetVR v ∷ fs) h = tt
+none-stays (Refused r ∷ fs) h = tt
 
 -- the sender is in Initial, not suspended, and no AD frame is under way
 pub record Ended (κ : Session) : Type 0 where
@@ -173,7 +166,7 @@ module _ (set : Settings) where
   sender-ended ws e lent κ i h =
       let k = work-kept (set .own) ws e (κ .fop) i (h .initial) in
       by-pick (Stands κ) (goes (set .own) e lent (κ .fop))
-      (λ b. (record { initial = k .0; none = none-joined (κ .frames) ((work (set .own) e (κ .fop)) .frames) (h .none) (k .1) }, refl)) (λ b. (h, refl))
+      (λ b. (record { initial = k .0; none = none-more (κ .frames) ((work (set .own) e (κ .fop)) .frames) (h .none) (k .1) }, refl)) (λ b. (h, refl))
 
   -- other channels
   pub channels-ended : (fs : List Frame) (ws : List Word) (κ : Session) → NoAd fs → Ended κ → Stands κ (channels fs ws κ)
@@ -216,6 +209,16 @@ module _ (set : Settings) where
   step-ended frameIn κ h = frames-ended (free set κ) (κ .frames) κ (h .none) h
   step-ended frameLost κ h = channels-ended (rest (κ .frames)) (κ .words) κ (none-rest (κ .frames) (h .none)) h
   step-ended release κ h = release-ended (isHeld κ) κ h
+
+  -- and every one besides, but the recorder's
+  pub link-ended : (kept : ℕ) (e : LinkEvent) (κ : Session) → noneAgain (e ∷ []) ≡ true → Ended κ → Stands κ (linkStep set kept e κ)
+  unfolding linkStep
+  link-ended kept (demanded e) κ n h = step-ended e κ h
+  link-ended kept frameStays κ n h = frames-ended (free set κ) (staysAd (κ .frames)) κ (none-stays (κ .frames) (h .none)) h
+  link-ended kept (wordStays lent) κ n h = words-ended lent (stays (κ .words)) κ h
+  link-ended kept (frameAgain i) κ n h = absurd (false≢true n)
+  link-ended kept (noise o) κ n h = (h, refl)
+  link-ended kept (wordNoise o lent) κ n h = (h, refl)
 
 -- The frames under way as octets.
 

@@ -31,7 +31,7 @@ NoAd (Unlock ∷ fs) = NoAd fs
 NoAd (SetVR v ∷ fs) = NoAd fs
 NoAd (Refused r ∷ fs) = NoAd fs
 
-none-more : (fs gs : List Frame) → NoAd fs → NoAd gs → NoAd (fs ++ gs)
+pub none-more : (fs gs : List Frame) → NoAd fs → NoAd gs → NoAd (fs ++ gs)
 none-more [] gs h g = g
 none-more (AD u ∷ fs) gs h g = absurd h
 none-more (BD o ∷ fs) gs h g = none-more fs gs h g
