@@ -50,4 +50,5 @@ pub mod Premises
 pub mod Refuted
 pub mod Renumbered
 pub mod Recorder
+pub mod Tight
 pub mod Universal
