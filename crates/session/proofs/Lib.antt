@@ -22,6 +22,7 @@ pub mod Received
 pub mod Link
 pub mod Words
 pub mod Theorem
+pub mod Round
 pub mod Asks
 pub mod Keys
 pub mod Every
@@ -48,6 +49,7 @@ pub mod Trace
 pub mod Example
 pub mod Premises
 pub mod Refuted
+pub mod Pass
 pub mod Renumbered
 pub mod Recorder
 pub mod Tight

@@ -54,7 +54,7 @@ abbrev Holds : Ends → List Event → Type 0
 Holds m es = Claims set m (after set m es) (after set (tables set) es)
 
 -- a sender that queues and never sends
-abbrev never-sends : Ends
+abbrev pub never-sends : Ends
 never-sends = sender-by (λ e a. withDown none a)
 
 refuted-sends : Holds never-sends [] → ⊥
