@@ -26,6 +26,7 @@ use Rattle.session.specs.Session.{Event, begins, run}
 use Rattle.session.specs.Claims.{Claims}
 use Rattle.session.proofs.Theorem.{demand3}
 use Rattle.session.proofs.Strong.{stronger-claims}
+use Rattle.session.proofs.Beyond.{beyond}
 use Rattle.sender.specs.declared.Start.{Start}
 use Rattle.sender_frames.specs.Limits.{smallestStore}
 use Rattle.sender.specs.Start.{startingOf}
@@ -36,7 +37,7 @@ use Rattle.pondreszi_receiver.specs.Receivers as receiver
 use Rattle.our_session.specs.Ours.{Held, stepOf, heldAfter, lentOutput, senderSettings, freshHeld, startHeld, reads, Begins}
 use Rattle.our_session.proofs.Theorem.{fresh-good, fresh-begins, receiver-starts}
 use Rattle.called_session.specs.Called.{Kept, heldIn, BeginsKept, called}
-use Rattle.called_session.specs.Demand.{Demand3, StrongerCalled}
+use Rattle.called_session.specs.Demand.{Demand3, StrongerCalled, BeyondCalled}
 use Rattle.called_session.specs.Fresh.{newSender, newKept, startKept, FreshSender, FreshReceiver}
 use Rattle.called_session.proofs.Receiver.{GoodReceiver, keeps-receiver, next-receiver, answer-receiver, word-receiver, start-good}
 use Rattle.called_session.proofs.Sender.{placed-whole, GoodKept, octets-kept, held-is, keeps, next, answers}
@@ -67,6 +68,9 @@ demand3-called set within x b es = demand3 set within (called set x) (called-tie
 
 pub stronger-called : StrongerCalled
 stronger-called set within x b es = stronger-claims set within (called set x) (called-tied set within x b) es
+
+pub beyond-called : BeyondCalled
+beyond-called set within x b = beyond set within (called set x) (called-tied set within x b)
 
 -- a new sender, in a buffer of a state's length
 module _ (set : Settings) (within : Within set) (store : List ℕ) (long : smallestStore ≤ length store) (buffer : List ℕ)

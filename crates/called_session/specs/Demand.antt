@@ -4,6 +4,7 @@ use Rattle.session.specs.Ends.{Settings, Within, tables}
 use Rattle.session.specs.Session.{Event, begins, run}
 use Rattle.session.specs.Claims.{Claims}
 use Rattle.session.specs.Stronger.{Stronger}
+use Rattle.session.specs.Beyond.{Beyond}
 use Rattle.called_session.specs.Called.{Kept, BeginsKept, called}
 
 -- for all settings within limits, whatever a caller keeps of a sender that begins there, and every list of events: each sentence of demand 3,
@@ -18,3 +19,7 @@ abbrev pub StrongerCalled : Type 0
 StrongerCalled =
     (set : Settings) → Within set → (x : Kept) → BeginsKept set x → (es : List Event)
     → Stronger set (called set x) (run set (called set x) es (begins (called set x))) (run set (tables set) es (begins (tables set)))
+
+-- and all that holds beyond demand 3, over channels that repeat and noise
+abbrev pub BeyondCalled : Type 0
+BeyondCalled = (set : Settings) → Within set → (x : Kept) → BeginsKept set x → Beyond set (called set x)

@@ -30,11 +30,12 @@ use Rattle.session.specs.Session.{Event, begins, run}
 use Rattle.session.specs.Claims.{Claims}
 use Rattle.session.proofs.Theorem.{demand3}
 use Rattle.session.proofs.Strong.{stronger-claims}
+use Rattle.session.proofs.Beyond.{beyond}
 use Rattle.sender_frames.specs.Limits.{smallestStore}
 use Rattle.sender_state.specs.State.{settingsHold}
 use Rattle.sender.specs.Start.{startingOf}
 use Rattle.our_session.specs.Ours.{Held, lentOutput, senderSettings, freshHeld, heldAfterAll, startHeld, reads, Begins, ours}
-use Rattle.our_session.specs.Demand.{Demand3, StrongerOurs}
+use Rattle.our_session.specs.Demand.{Demand3, StrongerOurs, BeyondOurs}
 use Rattle.our_session.specs.Does.{Demand2}
 use Rattle.our_session.proofs.Events.{does}
 use Rattle.our_session.proofs.Output.{output-content-free}
@@ -165,6 +166,9 @@ demand3-ours set within x b es = demand3 set within (ours set x) (ours-tied set 
 
 pub stronger-ours : StrongerOurs
 stronger-ours set within x b es = stronger-claims set within (ours set x) (ours-tied set x b) es
+
+pub beyond-ours : BeyondOurs
+beyond-ours set within x b = beyond set within (ours set x) (ours-tied set x b)
 
 -- and so of a fresh sender that is told to initiate without check
 pub demand3-fresh : (set : Settings) → Within set → set .count ≡ 1 → (store : List ℕ) → smallestStore ≤ length store → (es : List Event)

@@ -1,4 +1,4 @@
--- Demand 3 of our own sender and receiver: crate session's claims (specs/Claims, specs/Stronger) at our two ends.
+-- Demand 3 of our own sender and receiver: crate session's claims (specs/Claims, specs/Stronger, specs/Beyond) at our two ends.
 use Prim.Native.Nat.{ℕ}
 use mathlib.Core.Logic.{_≢_}
 use mathlib.Core.Path.{_≡_}
@@ -8,6 +8,7 @@ use Rattle.session.specs.Ends.{Settings, Within, tables}
 use Rattle.session.specs.Session.{Event, begins, run}
 use Rattle.session.specs.Claims.{Claims}
 use Rattle.session.specs.Stronger.{Stronger}
+use Rattle.session.specs.Beyond.{Beyond}
 use Rattle.sender.specs.Answers.{Step}
 use Rattle.our_session.specs.Ours.{Held, stepOf, heldAfter, Begins, ours}
 
@@ -23,6 +24,10 @@ abbrev pub StrongerOurs : Type 0
 StrongerOurs =
     (set : Settings) → Within set → (x : Held) → Begins set x → (es : List Event)
     → Stronger set (ours set x) (run set (ours set x) es (begins (ours set x))) (run set (tables set) es (begins (tables set)))
+
+-- and all that holds beyond demand 3, over channels that repeat and noise
+abbrev pub BeyondOurs : Type 0
+BeyondOurs = (set : Settings) → Within set → (x : Held) → Begins set x → Beyond set (ours set x)
 
 -- document 01's refusal in the answer
 abbrev pub refusalOf : Step → ℕ

@@ -50,6 +50,7 @@ pub mod Example
 pub mod Premises
 pub mod Refuted
 pub mod Pass
+pub mod Beyond
 pub mod Renumbered
 pub mod Recorder
 pub mod Tight

@@ -25,7 +25,16 @@ use Rattle.session.proofs.Trace.{computing, settings, after}
 -- K 1 and W 2, so NW is 1, and a recorder of two units
 abbrev narrow : Settings
 narrow = record {
-  n = 254; k = 1; w = 2; buffers = 2; t1 = 9; limit = 3; timeoutType = 0; own = record { spacecraft = 5; channel = 9 }; count = 1; counter = 0
+  n = 254;
+  k = 1;
+  w = 2;
+  buffers = 2;
+  t1 = 9;
+  limit = 3;
+  timeoutType = 0;
+  own = record { spacecraft = 5; channel = 9 };
+  count = 1;
+  counter = 0;
 }
 
 -- two units are accepted one after the other; then the recorder repeats the first, which is two before the number expected
