@@ -54,4 +54,5 @@ pub mod Beyond
 pub mod Renumbered
 pub mod Recorder
 pub mod Tight
+pub mod Replayed
 pub mod Universal

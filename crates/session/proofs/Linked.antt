@@ -160,7 +160,7 @@ module _ (set : Settings) (vw : Within set) (m : Ends) (t : Tied set m) (kept : 
       })
 
 -- a list of demand 3's events alone
-run-demanded : (set : Settings) (kept : ℕ) (m : Ends) (es : List Event) (σ : Linked m) → spec.linkRun set kept m (map demanded es) σ ≡ run set m es σ
+pub run-demanded : (set : Settings) (kept : ℕ) (m : Ends) (es : List Event) (σ : Linked m) → spec.linkRun set kept m (map demanded es) σ ≡ run set m es σ
 unfolding spec.linkRun spec.linkStep run
 run-demanded set kept m [] σ = refl
 run-demanded set kept m (e ∷ es) σ = run-demanded set kept m es (ses.step set m e σ)

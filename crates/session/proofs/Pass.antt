@@ -39,13 +39,13 @@ pass-length [] = refl
 pass-length (o ∷ os) = omega (arith, pass-length os)
 
 -- a list of events keeps the invariant, and what is known of the buffers
-keeps : (set : Settings) → Within set → (es : List Event) (κ : Session) → Inv set κ → Stocked set κ → Inv set (run set es κ) × Stocked set (run set es κ)
+pub keeps : (set : Settings) → Within set → (es : List Event) (κ : Session) → Inv set κ → Stocked set κ → Inv set (run set es κ) × Stocked set (run set es κ)
 unfolding run
 keeps set vw [] κ I b = (I, b)
 keeps set vw (e ∷ es) κ I b = keeps set vw es (step set e κ) (step-keeps set vw e κ I) (stock-keeps set vw e κ I b)
 
 -- a session of tied ends over a list of events is a session of the table machines
-through : (set : Settings) (vw : Within set) (m : Ends) (t : Tied set m) (es : List Event) (σ : Linked m) (κ : Session)
+pub through : (set : Settings) (vw : Within set) (m : Ends) (t : Tied set m) (es : List Event) (σ : Linked m) (κ : Session)
     → Rel set vw m t σ κ → Inv set κ → Rel set vw m t (ses.run set m es σ) (run set es κ)
 unfolding ses.run run
 through set vw m t [] σ κ R I = R

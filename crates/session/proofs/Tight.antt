@@ -1,5 +1,5 @@
--- Where what holds beyond demand 3 stops, by witnesses of the table machines: a recorder that keeps one unit more than NW locks the receiver out;
--- an invalid control word is no noise but E15, an alert; a control word that was altered into another valid one confirms what was never accepted;
+-- Where what holds beyond demand 3 stops, by witnesses of the table machines. A recorder that keeps one unit more than NW locks the receiver out: by a witness at K 1 and W 2
+-- (`locked-out`; at every setting: Replayed). An invalid control word is no noise but E15, an alert; a control word that was altered into another valid one confirms what was never accepted;
 -- a type-B frame that stays is accepted twice.
 use mathlib.Core.Path.{_≡_, refl, ap, sym, _∙_}
 use mathlib.Core.Bool.{true, false, true≢false}
