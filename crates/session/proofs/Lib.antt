@@ -54,5 +54,6 @@ pub mod Beyond
 pub mod Renumbered
 pub mod Recorder
 pub mod Tight
+pub mod Rules
 pub mod Replayed
 pub mod Universal

@@ -1,5 +1,6 @@
--- NW is tight at every setting, of all ends that do as the tables say: a recorder that keeps one unit more locks the receiver out
--- (`locked-out-always`). After a pass of NW + 1 units (Pass) the first of them is NW + 1 before the number expected, and the recorder repeats it: E5.
+-- A recorder that keeps too much, at every setting and of all ends that do as the tables say. After a pass of as many units as it keeps (Pass) it
+-- repeats the first of them. One more than NW: the receiver is locked out (`locked-out-always`), so NW is tight. 256: the frame has the number
+-- expected, and an old unit is accepted over a new one (`old-over-new`).
 use mathlib.Core.Path.{_≡_, refl, ap, sym, _∙_}
 use mathlib.Core.Bool.{Bool, true, true≢false}
 use mathlib.Core.List.{List, [], _∷_, _++_, map}
@@ -12,23 +13,28 @@ use lib.ListN.{length, replicate}
 use Rattle.base.specs.Modulo.{advanced, offset}
 use Rattle.base.proofs.Modulo.{offset-back}
 use Rattle.fop.specs.Units.{Fdu, AD, legal, written}
+use Rattle.farm.specs.Table.{table, accepts}
 use Rattle.farm.specs.Window.{adEvent}
 use Rattle.farm.specs.declared.State.{State as FarmState}
-use Rattle.farm.specs.declared.Event.the-variants.{E5}
+use Rattle.farm.specs.declared.State.the-variants.{Open}
+use Rattle.farm.specs.declared.Event.{Event as FarmEvent}
+use Rattle.farm.specs.declared.Event.the-variants.{E1, E5}
 use Rattle.receiver.specs.Channel as channel
 use Rattle.receiver.specs.Receiver as receiver
-use Rattle.receiver.specs.declared.Received.{Received}
-use Rattle.session.specs.Receiver.{frameArrives, ReceiverAnswer, receiverAnswer}
+use Rattle.receiver.specs.declared.Receiver.{Receiver}
+use Rattle.session.specs.Frames.{read}
+use Rattle.session.specs.Receiver.{frameArrives, receiverAnswer}
 use Rattle.session.specs.Ends.{Settings, Within, Ends, Tied, tables}
 use Rattle.session.specs.Session.{Linked, History, begins, frameIn, enters, frameCome, afterFrame, step, run}
-use Rattle.session.specs.Claims.{Claims}
+use Rattle.session.specs.Claims.{Claims, BufferFree}
 use Rattle.session.specs.Channels.{LinkEvent, demanded, frameAgain, negativeWindow, isKept, repeated, linkStep, linkRun}
 use Rattle.session.specs.Beyond.{pass, numbered, allLegal, Passed}
 use Rattle.session.proofs.Core.{Session, used, frameEvent}
-use Rattle.session.proofs.Received.{received-is}
+use Rattle.session.proofs.Received.{received-is, part-is, answerBy}
 use Rattle.session.proofs.Receiver.{begun, start-inv}
 use Rattle.session.proofs.Buffers.{start-stock}
-use Rattle.session.proofs.Link.{Rel, at-start}
+use Rattle.session.proofs.Next.{historyOf}
+use Rattle.session.proofs.Link.{Rel, reads, at-start, tables-tied}
 use Rattle.session.proofs.Linked.{run-demanded}
 use Rattle.session.proofs.Round as core
 use Rattle.session.proofs.Pass.{keeps, through, passes-from-start}
@@ -49,19 +55,19 @@ unfolding linkRun
 link-append set kept m [] fs σ = refl
 link-append set kept m (e ∷ es) fs σ = link-append set kept m es fs (linkStep set kept m e σ)
 
-module _ (set : Settings) (vw : Within set) (m : Ends) (t : Tied set m) where
-  -- a pass of NW + 1 units, and a recorder that keeps as many
-  abbrev more : ℕ
-  more = suc (negativeWindow set)
+-- a pass of age units, one or more, and a recorder that keeps as many
+module _ (set : Settings) (vw : Within set) (m : Ends) (t : Tied set m) (before : ℕ) where
+  abbrev age : ℕ
+  age = suc before
 
   abbrev units : List (List ℕ)
-  units = (7 ∷ []) ∷ replicate (negativeWindow set) (7 ∷ [])
+  units = (7 ∷ []) ∷ replicate before (7 ∷ [])
 
   abbrev passed : Linked m
   passed = run set m (pass units) (begins m)
 
   all-pass : Passed set units (begins m) passed (run set (tables set) (pass units) (begins (tables set)))
-  all-pass = passes-from-start set vw m t units (seven-legal more)
+  all-pass = passes-from-start set vw m t units (seven-legal age)
 
   -- the first of them, with the number of the start, and its frame
   abbrev first : Fdu
@@ -70,63 +76,111 @@ module _ (set : Settings) (vw : Within set) (m : Ends) (t : Tied set m) where
   abbrev its-frame : List ℕ
   its-frame = written (set .own) (AD first)
 
-  sent-is : passed .history .sent ≡ first ∷ numbered (advanced (advanced (set .n) 0) 1) (replicate (negativeWindow set) (7 ∷ []))
+  sent-is : passed .history .sent ≡ first ∷ numbered (advanced (advanced (set .n) 0) 1) (replicate before (7 ∷ []))
   unfolding begins
   sent-is = all-pass .sent
 
-  accepted-length : length (passed .history .accepted) ≡ more
+  accepted-length : length (passed .history .accepted) ≡ age
   unfolding begins
-  accepted-length = ap length (all-pass .accepted) ∙ seven-length more (advanced (set .n) 0)
+  accepted-length = ap length (all-pass .accepted) ∙ seven-length age (advanced (set .n) 0)
 
-  kept-still : isKept more (passed .history .sent) 0 ≡ true
+  kept-still : isKept age (passed .history .sent) 0 ≡ true
   kept-still =
-      let l : length (passed .history .sent) ≡ more = ap length sent-is ∙ seven-length more (advanced (set .n) 0) in
-      rw (l, lt-ltb 0 more (omega arith), le-leb more (0 + more) (omega arith))
+      let l : length (passed .history .sent) ≡ age = ap length sent-is ∙ seven-length age (advanced (set .n) 0) in
+      rw (l, lt-ltb 0 age (omega arith), le-leb age (0 + age) (omega arith))
 
-  under-way : enters (passed .frames) (repeated (set .own) more (passed .history .sent) 0) ≡ its-frame ∷ []
+  under-way : enters (passed .frames) (repeated (set .own) age (passed .history .sent) 0) ≡ its-frame ∷ []
   under-way = rw (kept-still, all-pass .rest .frames, sent-is)
 
-  -- the receiver, which has accepted NW + 1 units
+  -- the receiver, which has accepted all of them
   abbrev κ : Session
   κ = core.run set (pass units) (begun set)
 
   rel : Rel set vw m t passed κ
   rel = through set vw m t (pass units) (begins m) (begun set) (at-start set vw m t) (start-inv set vw)
 
-  vr-is : κ .farm .vr ≡ advanced (set .n) more
+  vr-is : κ .farm .vr ≡ advanced (set .n) age
   vr-is =
       keeps set vw (pass units) (begun set) (start-inv set vw) (start-stock set) .0 .receiver .isVr
       ∙ ap (advanced (set .n)) (ap (λ (h : History). length (h .accepted)) (sym (rel .history)) ∙ accepted-length)
 
-  -- answers it E5
-  far : (s : FarmState) (room : Bool) → adEvent (set .w) s room (offset (advanced (set .n) 0) (advanced (set .n) more)) ≡ E5
+  -- judges the frame by how far it is behind
+  abbrev event : FarmEvent
+  event = adEvent (set .w) (κ .farm .state) (ltb (used κ) (set .buffers)) (offset (advanced (set .n) 0) (advanced (set .n) age))
+
+  answer-is : m .answerReceiver (frameArrives its-frame) (passed .receiver) ≡ answerBy event (κ .farm .state) (AD first)
+  unfolding receiverAnswer receiver.answered channel.answered frameEvent legal
+  answer-is =
+      t .answerReceiver (frameArrives its-frame) (passed .receiver) (rel .goodReceiver) ∙ ap (receiverAnswer (frameArrives its-frame)) (rel .farm)
+      ∙ rw (received-is set vw (used κ) (κ .farm) (AD first) (refl, omega arith), part-is set vw (used κ) (κ .farm) (AD first) (refl, omega arith), vr-is)
+
+  -- the pass, then the recorder repeats the first unit's frame, and it arrives
+  abbrev replay : List LinkEvent
+  replay = map demanded (pass units) ++ (frameAgain 0 ∷ demanded frameIn ∷ [])
+
+  abbrev replayed : Linked m
+  replayed = linkRun set age m replay (begins m)
+
+  reads-back : read (set .own) its-frame ≡ AD first
+  unfolding legal
+  reads-back = reads set vw (AD first) (refl, omega arith)
+
+  history-is : replayed .history ≡ afterFrame (AD first) (answerBy event (κ .farm .state) (AD first)) (passed .history)
+  unfolding linkRun linkStep step frameCome
+  history-is =
+      ap (λ (σ : Linked m). σ .history)
+      (link-append set age m (map demanded (pass units)) (frameAgain 0 ∷ demanded frameIn ∷ []) (begins m)
+      ∙ ap (linkRun set age m (frameAgain 0 ∷ demanded frameIn ∷ [])) (run-demanded set age m (pass units) (begins m)))
+      ∙ rw (under-way, answer-is, reads-back)
+
+module _ (set : Settings) (vw : Within set) (m : Ends) (t : Tied set m) where
+  -- NW + 1 units: E5
+  far : (s : FarmState) (room : Bool)
+      → adEvent (set .w) s room (offset (advanced (set .n) 0) (advanced (set .n) (suc (negativeWindow set)))) ≡ E5
   unfolding adEvent
   far s room =
-      let d : ℕ = offset (advanced (set .n) 0) (advanced (set .n) more) in
-      let e : offset (advanced (set .n) 0) (advanced (set .n) more) ≡ 256 - (more - 0) = offset-back (set .n) 0 more (omega arith) (omega (arith, vw .farmMost)) in
+      let d : ℕ = offset (advanced (set .n) 0) (advanced (set .n) (suc (negativeWindow set))) in
+      let e : offset (advanced (set .n) 0) (advanced (set .n) (suc (negativeWindow set))) ≡ 256 - (suc (negativeWindow set) - 0) =
+      offset-back (set .n) 0 (suc (negativeWindow set)) (omega arith) (omega (arith, vw .farmMost)) in
       rw (
         ne-eqb d 0 (λ q. omega (arith, e, q, vw .farmMost)),
         le-ltb d (set .w / 2) (omega (arith, e, vw .farmMost)),
         lt-leb 256 (d + set .w / 2) (omega (arith, e, vw .farmMost)),
       )
 
-  answer-is : (m .answerReceiver (frameArrives its-frame) (passed .receiver)) .event ≡ some E5
-  unfolding receiverAnswer receiver.answered channel.answered frameEvent legal
-  answer-is =
-      ap (λ (a : ReceiverAnswer). a .event)
-      (t .answerReceiver (frameArrives its-frame) (passed .receiver) (rel .goodReceiver) ∙ ap (receiverAnswer (frameArrives its-frame)) (rel .farm))
-      ∙ ap (λ (x : Received). some (x .event)) (received-is set vw (used κ) (κ .farm) (AD first) (refl, omega arith))
-      ∙ ap (λ (v : ℕ). some (adEvent (set .w) (κ .farm .state) (ltb (used κ) (set .buffers)) (offset (first .ns) v))) vr-is
-      ∙ ap some (far (κ .farm .state) (ltb (used κ) (set .buffers)))
-
-  -- and is locked out
-  pub locked-out-always : (linkRun set more m (map demanded (pass units) ++ (frameAgain 0 ∷ demanded frameIn ∷ [])) (begins m)) .history .lockedOut ≡ true
-  unfolding linkRun linkStep step frameCome afterFrame
+  pub locked-out-always : (replayed set vw m t (negativeWindow set)) .history .lockedOut ≡ true
+  unfolding afterFrame
   locked-out-always =
-      ap (λ (σ : Linked m). σ .history .lockedOut)
-      (link-append set more m (map demanded (pass units)) (frameAgain 0 ∷ demanded frameIn ∷ []) (begins m)
-      ∙ ap (linkRun set more m (frameAgain 0 ∷ demanded frameIn ∷ [])) (run-demanded set more m (pass units) (begins m)))
-      ∙ rw (under-way, answer-is, rel .history)
+      ap (λ (h : History). h .lockedOut) (history-is set vw m t (negativeWindow set))
+      ∙ rw (far (κ set vw m t (negativeWindow set) .farm .state) (ltb (used (κ set vw m t (negativeWindow set))) (set .buffers)), rel set vw m t (negativeWindow set) .history)
 
-  pub refuted-more : ((es : List LinkEvent) → Claims set m (linkRun set more m es (begins m)) (linkRun set more (tables set) es (begins (tables set)))) → ⊥
+  pub refuted-more : ((es : List LinkEvent)
+      → Claims set m (linkRun set (suc (negativeWindow set)) m es (begins m)) (linkRun set (suc (negativeWindow set)) (tables set) es (begins (tables set)))) → ⊥
   refuted-more c = true≢false (sym locked-out-always ∙ c _ .never .0)
+
+  -- 256 units: the frame carries the number that is expected. This is the accident: an old unit is accepted over a new one.
+  abbrev full : ℕ
+  full = 255
+
+  tables-rel : Rel set vw (tables set) (tables-tied set) (run set (tables set) (pass (units set vw m t full)) (begins (tables set))) (κ set vw m t full)
+  tables-rel =
+      through set vw (tables set) (tables-tied set) (pass (units set vw m t full)) (begins (tables set)) (begun set)
+      (at-start set vw (tables set) (tables-tied set)) (start-inv set vw)
+
+  opened : κ set vw m t full .farm .state ≡ Open
+  opened = ap (λ (r : Receiver). r .farm .channel .variables .state) (sym (tables-rel .farm)) ∙ all-pass set vw m t full .rest .opened
+
+  free : ltb (used (κ set vw m t full)) (set .buffers) ≡ true
+  free =
+      let b : BufferFree set (historyOf (κ set vw m t full)) = rw (rel set vw m t full .history) at (all-pass set vw m t full .rest .free) in
+      lt-ltb (used (κ set vw m t full)) (set .buffers) (omega (arith, b, vw .buffersLeast))
+
+  round-again : event set vw m t full ≡ E1
+  unfolding adEvent
+  round-again =
+      let d : offset (advanced (set .n) 0) (advanced (set .n) 256) ≡ 0 = omega arith in
+      rw (d, free, opened)
+
+  pub old-over-new : (replayed set vw m t full) .history .accepted ≡ (passed set vw m t full) .history .accepted ++ (first set vw m t full ∷ [])
+  unfolding afterFrame table accepts
+  old-over-new = ap (λ (h : History). h .accepted) (history-is set vw m t full) ∙ rw (round-again, opened)
