@@ -39,7 +39,7 @@ member-bounds i j (suc c) h = go (λ k. member-bounds i (suc j) c k) (eqb i j) r
 
 -- of a place i from C on, not further than K from the count accepted A: it is below A exactly where its number is before V(R)
 below-is : (n K C A i : ℕ) → K ≤ 127 → C ≤ i → C ≤ A → A ≤ C + K → i < C + K
-    → i < A ↔ (1 ≤ offset (advanced n A) (advanced n i)) × (offset (advanced n A) (advanced n i) ≤ K)
+    → i < A ↔ (1 ≤ offset (advanced n A) (advanced n i)) × (offset (advanced n A) (advanced n i) ≤ 127)
 below-is n K C A i k a b c d = (λ l. (omega arith, omega arith), λ h. omega arith)
 
 module _ (set : Settings) (κ : Session) (I : Inv set κ) where
@@ -52,12 +52,12 @@ module _ (set : Settings) (κ : Session) (I : Inv set κ) where
   accepted-at i l = ap (λ (s : List Fdu). getD s i noUnit) (I .base .order) ∙ getD-take (length (κ .accepted)) (κ .sent) i noUnit l
 
 -- a denied unit is on board exactly where its number is before V(R)
-pub on-board : (set : Settings) → Within set → (κ : Session) → Inv set κ → κ .fop .state ≡ S6 → κ .fop .suspendState ≡ 0
-    → (i : ℕ) → member i (κ .denied) ≡ true → OnBoard (historyOf κ) i ↔ Before set (κ .farm .vr) ((getD (κ .sent) i noUnit) .ns)
-on-board set vw κ I s z i h =
+pub on-board : (set : Settings) (κ : Session) → Inv set κ → κ .fop .state ≡ S6 → κ .fop .suspendState ≡ 0
+    → (i : ℕ) → member i (κ .denied) ≡ true → OnBoard (historyOf κ) i ↔ Before (κ .farm .vr) ((getD (κ .sent) i noUnit) .ns)
+on-board set κ I s z i h =
     let d = initial-denied set κ I (effective (κ .fop)) (I .side) (effective-is (κ .fop) z ∙ s) in
     let b = member-bounds i (length (κ .confirmed)) (length (κ .sent) - length (κ .confirmed)) (sym (ap (member i) d) ∙ h) in
     let ns : (getD (κ .sent) i noUnit) .ns ≡ advanced (set .n) i = I .base .num .at i (omega arith) in
-    let k = below-is (set .n) (set .k) (length (κ .confirmed)) (length (κ .accepted)) i (omega (arith, vw .windowMost)) (b .0) (omega (arith, I .base))
+    let k = below-is (set .n) (set .k) (length (κ .confirmed)) (length (κ .accepted)) i (omega (arith, I .base)) (b .0) (omega (arith, I .base))
     (unconfirmed set κ I) (omega (arith, I .base, b)) in
     rw (ns, I .receiver .isVr) (λ x. k .0 (x .0), λ x. (k .1 x, accepted-at set κ I i (k .1 x)))

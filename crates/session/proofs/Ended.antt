@@ -157,24 +157,24 @@ pub record Ended (κ : Session) : Type 0 where
   pub none : NoAd (κ .frames)
 
 -- and so it is after an event, which accepts nothing
-abbrev pub Stands : Session → Session → Type 0
-Stands κ τ = Ended τ × (τ .accepted ≡ κ .accepted)
+abbrev pub StaysEnded : Session → Session → Type 0
+StaysEnded κ τ = Ended τ × (τ .accepted ≡ κ .accepted)
 
 module _ (set : Settings) where
-  pub sender-ended : (ws : List (List ℕ)) (e : SenderEvent) (lent : ℕ) (κ : Session) → InSession ws e → Ended κ → Stands κ (sender set e lent κ)
+  pub sender-ended : (ws : List (List ℕ)) (e : SenderEvent) (lent : ℕ) (κ : Session) → InSession ws e → Ended κ → StaysEnded κ (sender set e lent κ)
   unfolding sender answered
   sender-ended ws e lent κ i h =
       let k = work-kept (set .own) ws e (κ .fop) i (h .initial) in
-      by-pick (Stands κ) (goes (set .own) e lent (κ .fop))
+      by-pick (StaysEnded κ) (goes (set .own) e lent (κ .fop))
       (λ b. (record { initial = k .0; none = none-more (κ .frames) ((work (set .own) e (κ .fop)) .frames) (h .none) (k .1) }, refl)) (λ b. (h, refl))
 
   -- other channels
-  pub channels-ended : (fs : List Frame) (ws : List Word) (κ : Session) → NoAd fs → Ended κ → Stands κ (channels fs ws κ)
+  pub channels-ended : (fs : List Frame) (ws : List Word) (κ : Session) → NoAd fs → Ended κ → StaysEnded κ (channels fs ws κ)
   unfolding channels
   channels-ended fs ws κ n h = (record { initial = h .initial; none = n }, refl)
 
   -- the first of any words to the sender
-  pub words-ended : (lent : ℕ) (l : List Word) (κ : Session) → Ended κ → Stands κ (wordCome set lent l κ)
+  pub words-ended : (lent : ℕ) (l : List Word) (κ : Session) → Ended κ → StaysEnded κ (wordCome set lent l κ)
   unfolding wordCome channels
   words-ended lent [] κ h = (h, refl)
   words-ended lent (w ∷ ws) κ h =
@@ -182,7 +182,7 @@ module _ (set : Settings) where
       sender-ended (s ∷ []) (wordArrives s) lent (channels (κ .frames) ws κ) ([], refl) (channels-ended (κ .frames) ws κ (h .none) h .0)
 
   -- the first of any frames, none of them an AD frame, to the receiver
-  pub frames-ended : (room : Bool) (l : List Frame) (κ : Session) → NoAd l → Ended κ → Stands κ (frameCome set room l κ)
+  pub frames-ended : (room : Bool) (l : List Frame) (κ : Session) → NoAd l → Ended κ → StaysEnded κ (frameCome set room l κ)
   unfolding frameCome receiver
   frames-ended room [] κ n h = (h, refl)
   frames-ended room (AD u ∷ fs) κ n h = absurd n
@@ -191,9 +191,9 @@ module _ (set : Settings) where
   frames-ended room (SetVR v ∷ fs) κ n h = (record { initial = h .initial; none = n }, refl)
   frames-ended room (Refused r ∷ fs) κ n h = (record { initial = h .initial; none = n }, refl)
 
-  release-ended : (held : Bool) (κ : Session) → Ended κ → Stands κ (releases held κ)
+  release-ended : (held : Bool) (κ : Session) → Ended κ → StaysEnded κ (releases held κ)
   unfolding releases receiver
-  release-ended held κ h = by-pick (Stands κ) held (λ b. (record { initial = h .initial; none = h .none }, refl)) (λ b. (h, refl))
+  release-ended held κ h = by-pick (StaysEnded κ) held (λ b. (record { initial = h .initial; none = h .none }, refl)) (λ b. (h, refl))
 
   -- every event of demand 3
   pub step-ended : (e : Event) (κ : Session) → Ended κ → Ended (step set e κ) × ((step set e κ) .accepted ≡ κ .accepted)
@@ -211,7 +211,7 @@ module _ (set : Settings) where
   step-ended release κ h = release-ended (isHeld κ) κ h
 
   -- and every one besides, but the recorder's
-  pub link-ended : (kept : ℕ) (e : LinkEvent) (κ : Session) → noneAgain (e ∷ []) ≡ true → Ended κ → Stands κ (linkStep set kept e κ)
+  pub link-ended : (kept : ℕ) (e : LinkEvent) (κ : Session) → noneAgain (e ∷ []) ≡ true → Ended κ → StaysEnded κ (linkStep set kept e κ)
   unfolding linkStep
   link-ended kept (demanded e) κ n h = step-ended e κ h
   link-ended kept frameStays κ n h = frames-ended (free set κ) (staysAd (κ .frames)) κ (none-stays (κ .frames) (h .none)) h

@@ -2,25 +2,27 @@
 -- states that the ends and the tables share.
 use mathlib.Core.Path.{_≡_, refl, sym, ap, _∙_, subst}
 use mathlib.Core.Bool.{true}
-use mathlib.Core.List.{List}
+use mathlib.Core.List.{List, [], _∷_}
 use Prim.Native.Nat.{ℕ, _/_, _≤_}
-use Rattle.fop.specs.Units.{other, readWord}
+use Rattle.fop.specs.Units.{Refused, other, readWord}
 use Rattle.fop.specs.Events.{wordArrives}
-use Rattle.fop.specs.Answers.{Answer, refused, senderAnswer, senderNext}
+use Rattle.frame.specs.Answers.{readingOf}
+use Rattle.frame.specs.declared.FrameReading.the-variants as reading
+use Rattle.fop.specs.Answers.{refused, senderAnswer, senderNext}
 use Rattle.receiver.specs.declared.Receiver.{Receiver}
 use Rattle.session.specs.Frames.{read}
 use Rattle.session.specs.Receiver.{frameArrives, ReceiverAnswer, receiverNext, receiverAnswer}
 use Rattle.session.specs.Ends.{Settings, Within, Ends, Tied, tables}
-use Rattle.session.specs.Session.{Linked, History, frameCome, wordCome, toSender, step, afterFrame, afterSender}
-use Rattle.session.specs.Channels.{noise, wordNoise, isRefused, linkStep, linkRun}
+use Rattle.session.specs.Session.{Linked, History, frameLost, wordLost, frameCome, wordCome, toSender, step, afterFrame, afterSender}
+use Rattle.session.specs.Channels.{demanded, noise, wordNoise, isRefused, isRefusedWord, linkStep, linkRun}
 use Rattle.session.specs.Beyond.{Harmless}
 use Rattle.session.proofs.Channels as core
 use Rattle.session.proofs.Core.{Session, used}
 use Rattle.session.proofs.Received.{receiverOf}
 use Rattle.session.proofs.Inv.{Inv}
 use Rattle.session.proofs.Link.{Rel, tables-tied, refusal-through}
-use Rattle.session.proofs.Linked.{same-link, unheard}
-use Rattle.session.proofs.Noise.{refused-reading, discarded, frame-next, frame-answer, word-number, word-next, word-answer}
+use Rattle.session.proofs.Linked.{same-link, history-kept}
+use Rattle.session.proofs.Noise.{refused-number, discarded, frame-next, frame-answer, word-number, word-next, word-answer}
 
 module _ (set : Settings) (vw : Within set) (m : Ends) (t : Tied set m) (kept : ℕ) (most : kept ≤ set .w / 2)
     (σ : Linked m) (γ : Linked (tables set)) (κ : Session)
@@ -30,27 +32,30 @@ module _ (set : Settings) (vw : Within set) (m : Ends) (t : Tied set m) (kept : 
   r = receiverOf set (used κ) (κ .farm)
 
   -- octets that the frame reader refuses
-  module _ (o : List ℕ) (h : isRefused (read (set .own) o) ≡ true) where
-    answer-is : m .answerReceiver (frameArrives o) (σ .receiver) ≡ discarded (refused-reading (set .own) o h .0)
+  module _ (o : List ℕ) (n : ℕ) (q : read (set .own) o ≡ Refused n) where
+    reading-is : readingOf o (set .own .spacecraft) (set .own .channel) ≡ reading.Refused n
+    reading-is = refused-number (set .own) o n q
+
+    answer-is : m .answerReceiver (frameArrives o) (σ .receiver) ≡ discarded n
     answer-is =
         t .answerReceiver (frameArrives o) (σ .receiver) (R .goodReceiver) ∙ ap (receiverAnswer (frameArrives o)) (R .farm)
-        ∙ frame-answer r o _ (refused-reading (set .own) o h .1)
+        ∙ frame-answer r o n reading-is
 
     -- of the tables
     receiver-stays : receiverNext (frameArrives o) (γ .receiver) ≡ γ .receiver
     receiver-stays =
-        subst (λ (x : Receiver). receiverNext (frameArrives o) x ≡ x) (sym (G .farm)) (frame-next r o _ (refused-reading (set .own) o h .1))
+        subst (λ (x : Receiver). receiverNext (frameArrives o) x ≡ x) (sym (G .farm)) (frame-next r o n reading-is)
 
     history-stays : afterFrame (read (set .own) o) (receiverAnswer (frameArrives o) (γ .receiver)) (γ .history) ≡ γ .history
     history-stays =
         ap (λ (x : Receiver). afterFrame (read (set .own) o) (receiverAnswer (frameArrives o) x) (γ .history)) (G .farm)
-        ∙ ap (λ (a : ReceiverAnswer). afterFrame (read (set .own) o) a (γ .history)) (frame-answer r o _ (refused-reading (set .own) o h .1))
-        ∙ subst (λ (x : History). afterFrame (read (set .own) o) (discarded (refused-reading (set .own) o h .0)) x ≡ x) (sym (G .history))
-        (unheard κ _ (read (set .own) o))
+        ∙ ap (λ (a : ReceiverAnswer). afterFrame (read (set .own) o) a (γ .history)) (frame-answer r o n reading-is)
+        ∙ subst (λ (x : History). afterFrame (read (set .own) o) (discarded n) x ≡ x) (sym (G .history))
+        (history-kept κ n (read (set .own) o))
 
     noise-stays : linkStep set kept (tables set) (noise o) γ ≡ γ
     unfolding linkStep frameCome
-    noise-stays = rw (h, receiver-stays, history-stays)
+    noise-stays = rw (ap isRefused q, receiver-stays, history-stays)
 
   -- octets refused as a control word
   module _ (o : List ℕ) (lent n : ℕ) (h : readWord (set .own) o ≡ other n) where
@@ -70,21 +75,26 @@ module _ (set : Settings) (vw : Within set) (m : Ends) (t : Tied set m) (kept : 
         rw (h, sender-stays, word-answer (set .own) o n h lent (γ .sender), q)
 
   pub harmless : Harmless set kept m σ γ
-  unfolding linkRun linkStep frameCome step core.linkStep
+  unfolding core.linkStep
   harmless = record {
-    frame = λ o h. (
-      noise-stays o h,
-      ap (λ (a : ReceiverAnswer). a .event) (answer-is o h),
-      ap (λ (a : ReceiverAnswer). a .unit) (answer-is o h),
-      same-link set vw m t kept most (noise o) σ κ R I .history ∙ sym (R .history),
-    );
-    word = λ o lent n h. (
-      word-stays o lent n h,
-      ap (λ (a : Answer). a .refusal) (word-answer-is o lent n h),
-      word-number (set .own) o n h lent (κ .fop),
-      ap (λ (a : Answer). a .alert) (word-answer-is o lent n h),
-      ap (λ (a : Answer). a .down) (word-answer-is o lent n h),
+    frame = λ o n q.
+        (answer-is o n q, same-link set vw m t kept most (noise o) σ κ R I .history ∙ sym (R .history), noise-stays o n q);
+    word = λ o lent n q. (
+      word-answer-is o lent n q ∙ ap (refused n) (sym (G .fop)),
+      word-number (set .own) o n q lent (κ .fop),
       same-link set vw m t kept most (wordNoise o lent) σ κ R I .history ∙ sym (R .history),
+      word-stays o lent n q,
     );
-    damaged = λ o x fs h e. rw (h, e);
   }
+
+-- A frame x that is damaged on the way, so that octets o arrive in its place and are refused: this noise, and the frame's loss. And so of a word.
+pub damaged-frame : (set : Settings) (kept : ℕ) (m : Ends) (σ : Linked m) (o x : List ℕ) (fs : List (List ℕ)) → isRefused (read (set .own) o) ≡ true
+    → σ .frames ≡ x ∷ fs → frameCome set m (o ∷ fs) σ ≡ linkRun set kept m (noise o ∷ demanded frameLost ∷ []) σ
+unfolding linkRun linkStep frameCome step
+damaged-frame set kept m σ o x fs h e = rw (h, e)
+
+pub damaged-word : (set : Settings) (kept : ℕ) (m : Ends) (σ : Linked m) (o x : List ℕ) (lent : ℕ) (ws : List (List ℕ))
+    → isRefusedWord (readWord (set .own) o) ≡ true → σ .words ≡ x ∷ ws
+    → wordCome set m lent (o ∷ ws) σ ≡ linkRun set kept m (wordNoise o lent ∷ demanded wordLost ∷ []) σ
+unfolding linkRun linkStep wordCome toSender step
+damaged-word set kept m σ o x lent ws h e = rw (h, e)

@@ -22,6 +22,7 @@ pub mod Received
 pub mod Link
 pub mod Words
 pub mod Theorem
+pub mod HandsOut
 pub mod Round
 pub mod Asks
 pub mod Keys
@@ -53,7 +54,8 @@ pub mod Pass
 pub mod Beyond
 pub mod Renumbered
 pub mod Recorder
-pub mod Tight
+pub mod Repeating
+pub mod Counterexamples
 pub mod Rules
 pub mod Replayed
 pub mod Universal

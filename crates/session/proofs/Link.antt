@@ -222,19 +222,25 @@ module _ (set : Settings) (vw : Within set) where
     unfolding core.frameCome core.receiver afterFrame
     said κ x fs I h = rw (unlocks κ x fs I h, accepted-is set vw κ I x fs h, acceptedBd-is set vw κ I x)
 
+    -- the receiver's answer to a frame under way
+    pub answer-to : (σ : Linked m) (κ : Session) (x : Frame) → Rel σ κ → Readable x
+        → m .answerReceiver (frameArrives (written (set .own) x)) (σ .receiver) ≡ answerTo κ x
+    unfolding receiverAnswer farm.answered channel.answered
+    answer-to σ κ x R rx =
+        t .answerReceiver (frameArrives (written (set .own) x)) (σ .receiver) (R .goodReceiver)
+        ∙ ap (λ (g : Receiver). receiverAnswer (frameArrives (written (set .own) x)) g) (R .farm)
+        ∙ rw (received-is set vw (used κ) (κ .farm) x rx, part-is set vw (used κ) (κ .farm) x rx)
+
     -- a frame arrives
     arrives : (σ : Linked m) (κ : Session) (x : Frame) (fs : List Frame) → Rel σ κ → Inv set κ
         → Fly (set .w / 2) (κ .sent) (length (κ .accepted)) (length (κ .accepted)) (x ∷ fs)
         → Readable x → Stocked set (core.frameCome set (free set κ) (x ∷ fs) κ)
         → Rel (ses.frameCome set m (map (written (set .own)) (x ∷ fs)) σ) (core.frameCome set (free set κ) (x ∷ fs) κ)
-    unfolding ses.frameCome core.frameCome core.receiver receiverNext receiverAnswer farm.answered channel.answered
+    unfolding ses.frameCome core.frameCome core.receiver receiverNext farm.answered channel.answered
     arrives σ κ x fs R I h rx S =
         let rd : read (set .own) (written (set .own) x) ≡ x = reads set vw x rx in
         let got = received-is set vw (used κ) (κ .farm) x rx in
-        let b : m .answerReceiver (frameArrives (written (set .own) x)) (σ .receiver) ≡ answerTo κ x =
-        t .answerReceiver (frameArrives (written (set .own) x)) (σ .receiver) (R .goodReceiver)
-        ∙ ap (λ (g : Receiver). receiverAnswer (frameArrives (written (set .own) x)) g) (R .farm)
-        ∙ rw (received-is set vw (used κ) (κ .farm) x rx, part-is set vw (used κ) (κ .farm) x rx) in
+        let b : m .answerReceiver (frameArrives (written (set .own) x)) (σ .receiver) ≡ answerTo κ x = answer-to σ κ x R rx in
         record {
           good = R .good;
           goodReceiver = t .keepsReceiver (frameArrives (written (set .own) x)) (σ .receiver) (R .goodReceiver);

@@ -37,13 +37,13 @@ map-chosen f true l = refl
 map-chosen f false l = refl
 
 -- an answer of E9 leaves the histories as they were
-pub unheard : (κ : Session) (n : ℕ) (x : Frame) → afterFrame x (discarded n) (historyOf κ) ≡ historyOf κ
+pub history-kept : (κ : Session) (n : ℕ) (x : Frame) → afterFrame x (discarded n) (historyOf κ) ≡ historyOf κ
 unfolding afterFrame
-unheard κ n (AD u) = refl
-unheard κ n (BD o) = refl
-unheard κ n Unlock = refl
-unheard κ n (SetVR v) = refl
-unheard κ n (Refused r) = refl
+history-kept κ n (AD u) = refl
+history-kept κ n (BD o) = refl
+history-kept κ n Unlock = refl
+history-kept κ n (SetVR v) = refl
+history-kept κ n (Refused r) = refl
 
 module _ (set : Settings) (vw : Within set) where
   map-stays-ad : (l : List Frame) → Reads l → spec.staysAd (set .own) (map (written (set .own)) l) ≡ map (written (set .own)) (staysAd l)
@@ -78,7 +78,7 @@ module _ (set : Settings) (vw : Within set) where
           words = R .words;
           history = ap (λ (b : ReceiverAnswer). afterFrame (read (set .own) o) b (σ .history)) a
               ∙ ap (λ (x : History). afterFrame (read (set .own) o) (discarded (n .0)) x) (R .history)
-              ∙ unheard κ (n .0) (read (set .own) o);
+              ∙ history-kept κ (n .0) (read (set .own) o);
         }
 
     -- octets refused as a control word

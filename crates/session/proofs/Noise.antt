@@ -17,7 +17,7 @@ use Rattle.frame.specs.declared.FrameReading.the-variants as reading
 use Rattle.clcw.specs.Answers as clcw
 use Rattle.clcw.specs.declared.WordReading.{WordReading}
 use Rattle.clcw.specs.declared.WordReading.the-variants as word
-use Rattle.fop.specs.Units.{Own, other, areOctets, wordReceived, readWord}
+use Rattle.fop.specs.Units.{Own, Refused, other, areOctets, wordReceived, readWord}
 use Rattle.fop.specs.Variables.{Fop}
 use Rattle.fop.specs.Events.{wordArrives}
 use Rattle.fop.specs.Answers.{refused, judged, senderRefusal, senderAnswer, senderNext}
@@ -48,6 +48,15 @@ pub refused-reading : (own : Own) (s : List ℕ) → isRefused (read own s) ≡ 
     → (n : ℕ) × (readingOf s (own .spacecraft) (own .channel) ≡ reading.Refused n)
 unfolding read
 refused-reading own s h = refusing (readingOf s (own .spacecraft) (own .channel)) _ h
+
+-- with its number
+number-kept : (x : FrameReading) (o : List ℕ) (n : ℕ) → byReading x o ≡ Refused n → x ≡ reading.Refused n
+number-kept (reading.Frame fields) o n h = absurd (false≢true (sym (carries (fields .kind) o) ∙ ap isRefused h))
+number-kept (reading.Refused r) o n h = let z : r ≡ n = cc in ap reading.Refused z
+
+pub refused-number : (own : Own) (s : List ℕ) (n : ℕ) → read own s ≡ Refused n → readingOf s (own .spacecraft) (own .channel) ≡ reading.Refused n
+unfolding read
+refused-number own s n h = number-kept (readingOf s (own .spacecraft) (own .channel)) _ n h
 
 -- the receiver's answer to it
 abbrev pub discarded : ℕ → ReceiverAnswer

@@ -149,6 +149,7 @@ passes set vw m t σ γ κ R G I r os g =
     let S = through set vw m t (pass os) σ κ R I in
     let H = through set vw (tables set) (tables-tied set) (pass os) γ κ G I in
     record {
+      events = pass-length os;
       sent = rw (S .history, R .history) (p .sent);
       accepted = rw (S .history, R .history) (p .accepted);
       confirmed = rw (S .history) (all-confirmed set (run set (pass os) κ) J (p .rest));

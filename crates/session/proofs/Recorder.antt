@@ -27,7 +27,7 @@ abbrev after : List LinkEvent → Linked (tables set) → Linked (tables set)
 after es σ = linkRun set (negativeWindow set) (tables set) es σ
 
 -- the sender is in Initial, not suspended, and no AD frame is under way
-pub record Ended (σ : Linked (tables set)) : Type 0 where
+pub record Terminated (σ : Linked (tables set)) : Type 0 where
   pub initial : σ .sender .state ≡ S6
   pub unsuspended : σ .sender .suspendState ≡ 0
   pub none : noAd (set .own) (σ .frames) ≡ true
@@ -43,10 +43,10 @@ split = after split-list (begins (tables set))
 
 -- where V(R) is vr: the unit at place i is denied, its number is before V(R), and it is on board; or it is denied, and neither
 abbrev DeniedOnBoard : ℕ → History → ℕ → Type 0
-DeniedOnBoard vr h i = (member i (h .denied) ≡ true) × Before set vr ((getD (h .sent) i noUnit) .ns) × OnBoard h i
+DeniedOnBoard vr h i = (member i (h .denied) ≡ true) × Before vr ((getD (h .sent) i noUnit) .ns) × OnBoard h i
 
 abbrev DeniedOnly : ℕ → History → ℕ → Type 0
-DeniedOnly vr h i = (member i (h .denied) ≡ true) × (Before set vr ((getD (h .sent) i noUnit) .ns) → ⊥) × (OnBoard h i → ⊥)
+DeniedOnly vr h i = (member i (h .denied) ≡ true) × (Before vr ((getD (h .sent) i noUnit) .ns) → ⊥) × (OnBoard h i → ⊥)
 
 abbrev Apart : ℕ → History → Type 0
 Apart vr h = DeniedOnBoard vr h 0 × DeniedOnBoard vr h 1 × DeniedOnly vr h 2
@@ -70,16 +70,16 @@ split-history =
 
 apart : Apart 0 split-history
 apart = (
-  (refl, (leb→le 1 2 tt, leb→le 2 3 tt), (leb→le 1 2 tt, refl)),
-  (refl, (leb→le 1 1 tt, leb→le 1 3 tt), (leb→le 2 2 tt, refl)),
+  (refl, (leb→le 1 2 tt, leb→le 2 127 tt), (leb→le 1 2 tt, refl)),
+  (refl, (leb→le 1 1 tt, leb→le 1 127 tt), (leb→le 2 2 tt, refl)),
   (refl, λ h. omega (arith, h .0), λ h. omega (arith, h .0)),
 )
 
-split-is : Ended split × (split .receiver .farm .channel .variables .vr ≡ 0) × (split .history ≡ split-history)
+split-is : Terminated split × (split .receiver .farm .channel .variables .vr ≡ 0) × (split .history ≡ split-history)
 unfolding computing linkStep linkRun
 split-is = (record { initial = refl; unsuspended = refl; none = refl }, refl, refl)
 
-pub denied-split : Ended split × Apart (split .receiver .farm .channel .variables .vr) (split .history)
+pub denied-split : Terminated split × Apart (split .receiver .farm .channel .variables .vr) (split .history)
 denied-split = (split-is .0, rw (split-is .1, split-is .2) apart)
 
 -- a unit is sent, denied by Terminate, and its frame is lost
@@ -87,11 +87,11 @@ abbrev lost : Linked (tables set)
 lost = after (demanded (adRequest (17 ∷ []) 256) ∷ demanded (terminate 0 256) ∷ demanded frameLost ∷ []) (begins (tables set))
 
 -- the recorder repeats it, and it arrives
-abbrev brought : Linked (tables set)
-brought = after (frameAgain 0 ∷ demanded frameIn ∷ []) lost
+abbrev repeated : Linked (tables set)
+repeated = after (frameAgain 0 ∷ demanded frameIn ∷ []) lost
 
-pub recorder-brings : Ended lost × (lost .history .denied ≡ some 0 ∷ []) × (lost .history .accepted ≡ [])
-    × (brought .history .accepted ≡ record { ns = 254; octets = 17 ∷ [] } ∷ [])
+pub recorder-brings : Terminated lost × (lost .history .denied ≡ some 0 ∷ []) × (lost .history .accepted ≡ [])
+    × (repeated .history .accepted ≡ record { ns = 254; octets = 17 ∷ [] } ∷ [])
 unfolding computing linkStep linkRun
 recorder-brings = (record { initial = refl; unsuspended = refl; none = refl }, refl, refl, refl)
 

@@ -60,18 +60,23 @@ module _ (set : Settings) (vw : Within set) (m : Ends) (t : Tied set m) (before 
   abbrev age : ℕ
   age = suc before
 
+  -- the oldest of them, and the others
   abbrev units : List (List ℕ)
-  units = (7 ∷ []) ∷ replicate before (7 ∷ [])
+  units = (1 ∷ []) ∷ replicate before (7 ∷ [])
+
+  all-legal : allLegal units ≡ true
+  unfolding legal
+  all-legal = seven-legal before
 
   abbrev passed : Linked m
   passed = run set m (pass units) (begins m)
 
   all-pass : Passed set units (begins m) passed (run set (tables set) (pass units) (begins (tables set)))
-  all-pass = passes-from-start set vw m t units (seven-legal age)
+  all-pass = passes-from-start set vw m t units all-legal
 
-  -- the first of them, with the number of the start, and its frame
+  -- the oldest as it is sent, with the number of the start, and its frame
   abbrev first : Fdu
-  first = record { ns = advanced (set .n) 0; octets = 7 ∷ [] }
+  first = record { ns = advanced (set .n) 0; octets = 1 ∷ [] }
 
   abbrev its-frame : List ℕ
   its-frame = written (set .own) (AD first)
@@ -82,11 +87,11 @@ module _ (set : Settings) (vw : Within set) (m : Ends) (t : Tied set m) (before 
 
   accepted-length : length (passed .history .accepted) ≡ age
   unfolding begins
-  accepted-length = ap length (all-pass .accepted) ∙ seven-length age (advanced (set .n) 0)
+  accepted-length = ap length (all-pass .accepted) ∙ ap suc (seven-length before _)
 
   kept-still : isKept age (passed .history .sent) 0 ≡ true
   kept-still =
-      let l : length (passed .history .sent) ≡ age = ap length sent-is ∙ seven-length age (advanced (set .n) 0) in
+      let l : length (passed .history .sent) ≡ age = ap length sent-is ∙ ap suc (seven-length before _) in
       rw (l, lt-ltb 0 age (omega arith), le-leb age (0 + age) (omega arith))
 
   under-way : enters (passed .frames) (repeated (set .own) age (passed .history .sent) 0) ≡ its-frame ∷ []

@@ -1,7 +1,7 @@
 -- Why docs/OPERATIONS.md, "At all times", has its rules: what happens to the table machines where one is not kept, computed. Dates that go by
 -- both AD and BD arrive in another order than they were offered, with nothing lost or repeated (`mixed`). A receiver that begins again with the
--- V(R) of its start takes a unit a second time (`reset-repeats`). A number given again is in Renumbered, a recorder that keeps too much in Tight and
--- Replayed.
+-- V(R) of its start takes a unit a second time (`reset-repeats`). A number given again is in Renumbered, a recorder that keeps too much in Counterexamples
+-- and Replayed.
 use mathlib.Core.Path.{_≡_, refl}
 use mathlib.Core.List.{List, [], _∷_, _++_}
 use Prim.Native.Nat.{ℕ}

@@ -55,10 +55,10 @@ module _ (set : Settings) (vw : Within set) (m : Ends) (t : Tied set m) (σ : Li
   suspension-is z = ap (λ (f : Fop). f .suspendState) (sym (G .fop)) ∙ z
 
   on-board : γ .sender .state ≡ S6 → γ .sender .suspendState ≡ 0 → (i : ℕ) → member i (σ .history .denied) ≡ true
-      → OnBoard (σ .history) i ↔ Before set (γ .receiver .farm .channel .variables .vr) ((getD (σ .history .sent) i noUnit) .ns)
+      → OnBoard (σ .history) i ↔ Before (γ .receiver .farm .channel .variables .vr) ((getD (σ .history .sent) i noUnit) .ns)
   on-board s z i h =
       let vr : γ .receiver .farm .channel .variables .vr ≡ κ .farm .vr = ap (λ (f : Receiver). f .farm .channel .variables .vr) (G .farm) in
-      rw (vr, R .history) (denied.on-board set vw κ I (state-is s) (suspension-is z) i (rw (R .history) at h))
+      rw (vr, R .history) (denied.on-board set κ I (state-is s) (suspension-is z) i (rw (R .history) at h))
 
   unconfirmed : length (σ .history .accepted) ≤ length (σ .history .confirmed) + set .k
   unconfirmed = rw (R .history) (denied.unconfirmed set κ I)

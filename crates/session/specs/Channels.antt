@@ -12,20 +12,21 @@ use Rattle.session.specs.Frames.{read}
 use Rattle.session.specs.Ends.{Settings, Ends}
 use Rattle.session.specs.Session.{Event, Linked, noUnit, enters, channels, wordCome, frameCome, step}
 
--- Demand 3's events, and five more. A number that stands last is the room lent for a frame.
+-- Demand 3's events, and five more.
 pub data LinkEvent : Type 0 where
   -- an event of demand 3
   demanded : Event → LinkEvent
-  -- the oldest frame arrives at the receiver and also stays; the oldest word arrives at the sender and also stays
+  -- the oldest frame arrives at the receiver and also stays; the oldest word arrives at the sender, with this room lent, and also stays
   frameStays : LinkEvent
   wordStays : ℕ → LinkEvent
   -- a recorder repeats the frame of the unit at this place of Sent
   frameAgain : ℕ → LinkEvent
-  -- octets that the frame reader refuses arrive at the receiver; octets that are refused as a control word arrive at the sender
+  -- octets that the frame reader refuses arrive at the receiver; octets that are refused as a control word arrive at the sender, with this
+  -- room lent; what is under way stays
   noise : List ℕ → LinkEvent
   wordNoise : List ℕ → ℕ → LinkEvent
 
--- a type-AD frame; "Refused": the reader's answer is a refusal
+-- a type-AD frame
 abbrev pub isAd : Frame → Bool
 isAd (AD u) = true
 isAd (BD o) = false
@@ -33,6 +34,7 @@ isAd Unlock = false
 isAd (SetVR v) = false
 isAd (Refused r) = false
 
+-- the frame reader's answer is a refusal
 abbrev pub isRefused : Frame → Bool
 isRefused (AD u) = false
 isRefused (BD o) = false
@@ -46,17 +48,20 @@ isRefusedWord (valid w) = false
 isRefusedWord invalid = false
 isRefusedWord (other r) = true
 
--- a channel whose oldest stays: it stands there twice, one of the two arrives
+-- `frameCome` and `wordCome` (specs/Session) let the first of a list arrive and leave the others under way; of an empty list nothing arrives, and
+-- all stays as it was. So these lists say what arrives and what is left.
+
+-- the oldest of a channel arrives and stays: it stands there twice
 abbrev pub stays : {A : Type 0} → List A → List A
 stays [] = []
 stays (x ∷ xs) = x ∷ x ∷ xs
 
--- of the frames, only a type-AD frame stays: type-B frames have no number, so the receiver takes each of them for a new one
+-- a type-AD frame; where the oldest is a type-B frame nothing arrives: it has no number, and the receiver takes each copy for a new one
 abbrev pub staysAd : Own → List (List ℕ) → List (List ℕ)
 staysAd own [] = []
 staysAd own (x ∷ fs) = pick (isAd (read own x)) (stays (x ∷ fs)) []
 
--- octets that arrive before all that is under way, if so; otherwise nothing arrives
+-- octets from elsewhere arrive, where the test holds, and leave all that is under way
 abbrev pub arriving : Bool → List ℕ → List (List ℕ) → List (List ℕ)
 arriving b o xs = pick b (o ∷ xs) []
 
@@ -68,7 +73,7 @@ negativeWindow set = set .w / 2
 abbrev pub isKept : ℕ → List Fdu → ℕ → Bool
 isKept kept sent i = ltb i (length sent) && leb (length sent) (i + kept)
 
--- a recorder that keeps so many units: the frame of the unit at place i, if it is one of these
+-- a recorder that keeps so many units: the frame of the unit at place i, if it is one of these, as a sender hands it down (specs/Claims, `Sends`)
 abbrev pub repeated : Own → ℕ → List Fdu → ℕ → Option (List ℕ)
 repeated own kept sent i = pick (isKept kept sent i) (some (written own (AD (getD sent i noUnit)))) none
 

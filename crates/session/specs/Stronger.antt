@@ -69,7 +69,7 @@ abbrev pub KnownAlert : ℕ → Alert → Type 0
 KnownAlert l r =
     (r ≡ None) ⊎ ((r ≡ Term) ⊎ ((r ≡ T1) ⊎ ((r ≡ Llif) ⊎ ((r ≡ Limit) × (l ≡ 1)))))
 
--- an event that the session can bring to the sender
+-- an event that demand 3's session can bring to the sender
 abbrev pub InSession : List (List ℕ) → SenderEvent → Type 0
 InSession ws (requestAd o) = Unit {0}
 InSession ws (requestBd o) = Unit {0}
@@ -133,7 +133,7 @@ pub record Stronger (set : Settings) (m : Ends) (σ : Linked m) (γ : Linked (ta
   pub wordAlert : (s : List ℕ) (ws : List (List ℕ)) (lent : ℕ) → σ .words ≡ s ∷ ws → LimitOnly (set .limit) ((m .answer (wordArrives s) lent (σ .sender)) .alert)
   -- and to whatever event no alert but term, T1, LLIF and that of the limit
   pub alerts : (e : SenderEvent) (lent : ℕ) → InSession (σ .words) e → KnownAlert (set .limit) ((m .answer e lent (σ .sender)) .alert)
-  -- the refusals of the session are 10 and 11 (sender), 11 and 13 (receiver)
+  -- the refusals of demand 3's session are 10 and 11 (sender), 11 and 13 (receiver)
   pub refusals : (e : SenderEvent) (lent : ℕ) → InSession (σ .words) e
       → ((m .answer e lent (σ .sender)) .refusal ≡ 0) ⊎ (((m .answer e lent (σ .sender)) .refusal ≡ 10) ⊎ ((m .answer e lent (σ .sender)) .refusal ≡ 11))
   pub frameRefusal : (s : List ℕ) (fs : List (List ℕ)) → σ .frames ≡ s ∷ fs → (m .answerReceiver (frameArrives s) (σ .receiver)) .refusal ≡ 0

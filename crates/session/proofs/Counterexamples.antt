@@ -1,7 +1,8 @@
 -- Where what holds beyond demand 3 stops, by witnesses of the table machines. A recorder that keeps one unit more than NW locks the receiver out: by a witness at K 1 and W 2
 -- (`locked-out`; at every setting: Replayed). An invalid control word is no noise but E15, an alert; a control word that was altered into another valid one confirms what was never accepted;
 -- a type-B frame that stays is accepted twice.
-use mathlib.Core.Path.{_≡_, refl, ap, sym, _∙_}
+use mathlib.Core.Logic.{inl, inr}
+use mathlib.Core.Path.{_≡_, refl, ap, sym, subst, _∙_}
 use mathlib.Core.Bool.{true, false, true≢false}
 use mathlib.Core.List.{List, [], _∷_}
 use mathlib.Core.Option.{some}
@@ -18,7 +19,7 @@ use Rattle.fop.specs.Answers.{senderAnswer}
 use Rattle.session.specs.Ends.{Settings, tables}
 use Rattle.session.specs.Session.{Linked, begins, adRequest, bdRequest, lowerSays, wordMade, wordIn, frameIn, toSender, frameCome, run}
 use Rattle.session.specs.Claims.{Claims}
-use Rattle.session.specs.Stronger.{Sub, none-left, skips, takes}
+use Rattle.session.specs.Stronger.{Sub, none-left, skips, takes, LimitOnly}
 use Rattle.session.specs.Channels.{LinkEvent, demanded, frameAgain, negativeWindow, stays, linkStep, linkRun}
 use Rattle.session.proofs.Trace.{computing, settings, after}
 
@@ -74,6 +75,13 @@ pub invalid-alerts : (readWord (set .own) invalid-word ≡ invalid)
     × ((word-comes invalid-word start) .sender .state ≡ S6)
 unfolding computing
 invalid-alerts = (refl, refl, refl, refl)
+
+pub refuted-invalid : LimitOnly (set .limit) ((senderAnswer (set .own) (wordArrives invalid-word) 256 (start .sender)) .alert) → ⊥
+refuted-invalid h = no-clcw (subst (LimitOnly (set .limit)) (invalid-alerts .2) h)
+  where
+    no-clcw : LimitOnly (set .limit) Clcw → ⊥
+    no-clcw (inl e) = let z : _≡_ {A = ℕ} 0 1 = cc in omega arith
+    no-clcw (inr h) = omega (arith, h .1)
 
 -- a unit is sent and has not arrived; a word that reports the next number arrives
 abbrev altered : Linked (tables set)
