@@ -1,5 +1,5 @@
 -- The events of channels that repeat and of noise, in Core's session: each of them keeps the invariant, and what the stronger claims need besides.
--- A frame or word that stays is one that stands twice, so the laws of arrivals over any channel (Receiver, Inv, Tidy) hold of it; the
+-- A frame or word that stays is one that stands twice, so the laws of arrivals over any channel (Receiver, Inv, Tidy) hold of it; a frame with fill behind it arrives as the frame alone; the
 -- recorder's frame is one of the last NW units sent, which is all that the invariant asks of a frame under way; noise changes nothing.
 use mathlib.Core.Path.{_≡_, refl}
 use mathlib.Core.Bool.{Bool, true, false, _&&_, false≢true}
@@ -12,9 +12,9 @@ use lib.ListN.{length, getD}
 use Rattle.base.specs.Choice.{pick}
 use Rattle.fop.specs.Units.{Fdu, Frame, AD, BD, Unlock, SetVR, Refused, Word}
 use Rattle.session.specs.Ends.{Settings, Within}
-use Rattle.session.specs.Session.{noUnit}
+use Rattle.session.specs.Session.{frameIn, noUnit}
 use Rattle.session.specs.Stronger.{Sub}
-use Rattle.session.specs.Channels.{LinkEvent, demanded, frameStays, wordStays, frameAgain, noise, wordNoise, isAd, stays, isKept}
+use Rattle.session.specs.Channels.{LinkEvent, demanded, frameStays, wordStays, frameFilled, frameAgain, noise, wordNoise, isAd, stays, isFill, isKept}
 use Rattle.session.proofs.Choices.{by-pick}
 use Rattle.session.proofs.Core.{Session, channels, wordCome, frameCome, free, step}
 use Rattle.session.proofs.Chan.{Fly, fly-mono, fly-add, Wds}
@@ -41,6 +41,7 @@ unfoldable pub linkStep : Settings → ℕ → LinkEvent → Session → Session
 linkStep set kept (demanded e) σ = step set e σ
 linkStep set kept frameStays σ = frameCome set (free set σ) (staysAd (σ .frames)) σ
 linkStep set kept (wordStays lent) σ = wordCome set lent (stays (σ .words)) σ
+linkStep set kept (frameFilled fill) σ = pick (isFill fill) (step set frameIn σ) σ
 linkStep set kept (frameAgain i) σ = channels (addAgain kept (σ .sent) i (σ .frames)) (σ .words) σ
 linkStep set kept (noise o) σ = σ
 linkStep set kept (wordNoise o lent) σ = σ
@@ -132,6 +133,7 @@ module _ (set : Settings) (vw : Within set) (kept : ℕ) (most : kept ≤ set .w
   link-keeps frameStays σ I =
       frame-keeps set vw σ (free set σ) (staysAd (σ .frames)) I (stays-under-way set vw σ I) (stays-bd (σ .acceptedBd) (σ .sentBd) (σ .frames) (I .bd))
   link-keeps (wordStays lent) σ I = word-keeps set vw lent σ (stays (σ .words)) I (words-under-way σ I)
+  link-keeps (frameFilled fill) σ I = by-pick (Inv set) (isFill fill) (λ b. step-keeps set vw frameIn σ I) (λ b. I)
   link-keeps (frameAgain i) σ I =
       by-pick (λ (fs : List Frame). Inv set (channels fs (σ .words) σ)) (isKept kept (σ .sent) i) (λ t. again σ i I t) (λ t. as-they-are σ I)
   link-keeps (noise o) σ I = I
@@ -144,6 +146,7 @@ module _ (set : Settings) (vw : Within set) (kept : ℕ) (most : kept ≤ set .w
   link-tidy frameStays σ I t = frame-tidy set vw σ (free set σ) (staysAd (σ .frames)) I t (stays-under-way set vw σ I)
   link-tidy (wordStays lent) σ I t =
       word-tidy set vw lent σ (stays (σ .words)) I t (words-under-way σ I) (stays-keys (set .n) _ _ _ (σ .words) (t .keys))
+  link-tidy (frameFilled fill) σ I t = by-pick (Tidy (set .n)) (isFill fill) (λ b. step-tidy set vw frameIn σ I t) (λ b. t)
   link-tidy (frameAgain i) σ I t = words-tidy (set .n) σ _ (σ .words) t (t .keys)
   link-tidy (noise o) σ I t = t
   link-tidy (wordNoise o lent) σ I t = t
@@ -154,6 +157,7 @@ module _ (set : Settings) (vw : Within set) (kept : ℕ) (most : kept ≤ set .w
   link-once (demanded e) σ o = step-once set e σ o
   link-once frameStays σ o = frame-in set (free set σ) (staysAd (σ .frames)) σ o
   link-once (wordStays lent) σ o = word-in set lent (stays (σ .words)) σ o
+  link-once (frameFilled fill) σ o = by-pick (λ (τ : Session). Once (τ .fop)) (isFill fill) (λ b. step-once set frameIn σ o) (λ b. o)
   link-once (frameAgain i) σ o = o
   link-once (noise s) σ o = o
   link-once (wordNoise s lent) σ o = o
@@ -164,6 +168,7 @@ module _ (set : Settings) (vw : Within set) (kept : ℕ) (most : kept ≤ set .w
   link-stock (demanded e) σ I h = stock-keeps set vw e σ I h
   link-stock frameStays σ I h = frame-stock set vw σ (staysAd (σ .frames)) I (stays-under-way set vw σ I) h
   link-stock (wordStays lent) σ I h = word-stock set lent (stays (σ .words)) σ h
+  link-stock (frameFilled fill) σ I h = by-pick (Stocked set) (isFill fill) (λ b. stock-keeps set vw frameIn σ I h) (λ b. h)
   link-stock (frameAgain i) σ I h = h
   link-stock (noise o) σ I h = h
   link-stock (wordNoise o lent) σ I h = h

@@ -24,7 +24,7 @@ use Rattle.session.specs.Ends.{Settings, Within, Ends, Tied}
 use Rattle.session.specs.Session.{Linked, Event, adRequest, bdRequest, ticks, lowerSays, terminate, wordIn, wordLost, wordMade, frameIn, frameLost, release, rest}
 use Rattle.session.specs.Claims.{serves}
 use Rattle.session.specs.Stronger.{InSession}
-use Rattle.session.specs.Channels.{LinkEvent, demanded, frameStays, wordStays, frameAgain, noise, wordNoise, isAd, stays}
+use Rattle.session.specs.Channels.{LinkEvent, demanded, frameStays, wordStays, frameFilled, frameAgain, noise, wordNoise, isAd, stays, isFill}
 use Rattle.session.specs.Beyond.{noAd, noneAgain}
 use Rattle.session.proofs.Choices.{by-pick, and-l, and-r, and-both}
 use Rattle.session.proofs.Test.{first-all, lower-all, lowered, tick-ways}
@@ -216,6 +216,7 @@ module _ (set : Settings) where
   link-ended kept (demanded e) κ n h = step-ended e κ h
   link-ended kept frameStays κ n h = frames-ended (free set κ) (staysAd (κ .frames)) κ (none-stays (κ .frames) (h .none)) h
   link-ended kept (wordStays lent) κ n h = words-ended lent (stays (κ .words)) κ h
+  link-ended kept (frameFilled fill) κ n h = by-pick (StaysEnded κ) (isFill fill) (λ b. step-ended frameIn κ h) (λ b. (h, refl))
   link-ended kept (frameAgain i) κ n h = absurd (false≢true n)
   link-ended kept (noise o) κ n h = (h, refl)
   link-ended kept (wordNoise o lent) κ n h = (h, refl)

@@ -44,6 +44,7 @@ pub mod Idle
 pub mod Once
 pub mod Channels
 pub mod Noise
+pub mod Filled
 pub mod Linked
 pub mod Harmless
 pub mod Trace

@@ -13,9 +13,9 @@ use Rattle.receiver.specs.declared.Receiver.{Receiver}
 use Rattle.session.specs.Frames.{read}
 use Rattle.session.specs.Receiver.{frameArrives, ReceiverAnswer, receiverNext, receiverAnswer}
 use Rattle.session.specs.Ends.{Settings, Within, Ends, Tied, tables}
-use Rattle.session.specs.Session.{Event, Linked, History, begins, enters, afterFrame, noUnit, run}
+use Rattle.session.specs.Session.{Event, Linked, History, frameIn, begins, enters, afterFrame, noUnit, run}
 use Rattle.session.specs.Session as ses
-use Rattle.session.specs.Channels.{LinkEvent, demanded, frameStays, wordStays, frameAgain, noise, wordNoise, isAd, isRefused, isRefusedWord, stays, arriving, isKept}
+use Rattle.session.specs.Channels.{LinkEvent, demanded, frameStays, wordStays, frameFilled, frameAgain, noise, wordNoise, isAd, isRefused, isRefusedWord, stays, isFill, withFill, arriving, isKept}
 use Rattle.session.specs.Channels as spec
 use Rattle.session.proofs.Core as core
 use Rattle.session.proofs.Core.{Session, used, free}
@@ -25,6 +25,7 @@ use Rattle.session.proofs.Receiver.{begun, start-inv}
 use Rattle.session.proofs.Next.{historyOf}
 use Rattle.session.proofs.Link.{Rel, Reads, reads, fly-reads, word-in, got, relink, plain, same-step, at-start, tables-tied}
 use Rattle.session.proofs.Channels.{staysAd, addAgain, stays-under-way, linkStep, link-keeps, link-stock}
+use Rattle.session.proofs.Filled.{filled-in}
 use Rattle.session.proofs.Noise.{refused-reading, discarded, frame-next, frame-answer, refuses}
 
 -- the channels as octets and as they are read
@@ -106,7 +107,7 @@ module _ (set : Settings) (vw : Within set) where
       -- every event
       pub same-link : (e : LinkEvent) (σ : Linked m) (κ : Session) → Rel set vw m t σ κ → Inv set κ
           → Rel set vw m t (spec.linkStep set kept m e σ) (linkStep set kept e κ)
-      unfolding spec.linkStep linkStep
+      unfolding spec.linkStep linkStep ses.step
       same-link (demanded e) σ κ R I = same-step set vw m t e σ κ R I
       same-link frameStays σ κ R I =
           let l = ap (spec.staysAd (set .own)) (R .frames)
@@ -117,6 +118,12 @@ module _ (set : Settings) (vw : Within set) where
           let l = ap stays (R .words) ∙ map-stays (wordOctets (set .own)) (κ .words) in
           subst (λ (ws : List (List ℕ)). Rel set vw m t (ses.wordCome set m lent ws σ) (core.wordCome set lent (stays (κ .words)) κ)) (sym l)
           (word-in set vw m t σ κ lent (stays (κ .words)) R (link-keeps set vw kept most (wordStays lent) κ I))
+      same-link (frameFilled fill) σ κ R I =
+          let rd : Reads (κ .frames) = fly-reads (set .n) _ (κ .sent) (I .base .num) _ _ (κ .frames) (I .base .fly) in
+          let S = subst (λ (fs : List (List ℕ)). Rel set vw m t (ses.frameCome set m fs σ) (core.step set frameIn κ)) (R .frames)
+          (same-step set vw m t frameIn σ κ R I) in
+          subst (λ (fs : List (List ℕ)). Rel set vw m t (ses.frameCome set m (withFill fill fs) σ) (pick (isFill fill) (core.step set frameIn κ) κ)) (sym (R .frames))
+          (filled-in set vw m t σ κ (core.step set frameIn κ) fill (κ .frames) rd R S)
       same-link (frameAgain i) σ κ R I =
           relink set vw m t σ κ (addAgain kept (κ .sent) i (κ .frames)) (κ .words) _ (σ .words) R
           (rw (R .frames, R .history) (map-again (isKept kept (κ .sent) i) (getD (κ .sent) i noUnit) (κ .frames))) (R .words)

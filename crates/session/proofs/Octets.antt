@@ -1,8 +1,8 @@
 -- What is written reads back: frames of legal units (by crate frame's `frame-back` and `data-back`) and control words (by crate clcw's
 -- `word-back`).
-use mathlib.Core.Path.{_≡_, refl, ap, _∙_}
+use mathlib.Core.Path.{_≡_, refl, sym, ap, _∙_}
 use mathlib.Core.Bool.{Bool, true, false, _&&_}
-use mathlib.Core.List.{List, [], _∷_, append-nil}
+use mathlib.Core.List.{List, [], _∷_, _++_, append-nil}
 use mathlib.Core.Option.{none, some}
 use Prim.Native.Nat.{ℕ, _+_, _*_, _≤_, _<_}
 use native.Mathlib.Omega.{arith}
@@ -63,10 +63,21 @@ module _ (own : Own) (sc : own .spacecraft ≤ largestSpacecraft) (ch : own .cha
   part-back k o l =
       rw (append-nil (frameOf (own .spacecraft) (own .channel) k o)) at (fback.data-back (own .spacecraft) (own .channel) k o [] sc ch l (omega arith) tt)
 
-  ad-legal : (u : Fdu) → legal (u .octets) ≡ true → u .ns < 256 → fback.Legal (kind.Ad (u .ns)) (u .octets)
+  -- with fill behind it, it is read as without
+  pub filled-back : (k : Kind) (o fill : List ℕ) → fback.Legal k o → length fill ≤ 6 → Octets fill
+      → (readingOf (frameOf (own .spacecraft) (own .channel) k o ++ fill) (own .spacecraft) (own .channel)
+      ≡ readingOf (frameOf (own .spacecraft) (own .channel) k o) (own .spacecraft) (own .channel))
+      × (partOf (frameOf (own .spacecraft) (own .channel) k o ++ fill) (own .spacecraft) (own .channel)
+      ≡ partOf (frameOf (own .spacecraft) (own .channel) k o) (own .spacecraft) (own .channel))
+  filled-back k o fill l few h = (
+    fback.frame-back (own .spacecraft) (own .channel) k o fill sc ch l few h ∙ sym (reading-back k o l),
+    fback.data-back (own .spacecraft) (own .channel) k o fill sc ch l few h ∙ sym (part-back k o l),
+  )
+
+  pub ad-legal : (u : Fdu) → legal (u .octets) ≡ true → u .ns < 256 → fback.Legal (kind.Ad (u .ns)) (u .octets)
   ad-legal u l b = let g = legal-is (u .octets) l in (b, g .0, g .1, g .2)
 
-  bd-legal : (o : List ℕ) → legal o ≡ true → fback.Legal kind.Bd o
+  pub bd-legal : (o : List ℕ) → legal o ≡ true → fback.Legal kind.Bd o
   bd-legal o l = let g = legal-is o l in (g .0, g .1, g .2)
 
   -- a written frame, as the receiver reads it

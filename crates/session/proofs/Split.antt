@@ -13,7 +13,7 @@ use Rattle.receiver.specs.declared.Receiver.{Receiver}
 use Rattle.session.specs.Ends.{Settings, Within, Ends, Tied, tables}
 use Rattle.session.specs.Session.{Linked, History, noUnit}
 use Rattle.session.specs.Claims.{member}
-use Rattle.session.specs.Channels.{LinkEvent, demanded, frameStays, wordStays, frameAgain, noise, wordNoise, negativeWindow, linkStep, linkRun}
+use Rattle.session.specs.Channels.{LinkEvent, demanded, frameStays, wordStays, frameFilled, frameAgain, noise, wordNoise, negativeWindow, linkStep, linkRun}
 use Rattle.session.specs.Beyond.{noAd, noneAgain, OnBoard, Before, Split}
 use Rattle.session.proofs.Core.{Session}
 use Rattle.session.proofs.Inv.{Inv}
@@ -29,6 +29,7 @@ none-first : (e : LinkEvent) (es : List LinkEvent) → noneAgain (e ∷ es) ≡ 
 none-first (demanded e) es h = (refl, h)
 none-first frameStays es h = (refl, h)
 none-first (wordStays lent) es h = (refl, h)
+none-first (frameFilled fill) es h = (refl, h)
 none-first (frameAgain i) es h = (h, absurd (false≢true h))
 none-first (noise o) es h = (refl, h)
 none-first (wordNoise o lent) es h = (refl, h)

@@ -22,7 +22,7 @@ use Rattle.session.specs.Ends.{Settings, Ends, tables}
 use Rattle.session.specs.Session.{Event, adRequest, lowerSays, wordIn, wordMade, frameIn, release, Linked, History, begins, step, run, noUnit}
 use Rattle.session.specs.Claims.{Claims, BufferFree, unitsAt, member, nextNumber}
 use Rattle.session.specs.Stronger.{Stronger}
-use Rattle.session.specs.Channels.{LinkEvent, demanded, frameStays, wordStays, frameAgain, noise, wordNoise, isAd, negativeWindow, linkStep, linkRun}
+use Rattle.session.specs.Channels.{LinkEvent, demanded, frameStays, wordStays, frameFilled, frameAgain, noise, wordNoise, isAd, negativeWindow, linkStep, linkRun}
 
 -- R. What the receiver hands out: what it accepts, and nothing else. A frame that was repeated and is not accepted hands nothing out.
 pub record HandsOut (set : Settings) (m : Ends) (σ : Linked m) : Type 0 where
@@ -58,6 +58,7 @@ noneAgain [] = true
 noneAgain (demanded e ∷ es) = noneAgain es
 noneAgain (frameStays ∷ es) = noneAgain es
 noneAgain (wordStays lent ∷ es) = noneAgain es
+noneAgain (frameFilled fill ∷ es) = noneAgain es
 noneAgain (frameAgain i ∷ es) = false
 noneAgain (noise o ∷ es) = noneAgain es
 noneAgain (wordNoise o lent ∷ es) = noneAgain es

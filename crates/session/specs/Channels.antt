@@ -1,24 +1,26 @@
--- Beyond demand 3: channels that repeat, a recorder that repeats frames, and noise. A repeated frame is what once put an old date over a new one.
+-- Beyond demand 3: channels that repeat, a recorder that repeats frames, fill, and noise. A repeated frame is what once put an old date over a new one.
 -- Demand 3 as document 01 words it is the case of its own events alone (proofs/Theorem).
 use mathlib.Core.Bool.{Bool, true, false, _&&_}
-use mathlib.Core.List.{List, [], _∷_}
+use mathlib.Core.List.{List, [], _∷_, _++_}
 use mathlib.Core.Option.{Option, none, some}
 use Prim.Native.Nat.{ℕ, _+_, _/_}
 use lib.Dec.{ltb, leb}
 use lib.ListN.{length, getD}
 use Rattle.base.specs.Choice.{pick}
-use Rattle.fop.specs.Units.{Fdu, Frame, AD, BD, Unlock, SetVR, Refused, WordReceived, valid, invalid, other, Own, written, readWord}
+use Rattle.fop.specs.Units.{Fdu, Frame, AD, BD, Unlock, SetVR, Refused, WordReceived, valid, invalid, other, Own, areOctets, written, readWord}
 use Rattle.session.specs.Frames.{read}
 use Rattle.session.specs.Ends.{Settings, Ends}
 use Rattle.session.specs.Session.{Event, Linked, noUnit, enters, channels, wordCome, frameCome, step}
 
--- Demand 3's events, and five more.
+-- Demand 3's events, and six more.
 pub data LinkEvent : Type 0 where
   -- an event of demand 3
   demanded : Event → LinkEvent
   -- the oldest frame arrives at the receiver and also stays; the oldest word arrives at the sender, with this room lent, and also stays
   frameStays : LinkEvent
   wordStays : ℕ → LinkEvent
+  -- the oldest frame arrives with these octets behind it, as the fill of its last codeblock stands behind a frame that comes out of a CLTU
+  frameFilled : List ℕ → LinkEvent
   -- a recorder repeats the frame of the unit at this place of Sent
   frameAgain : ℕ → LinkEvent
   -- octets that the frame reader refuses arrive at the receiver; octets that are refused as a control word arrive at the sender, with this
@@ -61,6 +63,18 @@ abbrev pub staysAd : Own → List (List ℕ) → List (List ℕ)
 staysAd own [] = []
 staysAd own (x ∷ fs) = pick (isAd (read own x)) (stays (x ∷ fs)) []
 
+-- document 01: refusal 5 is "more than 6 octets after the frame"
+abbrev pub largestFill : ℕ
+largestFill = 6
+
+abbrev pub isFill : List ℕ → Bool
+isFill fill = leb (length fill) largestFill && areOctets fill
+
+-- the oldest frame with fill behind it
+abbrev pub withFill : List ℕ → List (List ℕ) → List (List ℕ)
+withFill fill [] = []
+withFill fill (x ∷ fs) = pick (isFill fill) ((x ++ fill) ∷ fs) []
+
 -- octets from elsewhere arrive, where the test holds, and leave all that is under way
 abbrev pub arriving : Bool → List ℕ → List (List ℕ) → List (List ℕ)
 arriving b o xs = pick b (o ∷ xs) []
@@ -82,6 +96,7 @@ unfoldable pub linkStep : Settings → ℕ → (m : Ends) → LinkEvent → Link
 linkStep set kept m (demanded e) σ = step set m e σ
 linkStep set kept m frameStays σ = frameCome set m (staysAd (set .own) (σ .frames)) σ
 linkStep set kept m (wordStays lent) σ = wordCome set m lent (stays (σ .words)) σ
+linkStep set kept m (frameFilled fill) σ = frameCome set m (withFill fill (σ .frames)) σ
 linkStep set kept m (frameAgain i) σ = channels m (enters (σ .frames) (repeated (set .own) kept (σ .history .sent) i)) (σ .words) σ
 linkStep set kept m (noise o) σ = frameCome set m (arriving (isRefused (read (set .own) o)) o (σ .frames)) σ
 linkStep set kept m (wordNoise o lent) σ = wordCome set m lent (arriving (isRefusedWord (readWord (set .own) o)) o (σ .words)) σ
