@@ -9,7 +9,9 @@ use lib.Bits.{bitXor}
 use lib.Dec.{eqb, eqb→eq}
 use lib.ListN.{length, take, drop, getD, replicate, length-append, length-take, length-drop, length-replicate, getD-replicate, List·getD-append}
 use lib.Seq.{getD-append-add, getD-take, getD-drop, drop-drop, getD-at}
+use Rattle.base.specs.Octets.{Octets}
 use Rattle.base.proofs.Computed.{below}
+use Rattle.base.proofs.Lists.{below-append}
 use Rattle.codeblock.specs.Codeblock.{codeblockOf, errorControl}
 use Rattle.codeblock.proofs.Codeblock.{length-codeblock}
 use Rattle.randomizer.specs.Randomizer.{octet, randomized}
@@ -44,6 +46,16 @@ filled-fill frame k h l =
     ap (λ (j : ℕ). getD (filled frame) j 0) e
     ∙ getD-append-add frame (replicate (7 * codeblocks (length frame) - length frame) fillOctet) (k - length frame) 0
     ∙ getD-replicate (7 * codeblocks (length frame) - length frame) (k - length frame) fillOctet 0 r
+
+pub octets-fill : (n : ℕ) → Octets (replicate n fillOctet)
+octets-fill zero = tt
+octets-fill (suc n) = (omega arith, octets-fill n)
+
+pub octets-filled : (frame : List ℕ) → Octets frame → Octets (filled frame)
+unfolding filled
+octets-filled frame h =
+    let n = 7 * codeblocks (length frame) - length frame in
+    below-append 256 frame (replicate n fillOctet) h (octets-fill n)
 
 -- codeblocks one behind the other
 module _ (information : List ℕ) where

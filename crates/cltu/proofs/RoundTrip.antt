@@ -33,11 +33,11 @@ module _ (n : ℕ) (information t : List ℕ) (h : 7 * suc n ≤ length informat
   seven : length (take 7 information) ≡ 7
   seven = simp length-take (omega (arith, mul-suc 7 n))
 
-  first-block : take 8 (encoded (suc n) information ++ t) ≡ codeblockOf (take 7 information)
+  pub first-block : take 8 (encoded (suc n) information ++ t) ≡ codeblockOf (take 7 information)
   unfolding encoded
   first-block = rw append-assoc (take-at (codeblockOf (take 7 information)) (encoded n (drop 7 information) ++ t) 8 (length-block information n h))
 
-  other-blocks : drop 8 (encoded (suc n) information ++ t) ≡ encoded n (drop 7 information) ++ t
+  pub other-blocks : drop 8 (encoded (suc n) information ++ t) ≡ encoded n (drop 7 information) ++ t
   unfolding encoded
   other-blocks = rw append-assoc (drop-at (codeblockOf (take 7 information)) (encoded n (drop 7 information) ++ t) 8 (length-block information n h))
 

@@ -2,14 +2,14 @@
 -- the frame reader's check 5 allows.
 use mathlib.Core.Path.{_≡_}
 use mathlib.Core.List.{List, _++_}
-use Prim.Native.Nat.{ℕ, zero, suc, _+_, _-_, _*_, _≤_}
+use Prim.Native.Nat.{ℕ, _+_, _-_, _*_, _≤_}
 use native.Mathlib.Omega.{arith}
 use lib.ListN.{length, replicate, length-replicate}
-use Rattle.base.specs.Octets.{Octets}
 use Rattle.base.specs.Outcome.{Outcome.done}
 use Rattle.base.specs.Limits.{largestInput, largestSpacecraft, largestChannel}
 use Rattle.start_sequence.specs.StartSequence.{startOf}
 use Rattle.cltu.specs.Cltu.{codeblocks, fillOctet, filled, cltuOf, reading}
+use Rattle.cltu.proofs.Places.{octets-fill}
 use Rattle.cltu.proofs.RoundTrip.{round-trip}
 use Rattle.frame.specs.Frame.{bypassOf, controlOf, numberOf, dataOf, frameOf}
 use Rattle.frame.specs.Answers.{readingOf, partOf}
@@ -17,10 +17,6 @@ use Rattle.frame.specs.declared.Kind.{Kind}
 use Rattle.frame.specs.declared.FrameReading.the-variants.{Frame}
 use Rattle.frame.proofs.Back.{Legal, frame-back, data-back}
 use Rattle.frame.proofs.Lengths.{length-frame}
-
-octets-fill : (n : ℕ) → Octets (replicate n fillOctet)
-octets-fill zero = tt
-octets-fill (suc n) = (omega arith, octets-fill n)
 
 -- what the receiving end makes of a CLTU that stands behind octets without a start sequence, whatever follows it
 pub record Through (before behind : List ℕ) (spacecraft channel : ℕ) (kind : Kind) (unit : List ℕ) (room : ℕ) : Type 0 where

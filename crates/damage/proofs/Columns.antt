@@ -1,0 +1,131 @@
+-- Clauses 8.2 and 8.5: the sum of a block of octets is its octets added up, each moved on through the shift register by the octets
+-- behind it. Over every good codeblock it is the complemented bits alone (`total-good`). Octets move on by exclusive or, so the sum is
+-- that of the columns of the bits that are one (`total-columns`).
+use mathlib.Core.Path.{_≡_, refl, sym, ap, ap₂, _∙_}
+use mathlib.Core.List.{List, [], _∷_, _++_}
+use Prim.Native.Nat.{ℕ, zero, suc, _+_, _*_, _<_}
+use native.Mathlib.Nat.{add-zero, mul-one, zero-mul, one-mul}
+use native.Mathlib.Omega.{arith}
+use borrow.Author.Tests.{ltb-true}
+use lib.Bits.{bitXor, xor-lt, xor-comm, xor-zero-r}
+use lib.Dec.{eqb, eqb→eq, ltb}
+use lib.ListN.{length, length-append}
+use Rattle.base.specs.Octets.{Bits, Octets, bitsOf, octetBits}
+use Rattle.base.specs.Register.{shiftBits, register}
+use Rattle.base.proofs.Computed.{below, is-true}
+use Rattle.base.proofs.Register.{leaves, shiftBits-lt}
+use Rattle.base.proofs.Xor.{xor-assoc, xor-undo, double}
+use Rattle.base.proofs.Table.{shifts, shifts-xor, eight}
+use Rattle.codeblock.specs.Codeblock.{generator, parity, errorControl, codeblockOf}
+use Rattle.damage.proofs.Bits.{bits-octet}
+
+-- the register, a place up, moved on by eight bits, and by n octets
+abbrev moved : ℕ → ℕ
+moved = shifts 7 (generator * 2) 8
+
+abbrev movedBy : ℕ → ℕ → ℕ
+movedBy zero v = v
+movedBy (suc n) v = movedBy n (moved v)
+
+moved-lt : (v : ℕ) → v < 256 → moved v < 256
+moved-lt v h = ltb-true (moved v) 256 (is-true (ltb (moved v) 256) (below (λ y. ltb (moved y) 256) 256 tt v h))
+
+movedBy-xor : (n u v : ℕ) → u < 256 → v < 256 → movedBy n (bitXor u v) ≡ bitXor (movedBy n u) (movedBy n v)
+movedBy-xor zero u v hu hv = refl
+movedBy-xor (suc n) u v hu hv =
+    ap (movedBy n) (shifts-xor 7 (generator * 2) (omega arith) 8 u v hu hv) ∙ movedBy-xor n (moved u) (moved v) (moved-lt u hu) (moved-lt v hv)
+
+-- the sum of a block
+unfoldable pub total : List ℕ → ℕ
+total [] = 0
+total (o ∷ s) = bitXor (movedBy (length s) o) (total s)
+
+-- the register over octets, a place up, and an octet e behind them
+register-total : (s : List ℕ) (r e : ℕ) → r < 128 → Octets s
+    → bitXor (register 6 generator r s * 2) e ≡ bitXor (movedBy (length s) (r * 2)) (total (s ++ (e ∷ [])))
+unfolding register total
+register-total [] r e hr h = ap (bitXor (r * 2)) (sym (xor-zero-r e))
+register-total (o ∷ s) r e hr h =
+    let t = total (s ++ (e ∷ [])) in
+    let l : suc (length s) ≡ length (s ++ (e ∷ [])) = omega (arith, length-append s (e ∷ [])) in
+    register-total s (shiftBits 6 generator 8 r o) e (shiftBits-lt 6 generator (omega arith) 8 r o hr (h .0)) (h .1)
+    ∙ ap (λ (x : ℕ). bitXor (movedBy (length s) x) t) (sym (eight 6 generator 1 0 refl r o (h .0)))
+    ∙ ap (λ (x : ℕ). bitXor (movedBy (suc (length s)) (bitXor (r * 2) x)) t) (mul-one o)
+    ∙ ap (λ (x : ℕ). bitXor x t) (movedBy-xor (suc (length s)) (r * 2) o (omega arith) (h .0))
+    ∙ xor-assoc (movedBy (suc (length s)) (r * 2)) (movedBy (suc (length s)) o) t
+    ∙ ap (λ (n : ℕ). bitXor (movedBy (suc (length s)) (r * 2)) (bitXor (movedBy n o) t)) l
+
+zero-moved : (n : ℕ) → movedBy n 0 ≡ 0
+zero-moved zero = refl
+zero-moved (suc n) = zero-moved n
+
+-- the sum over an encoding: the complements of the parity bits
+pub total-good : (information : List ℕ) → Octets information → total (codeblockOf information) ≡ 0b1111_1110
+unfolding codeblockOf errorControl parity
+total-good information h =
+    let p = parity information * 2 in
+    let e : errorControl information ≡ bitXor 0b1111_1110 p =
+    add-zero (bitXor (parity information) 0b111_1111 * 2) ∙ double (parity information) 0b111_1111 ∙ xor-comm p 0b1111_1110 in
+    sym (ap (λ (x : ℕ). bitXor x (total (codeblockOf information))) (zero-moved (length information)))
+    ∙ sym (register-total information 0 (errorControl information) (omega arith) h)
+    ∙ ap (bitXor p) e
+    ∙ xor-comm p (bitXor 0b1111_1110 p)
+    ∙ xor-undo 0b1111_1110 p
+
+-- the sum of the columns of the bits that are one
+unfoldable pub sum : List ℕ → List ℕ → ℕ
+sum [] bits = 0
+sum (c ∷ cs) [] = 0
+sum (c ∷ cs) (b ∷ bs) = bitXor (b * c) (sum cs bs)
+
+-- each moved on by n octets
+abbrev movedAll : ℕ → List ℕ → List ℕ
+movedAll n [] = []
+movedAll n (c ∷ cs) = movedBy n c ∷ movedAll n cs
+
+bit-moved : (n b c : ℕ) → b < 2 → movedBy n (b * c) ≡ b * movedBy n c
+bit-moved n zero c h = ap (movedBy n) (zero-mul c) ∙ zero-moved n ∙ sym (zero-mul (movedBy n c))
+bit-moved n (suc zero) c h = ap (movedBy n) (one-mul c) ∙ sym (one-mul (movedBy n c))
+bit-moved n (suc (suc b)) c h = absurd (omega arith)
+
+sum-lt : (cs bs : List ℕ) → Octets cs → Bits bs → sum cs bs < 256
+unfolding sum
+sum-lt [] bs h k = omega arith
+sum-lt (c ∷ cs) [] h k = omega arith
+sum-lt (c ∷ cs) (b ∷ bs) h k = xor-lt 8 (b * c) (sum cs bs) (leaves 7 c (h .0) b (k .0)) (sum-lt cs bs (h .1) (k .1))
+
+sum-moved : (n : ℕ) (cs bs : List ℕ) → Octets cs → Bits bs → movedBy n (sum cs bs) ≡ sum (movedAll n cs) bs
+unfolding sum
+sum-moved n [] bs h k = zero-moved n
+sum-moved n (c ∷ cs) [] h k = zero-moved n
+sum-moved n (c ∷ cs) (b ∷ bs) h k =
+    movedBy-xor n (b * c) (sum cs bs) (leaves 7 c (h .0) b (k .0)) (sum-lt cs bs (h .1) (k .1))
+    ∙ ap₂ bitXor (bit-moved n b c (k .0)) (sum-moved n cs bs (h .1) (k .1))
+
+-- the columns of an octet with n octets behind it, and of a block of n octets
+abbrev weights : List ℕ
+weights = 128 ∷ 64 ∷ 32 ∷ 16 ∷ 8 ∷ 4 ∷ 2 ∷ 1 ∷ []
+
+abbrev pub columns : ℕ → List ℕ
+columns zero = []
+columns (suc n) = movedAll n weights ++ columns n
+
+octet-columns : (n o : ℕ) → o < 256 → movedBy n o ≡ sum (movedAll n weights) (bitsOf 8 o)
+unfolding sum bitsOf
+octet-columns n o h =
+    ap (movedBy n) (eqb→eq _ _ (below (λ y. eqb y (sum weights (bitsOf 8 y))) 256 tt o h))
+    ∙ sum-moved n weights (bitsOf 8 o) (omega arith, (omega arith, (omega arith, (omega arith, (omega arith, (omega arith, (omega arith, (omega arith, tt)))))))) (bits-octet o h)
+
+sum-append : (cs ds bs es : List ℕ) → length cs ≡ length bs → sum (cs ++ ds) (bs ++ es) ≡ bitXor (sum cs bs) (sum ds es)
+unfolding sum
+sum-append [] ds [] es l = refl
+sum-append [] ds (b ∷ bs) es l = absurd (omega arith)
+sum-append (c ∷ cs) ds [] es l = absurd (omega arith)
+sum-append (c ∷ cs) ds (b ∷ bs) es l = ap (bitXor (b * c)) (sum-append cs ds bs es (omega arith)) ∙ sym (xor-assoc (b * c) (sum cs bs) (sum ds es))
+
+pub total-columns : (s : List ℕ) → Octets s → total s ≡ sum (columns (length s)) (octetBits s)
+unfolding total sum octetBits bitsOf
+total-columns [] h = refl
+total-columns (o ∷ s) h =
+    ap₂ bitXor (octet-columns (length s) o (h .0)) (total-columns s (h .1))
+    ∙ sym (sum-append (movedAll (length s) weights) (columns (length s)) (bitsOf 8 o) (octetBits s) refl)

@@ -1,0 +1,7 @@
+pub mod Bits
+pub mod Columns
+pub mod Detected
+pub mod Reading
+pub mod Refused
+pub mod Written
+pub mod Example
