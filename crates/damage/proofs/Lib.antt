@@ -5,3 +5,4 @@ pub mod Reading
 pub mod Refused
 pub mod Written
 pub mod Example
+pub mod Arrival

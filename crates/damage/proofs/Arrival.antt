@@ -1,0 +1,55 @@
+-- What the session sees of a damaged CLTU (`arrival`): where its reading hands octets out and these arrive at the receiver in the frame's place, that is
+-- the frame with its fill, or noise and the frame's loss; both are events of session/specs/Channels, so all that holds beyond demand 3 holds. Where
+-- the reading is refused nothing arrives: the frame is lost.
+use mathlib.Core.Path.{_≡_, refl, ap, _∙_}
+use mathlib.Core.Logic.{_⊎_, inl, inr, ⊎-elim}
+use mathlib.Core.Bool.{true}
+use mathlib.Core.List.{List, [], _∷_}
+use Prim.Native.Nat.{ℕ, zero, suc, _-_, _*_, _≤_}
+use native.Mathlib.Omega.{arith}
+use borrow.Author.Tests.{le-leb}
+use lib.ListN.{length, replicate, length-replicate}
+use Rattle.base.specs.Outcome.{Outcome.done}
+use Rattle.cltu.specs.Cltu.{codeblocks, fillOctet, filled, cltuOf, Found, reading}
+use Rattle.fop.specs.Units.{Frame, areOctets, written}
+use Rattle.session.specs.Frames.{read}
+use Rattle.session.specs.Ends.{Settings, Within, Ends}
+use Rattle.session.specs.Session.{Linked, frameLost, frameCome}
+use Rattle.session.specs.Channels.{demanded, frameFilled, noise, isFill, largestFill, isRefused, linkStep, linkRun}
+use Rattle.session.proofs.Harmless.{damaged-frame}
+use Rattle.damage.specs.Damage.{Damaged, Sendable, TooShort}
+use Rattle.damage.proofs.Refused.{damage-refused-or-sent}
+use Rattle.damage.proofs.Written.{written-whole}
+
+-- the fill of the last codeblock
+fill-octets : (c : ℕ) → areOctets (replicate c fillOctet) ≡ true
+fill-octets zero = refl
+fill-octets (suc c) = fill-octets c
+
+is-fill : (c : ℕ) → c ≤ largestFill → isFill (replicate c fillOctet) ≡ true
+is-fill c l = rw (length-replicate c fillOctet, le-leb c largestFill l, fill-octets c)
+
+-- octets too short for their header are refused
+short-refused : (set : Settings) (octets : List ℕ) → TooShort octets → isRefused (read (set .own) octets) ≡ true
+unfolding read
+short-refused set octets h = rw (h (set .own .spacecraft) (set .own .channel))
+
+module _ (set : Settings) (vw : Within set) (kept : ℕ) (m : Ends) (σ : Linked m) (x : Frame) (h : Sendable x) (fs : List (List ℕ))
+    (under-way : σ .frames ≡ written (set .own) x ∷ fs) where
+  abbrev frame : List ℕ
+  frame = written (set .own) x
+
+  -- with its fill
+  sent : (fill : List ℕ) × (frameCome set m (filled frame ∷ fs) σ ≡ linkStep set kept m (frameFilled fill) σ)
+  unfolding filled linkStep
+  sent =
+      let c : ℕ = 7 * codeblocks (length frame) - length frame in
+      (replicate c fillOctet, rw (under-way, is-fill c (omega arith)))
+
+  pub arrival : (received octets : List ℕ) (room : ℕ) (found : Found) → Damaged (cltuOf frame) received → reading received room ≡ done octets found
+      → ((fill : List ℕ) × (frameCome set m (octets ∷ fs) σ ≡ linkStep set kept m (frameFilled fill) σ))
+      ⊎ (frameCome set m (octets ∷ fs) σ ≡ linkRun set kept m (noise octets ∷ demanded frameLost ∷ []) σ)
+  arrival received octets room found d e =
+      ⊎-elim (λ z. inl (sent .0, ap (λ (o : List ℕ). frameCome set m (o ∷ fs) σ) z ∙ sent .1))
+      (λ z. inr (damaged-frame set kept m σ octets frame fs (short-refused set octets z) under-way))
+      (damage-refused-or-sent (written-whole (set .own) (vw .spacecraft) (vw .channel) x h .0) received d room octets found e)
