@@ -10,6 +10,7 @@
 //!   compare --session [EVENTS] [--seed N] [--fault NAME]
 //!   compare --sender --faults
 //!   compare --receiver --faults
+//!   compare --session --faults
 //!   compare --program [RUNS] [--seed N] [--fault NAME]
 //!   compare --program --lines LINES [--seed N] [--fault NAME]
 //!   compare --program --faults

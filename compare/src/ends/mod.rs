@@ -6,13 +6,14 @@ mod receiver_end;
 mod sender;
 mod sender_end;
 mod session;
+mod session_met;
 
 use crate::call::{self, Part};
 use crate::check::Tally;
 use crate::octets::LENGTHS;
 use crate::random::Random;
 use crate::settings::{self, print_names, Settings};
-use independent::fault::{Fault, FOP_FAULTS, PROGRAM_FAULTS};
+use independent::fault::{Fault, FOP_FAULTS, PASS_FAULTS, PROGRAM_FAULTS, SESSION_FAULTS};
 use std::process::ExitCode;
 use std::time::Instant;
 
@@ -20,7 +21,8 @@ pub const USAGE: &str = "       compare --sender [EVENTS] [--seed N] [--fault NA
        compare --receiver [EVENTS] [--seed N] [--fault NAME]
        compare --session [EVENTS] [--seed N] [--fault NAME]
        compare --sender --faults
-       compare --receiver --faults";
+       compare --receiver --faults
+       compare --session --faults";
 
 /// From so many events on, all that can be met must be met.
 const ENOUGH_TO_MEET_ALL: u64 = 100_000;
@@ -47,7 +49,8 @@ pub fn main(mode: Mode, words: &[String]) -> ExitCode {
         }
         return ExitCode::from(0);
     }
-    let Some(settings) = settings::read(words, EVENTS, &faults, |_, _| None) else {
+    let known = [&faults[..], &others(&mode)].concat();
+    let Some(settings) = settings::read(words, EVENTS, &known, |_, _| None) else {
         eprintln!("usage:\n{USAGE}");
         return ExitCode::from(2);
     };
@@ -65,16 +68,31 @@ pub fn main(mode: Mode, words: &[String]) -> ExitCode {
     report.print(&settings)
 }
 
-/// The faults that each comparison can find, by name.
+/// The faults that each comparison must find, by name.
 fn faults(mode: &Mode) -> Vec<(&'static str, Fault)> {
+    let of_a_pass = FOP_FAULTS
+        .iter()
+        .filter(|fault| PASS_FAULTS.contains(&fault.1));
+    match mode {
+        Mode::Sender => FOP_FAULTS.to_vec(),
+        Mode::Receiver => farm_faults(),
+        Mode::Session => SESSION_FAULTS.iter().chain(of_a_pass).copied().collect(),
+    }
+}
+
+/// All those of the ends, which a session can have too, and need not find.
+fn others(mode: &Mode) -> Vec<(&'static str, Fault)> {
+    match mode {
+        Mode::Sender | Mode::Receiver => Vec::new(),
+        Mode::Session => [&FOP_FAULTS[..], &farm_faults()].concat(),
+    }
+}
+
+fn farm_faults() -> Vec<(&'static str, Fault)> {
     let of_farm = PROGRAM_FAULTS
         .iter()
         .filter(|(name, _)| name.starts_with("farm"));
-    match mode {
-        Mode::Sender => FOP_FAULTS.to_vec(),
-        Mode::Receiver => of_farm.copied().collect(),
-        Mode::Session => FOP_FAULTS.iter().chain(of_farm).copied().collect(),
-    }
+    of_farm.copied().collect()
 }
 
 /// Compares runs until the events are enough. Answers what they gave and how many began;
@@ -97,6 +115,8 @@ struct Counts {
     title: &'static str,
     /// Each must be met.
     required: bool,
+    /// So often at the least.
+    least: u64,
     counts: Vec<(String, u64)>,
 }
 
@@ -105,22 +125,29 @@ impl Counts {
         Counts {
             title,
             required: true,
+            least: 1,
             counts: names.map(|name| (name, 0)).collect(),
         }
     }
 
     fn meet(&mut self, name: &str) {
+        self.meet_often(name, 1);
+    }
+
+    fn meet_often(&mut self, name: &str, times: u64) {
         for (other, count) in &mut self.counts {
             if other == name {
-                *count += 1;
+                *count += times;
                 return;
             }
         }
-        self.counts.push((name.to_string(), 1));
+        self.counts.push((name.to_string(), times));
     }
 
+    /// How many were not met, or not so often as they must be.
     fn never_met(&self) -> usize {
-        self.counts.iter().filter(|(_, count)| *count == 0).count()
+        let few = |count: &u64| *count < self.least;
+        self.counts.iter().filter(|(_, count)| few(count)).count()
     }
 
     /// Each with its count; of those not required, the ones never met.

@@ -1,118 +1,49 @@
-//! Random sessions: the library's sender and receiver, linked by channels that lose,
-//! beside the independent session.
+//! Random sessions: the library's sender and receiver, linked by channels that lose and
+//! repeat, with a recorder and noise, beside the independent session.
 
 use super::receiver_end::{self, expected_frame, expected_release};
 use super::sender_end::{self, call, Expected, SenderEnd};
-use super::{compare_runs, refusal, Counts, Report};
+use super::session_met::Met;
+use super::{compare_runs, refusal, Report};
 use crate::check::Tally;
 use crate::inputs::farm1_frames::Start;
-use crate::library::{SenderEvent, SenderSettings};
+use crate::library::{self, SenderEvent, SenderSettings};
 use crate::octets::{ANSWER, RECEIVER_STATE, SENDER_STATE};
 use crate::random::Random;
 use crate::settings::Settings;
-use independent::farm1::Event as FarmEvent;
 use independent::fault::Fault;
 use independent::fop1::{self, Sender, STORE};
-use independent::refusal::{DONE, LENGTH, RELEASE, ROOM};
-use independent::session::{Event, Outcome, Session};
-use independent::session_check::Checker;
-use independent::session_random::{self, Manner};
-use independent::{session, table_7_8::State};
+use independent::recorder::{one_more_than_nw, Recorder};
+use independent::refusal::{ADDRESS, DONE, LENGTH};
+use independent::session::{inverted, Event, Outcome, Session};
+use independent::session_check::{Checker, NEVER_LOCKED_OUT};
+use independent::session_random::{self, Course};
+use independent::{frame, session, table_7_8::State};
 use std::collections::VecDeque;
 
 /// The control word's octets.
 const WORD: usize = 4;
 
-/// The rows of Table 7-8 that sessions come to often.
-const ROWS: [u8; 18] = [
-    1, 2, 5, 6, 8, 9, 10, 11, 12, 16, 19, 20, 21, 22, 41, 43, 45, 102,
-];
+/// So many events may follow when the sender is Initial.
+const AFTER_THE_END: usize = 100;
 
-/// The library's ends and channels.
+/// The library's ends and channels, and the recorder of its frames.
 struct Ends {
     sender: SenderEnd,
     receiver: Vec<u8>,
     frames: VecDeque<Vec<u8>>,
     words: VecDeque<Vec<u8>>,
-}
-
-struct Met {
-    kinds: Counts,
-    refusals: Counts,
-    rows: Counts,
-    farm: Counts,
-}
-
-const KINDS: [&str; 11] = [
-    "AD request",
-    "BD request",
-    "tick",
-    "lower layer",
-    "Terminate",
-    "word",
-    "frame",
-    "release",
-    "report",
-    "frame lost",
-    "word lost",
-];
-
-impl Met {
-    fn new() -> Met {
-        let of_farm = [
-            FarmEvent::E1,
-            FarmEvent::E2,
-            FarmEvent::E3,
-            FarmEvent::E4,
-            FarmEvent::E6,
-            FarmEvent::E10,
-        ];
-        let refusals = [DONE, LENGTH, ROOM, RELEASE];
-        Met {
-            kinds: Counts::new("kinds", KINDS.iter().map(|name| name.to_string())),
-            refusals: Counts::new("refusals", refusals.into_iter().map(refusal)),
-            rows: Counts::new("rows", ROWS.iter().map(|row| format!("E{row}"))),
-            farm: Counts::new(
-                "events of FARM-1",
-                of_farm.iter().map(|event| format!("{event:?}")),
-            ),
-        }
-    }
-
-    fn meet(&mut self, event: &Event, outcome: &Outcome) {
-        self.kinds.meet(match event {
-            Event::AdRequest { .. } => "AD request",
-            Event::BdRequest { .. } => "BD request",
-            Event::Tick { .. } => "tick",
-            Event::Lower { .. } => "lower layer",
-            Event::Terminate => "Terminate",
-            Event::Word { .. } => "word",
-            Event::Frame => "frame",
-            Event::Release => "release",
-            Event::Report => "report",
-            Event::FrameLost => "frame lost",
-            Event::WordLost => "word lost",
-        });
-        if let Some(answer) = &outcome.sender {
-            self.refusals.meet(&refusal(answer.refusal));
-            if answer.row != 0 {
-                self.rows.meet(&format!("E{}", answer.row));
-            }
-        }
-        if let Some(received) = &outcome.receiver {
-            match received.event {
-                Ok(event) => self.farm.meet(&format!("{event:?}")),
-                Err(number) => self.refusals.meet(&refusal(number)),
-            }
-        }
-    }
+    recorder: Recorder,
 }
 
 pub fn compare(settings: &Settings) -> Report {
-    let mut met = Met::new();
+    let mut met = Met::new(settings.count);
     let (tally, runs) = compare_runs(settings, |random, tally| {
+        if tally.inputs == 0 {
+            recorded_too_far(random, tally, &mut met);
+        }
         let of_session = session_random::settings(&mut |limit| random.below(limit));
-        let manner = session_random::manner(&mut |limit| random.below(limit));
+        let mut course = Course::new(&mut |limit| random.below(limit));
         let started = start(&of_session, random);
         let difference = started.as_ref().err();
         tally.compared(difference.is_none(), || {
@@ -129,14 +60,40 @@ pub fn compare(settings: &Settings) -> Report {
         };
         let most = settings.count.saturating_sub(tally.inputs) as usize;
         let events = random.between(200, 2000).min(most);
-        run.all(events, &manner, random, tally, &mut met);
+        run.all(events, &mut course, random, tally, &mut met);
+        met.meet_premises(&run.checker);
         true
     });
     Report {
         tally,
         runs,
-        counts: vec![met.kinds, met.refusals, met.rows, met.farm],
+        counts: met.counts(),
     }
+}
+
+/// With a recorder that reaches NW + 1 both receivers are locked out alike, and the claims say
+/// so.
+fn recorded_too_far(random: &mut Random, tally: &mut Tally, met: &mut Met) {
+    let (settings, events) = one_more_than_nw();
+    let differences = match start(&settings, random) {
+        Err(difference) => vec![difference],
+        Ok((ends, session)) => {
+            let mut run = Run {
+                ends,
+                session,
+                checker: Checker::new(&settings).expect("good settings"),
+                fault: Fault::None,
+            };
+            run.reach_one_more();
+            run.lock_out(&events, random)
+        }
+    };
+    if differences.is_empty() {
+        met.meet_lockout();
+    }
+    tally.compared(differences.is_empty(), || {
+        format!("  a recorder of NW + 1\n  {}\n", differences.join("\n  "))
+    });
 }
 
 /// Both ends synchronised and active, and the independent session.
@@ -165,6 +122,7 @@ fn start(settings: &session::Settings, random: &mut Random) -> Result<(Ends, Ses
         receiver: receiver_end::state(&session.receiver, spacecraft, channel),
         frames: VecDeque::new(),
         words: VecDeque::new(),
+        recorder: session.recorder.clone(),
     };
     Ok((ends, session))
 }
@@ -217,18 +175,45 @@ struct Run {
 }
 
 impl Run {
-    /// So many events, or until they differ.
+    fn reach_one_more(&mut self) {
+        let reach = self.session.recorder.reach + 1;
+        self.ends.recorder.reach = reach;
+        self.session.recorder.reach = reach;
+        self.checker.table.recorder.reach = reach;
+    }
+
+    /// The events, at the last of which the receiver must be locked out.
+    fn lock_out(&mut self, events: &[Event], random: &mut Random) -> Vec<String> {
+        let mut differences = Vec::new();
+        let mut claims = Ok(());
+        for event in events {
+            if claims.is_err() {
+                differences.push("a claim fails too soon".to_string());
+            }
+            let before = self.session.sender.clone();
+            let outcome = self.session.step(event, self.fault);
+            differences.extend(self.step(event, &outcome, &before, random));
+            claims = claims.and(self.checker.check(event, &outcome));
+        }
+        if claims != Err(NEVER_LOCKED_OUT.to_string()) {
+            differences.push("the receiver is not locked out".to_string());
+        }
+        differences
+    }
+
+    /// So many events, fewer where the sender is Initial, or until they differ.
     fn all(
         &mut self,
         events: usize,
-        manner: &Manner,
+        course: &mut Course,
         random: &mut Random,
         tally: &mut Tally,
         met: &mut Met,
     ) {
-        for n in 0..events {
-            let event =
-                session_random::event(&mut |limit| random.below(limit), manner, &self.session);
+        let mut rest = events;
+        while rest > 0 {
+            let mut draw = |limit| random.below(limit);
+            let event = course.next(&mut draw, rest, &self.session, &self.checker);
             let before = self.session.sender.clone();
             let outcome = self.session.step(&event, self.fault);
             let mut differences = self.step(&event, &outcome, &before, random);
@@ -238,15 +223,23 @@ impl Run {
             if differences.is_empty() {
                 differences.extend(self.checker.check(&event, &outcome).err());
             }
-            met.meet(&event, &outcome);
+            if differences.is_empty() {
+                differences.extend(course.check(&self.session, &mut self.checker).err());
+            }
+            met.meet(&event, &outcome, &self.session);
             tally.compared(differences.is_empty(), || {
                 format!(
-                    "  event {n} of the session: {event:?}\n  {}\n",
+                    "  event {} of the session: {event:?}\n  {}\n",
+                    events - rest,
                     differences.join("\n  ")
                 )
             });
             if !differences.is_empty() {
                 return;
+            }
+            rest -= 1;
+            if self.session.sender.state == State::S6 {
+                rest = rest.min(AFTER_THE_END);
             }
         }
     }
@@ -273,7 +266,18 @@ impl Run {
                 None => return expect_nothing(outcome),
                 Some(word) => (SenderEvent::ControlWord(word), *room),
             },
+            Event::WordStays { room } => match self.ends.words.front() {
+                None => return expect_nothing(outcome),
+                Some(word) => (SenderEvent::ControlWord(word.clone()), *room),
+            },
+            Event::WordNoise { octets, room } => {
+                return self.word_noise(octets, *room, outcome, before, random)
+            }
             Event::Frame => return self.frame(outcome),
+            Event::FrameStays => return self.frame_stays(outcome),
+            Event::FrameAgain { place } => return self.frame_again(*place, outcome),
+            Event::Noise { octets } => return self.noise(octets, outcome),
+            Event::FrameDamaged { bits } => return self.frame_damaged(bits, outcome),
             Event::Release => return self.release(outcome),
             Event::Report => return self.report(outcome, random),
             Event::FrameLost => {
@@ -310,8 +314,34 @@ impl Run {
             differences.push(call.show(&expected, before));
             return differences;
         }
-        self.ends.frames.extend(call.frame());
+        if let Some(frame) = call.frame() {
+            self.ends.recorder.record(&frame);
+            self.ends.frames.push_back(frame);
+        }
         self.ends.sender.keep(call);
+        differences
+    }
+
+    /// A word that the library's reader refuses with 7 or 10 leaves the sender and its store
+    /// as they were.
+    fn word_noise(
+        &mut self,
+        octets: &[u8],
+        room: usize,
+        outcome: &Outcome,
+        before: &Sender,
+        random: &mut Random,
+    ) -> Vec<String> {
+        let read = library::clcw_read(&mut octets.to_vec(), before.channel);
+        if ![ADDRESS, LENGTH].contains(&read.number) {
+            return expect_nothing(outcome);
+        }
+        let end = self.ends.sender.clone();
+        let word = SenderEvent::ControlWord(octets.to_vec());
+        let mut differences = self.send(&word, room, outcome, before, random);
+        if self.ends.sender.state != end.state || self.ends.sender.store != end.store {
+            differences.push("noise changes the sender".to_string());
+        }
         differences
     }
 
@@ -321,16 +351,73 @@ impl Run {
     }
 
     fn frame(&mut self, outcome: &Outcome) -> Vec<String> {
-        let Some(frame) = self.ends.frames.pop_front() else {
-            return expect_nothing(outcome);
-        };
+        match self.ends.frames.pop_front() {
+            Some(frame) => self.arrive(&frame, outcome),
+            None => expect_nothing(outcome),
+        }
+    }
+
+    fn frame_stays(&mut self, outcome: &Outcome) -> Vec<String> {
+        match self.ends.frames.front().cloned() {
+            Some(frame) if self.read(&frame).kind == frame::AD => self.arrive(&frame, outcome),
+            _ => expect_nothing(outcome),
+        }
+    }
+
+    fn frame_again(&mut self, place: usize, outcome: &Outcome) -> Vec<String> {
+        let again = self.ends.recorder.again(place, Fault::None);
+        self.ends.frames.extend(again.clone());
+        match again == outcome.again {
+            true => Vec::new(),
+            false => vec!["the recorders differ".to_string()],
+        }
+    }
+
+    /// What the library's reader says of octets.
+    fn read(&self, octets: &[u8]) -> frame::Read {
+        let (spacecraft, channel) = (self.session.sender.spacecraft, self.session.sender.channel);
+        library::frame_read(&mut octets.to_vec(), spacecraft, channel)
+    }
+
+    /// A frame of this sender comes, which is never refused.
+    fn arrive(&mut self, frame: &[u8], outcome: &Outcome) -> Vec<String> {
+        self.receive(DONE, frame, outcome)
+    }
+
+    /// Octets that are read with this number come to the receiver.
+    fn receive(&mut self, number: u8, octets: &[u8], outcome: &Outcome) -> Vec<String> {
         let Some(received) = &outcome.receiver else {
             return vec!["the independent receiver answers nothing".to_string()];
         };
-        // A frame of this sender is never refused.
-        let expected = expected_frame(DONE, received);
+        let expected = expected_frame(number, received);
         let state = self.expected_receiver();
-        receiver_end::frame(&mut self.ends.receiver, &frame, &expected, &state)
+        receiver_end::frame(&mut self.ends.receiver, octets, &expected, &state)
+    }
+
+    /// Octets that the library's reader refuses leave the receiver as it was.
+    fn noise(&mut self, octets: &[u8], outcome: &Outcome) -> Vec<String> {
+        let number = self.read(octets).number;
+        if number == DONE {
+            return expect_nothing(outcome);
+        }
+        let before = self.ends.receiver.clone();
+        let mut differences = self.receive(number, octets, outcome);
+        if self.ends.receiver != before {
+            differences.push("noise changes the receiver".to_string());
+        }
+        differences
+    }
+
+    /// The oldest frame comes with wrong bits, if the library's reader refuses it: noise, and
+    /// then the frame is lost.
+    fn frame_damaged(&mut self, bits: &[usize], outcome: &Outcome) -> Vec<String> {
+        let Some(octets) = self.ends.frames.front().map(|frame| inverted(frame, bits)) else {
+            return expect_nothing(outcome);
+        };
+        if self.read(&octets).number != DONE {
+            self.ends.frames.pop_front();
+        }
+        self.noise(&octets, outcome)
     }
 
     fn release(&mut self, outcome: &Outcome) -> Vec<String> {

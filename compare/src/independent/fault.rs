@@ -74,6 +74,22 @@ pub enum Fault {
     FopDeniesNone,
     /// A tick that is refused for want of room lowers the timer.
     FopRefusedTickCounts,
+    /// The timer runs on where it is cancelled (clause 7.2.2.9).
+    FopTimerRunsOn,
+    /// The recorder reaches one unit further back than NW.
+    SessionRecorderOneMore,
+    /// A frame stays whatever its type.
+    SessionBdFrameStays,
+    /// A word that stays is taken twice.
+    SessionWordStaysTwice,
+    /// Noise moves V(R).
+    SessionNoiseMovesVr,
+    /// Octets that the sender must refuse are taken for an invalid CLCW.
+    SessionWordNoiseAlerts,
+    /// A damaged frame is taken as it was sent.
+    SessionDamagedFrameTaken,
+    /// In S6 the AD frame that the receiver expects comes from an empty channel.
+    SessionLateFrame,
 }
 
 /// The faults of the operations, by name.
@@ -111,7 +127,7 @@ pub const PROGRAM_FAULTS: [(&str, Fault); 7] = [
 ];
 
 /// The faults of FOP-1, by name.
-pub const FOP_FAULTS: [(&str, Fault); 11] = [
+pub const FOP_FAULTS: [(&str, Fault); 12] = [
     ("fop_never_sends", Fault::FopNeverSends),
     ("fop_never_resends", Fault::FopNeverResends),
     ("fop_no_timer", Fault::FopNoTimer),
@@ -123,4 +139,22 @@ pub const FOP_FAULTS: [(&str, Fault); 11] = [
     ("fop_no_abort", Fault::FopNoAbort),
     ("fop_denies_none", Fault::FopDeniesNone),
     ("fop_refused_tick_counts", Fault::FopRefusedTickCounts),
+    ("fop_timer_runs_on", Fault::FopTimerRunsOn),
+];
+
+/// Those of them that break a pass, which a session must find too.
+pub const PASS_FAULTS: [Fault; 2] = [Fault::FopNeverSends, Fault::FopTimerRunsOn];
+
+/// The faults of a session's channels, its recorder and its noise, by name.
+pub const SESSION_FAULTS: [(&str, Fault); 7] = [
+    ("session_recorder_one_more", Fault::SessionRecorderOneMore),
+    ("session_bd_frame_stays", Fault::SessionBdFrameStays),
+    ("session_word_stays_twice", Fault::SessionWordStaysTwice),
+    ("session_noise_moves_v_r", Fault::SessionNoiseMovesVr),
+    ("session_word_noise_alerts", Fault::SessionWordNoiseAlerts),
+    (
+        "session_damaged_frame_taken",
+        Fault::SessionDamagedFrameTaken,
+    ),
+    ("session_late_frame", Fault::SessionLateFrame),
 ];

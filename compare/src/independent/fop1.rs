@@ -475,6 +475,7 @@ impl Sender {
             Action::RemoveAcknowledged => self.remove_acknowledged(occurrence.n_r, answer, fault),
             Action::ReleaseBc => self.sent_queue.clear(),
             Action::StartTimer => self.timer = self.t1_initial,
+            Action::CancelTimer if fault == Fault::FopTimerRunsOn => (),
             Action::CancelTimer => self.timer = 0,
             Action::LookForFdu => self.look_for_fdu(answer, fault),
             Action::LookForDirective => self.look_for_directive(answer),

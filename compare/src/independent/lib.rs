@@ -14,9 +14,12 @@ pub mod frame;
 pub mod output;
 pub mod program;
 pub mod randomizer;
+pub mod recorder;
 pub mod refusal;
 pub mod session;
 pub mod session_check;
+pub mod session_noise;
+pub mod session_pass;
 pub mod session_random;
 pub mod table_7_8;
 

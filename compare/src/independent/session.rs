@@ -1,5 +1,6 @@
 //! The session (document 01): a sender and a receiver, linked by two channels that may
-//! lose but never alter, repeat or reorder.
+//! lose but never alter or reorder. Beyond document 01, a frame or a word may stay when it is
+//! delivered, a recorder may repeat a frame, and noise may come to either end.
 
 use std::collections::VecDeque;
 
@@ -9,10 +10,15 @@ use crate::farm1::{self, Arrival, Farm1};
 use crate::fault::Fault;
 use crate::fop1::{self, Answer, Sender, STORE};
 use crate::frame;
-use crate::refusal::{DONE, SETTING};
+use crate::recorder::{is_ad, Recorder};
+use crate::refusal::{ADDRESS, DONE, LENGTH, SETTING};
+use crate::table_7_8::State;
 
 /// The octets of the primary header.
 const HEADER: usize = 5;
+
+/// Four octets that are no valid CLCW: its type is not zero.
+pub const INVALID_WORD: [u8; 4] = [0x80, 0, 0, 0];
 
 /// What is given at the start.
 #[derive(Clone, Copy, PartialEq, Eq, Debug)]
@@ -61,6 +67,31 @@ pub enum Event {
     Report,
     FrameLost,
     WordLost,
+    /// The oldest frame comes to the receiver and stays, if it is an AD frame.
+    FrameStays,
+    /// The oldest word comes to the sender and stays.
+    WordStays {
+        room: usize,
+    },
+    /// The recorder puts the AD frame of the unit at this place of those sent into its
+    /// channel again, if it is one of the last NW.
+    FrameAgain {
+        place: usize,
+    },
+    /// Octets come to the receiver, if its reader refuses them.
+    Noise {
+        octets: Vec<u8>,
+    },
+    /// Octets come to the sender, if it refuses them with 7 or 10.
+    WordNoise {
+        octets: Vec<u8>,
+        room: usize,
+    },
+    /// The oldest frame, with these bits of it inverted, comes to the receiver in its place,
+    /// if its reader refuses it.
+    FrameDamaged {
+        bits: Vec<usize>,
+    },
 }
 
 /// A frame as it is read: its kind, its N(S) and its data field.
@@ -82,6 +113,8 @@ pub struct Outcome {
     pub receiver: Option<Received>,
     /// The word that the receiver made.
     pub report: Option<Vec<u8>>,
+    /// The frame that the recorder put into its channel.
+    pub again: Option<Vec<u8>>,
 }
 
 /// The answer of the receiver.
@@ -101,6 +134,17 @@ pub struct Session {
     pub receiver: Farm1,
     pub frames: VecDeque<Vec<u8>>,
     pub words: VecDeque<Vec<u8>>,
+    pub recorder: Recorder,
+}
+
+/// The octets with these bits inverted, counted round their length.
+pub fn inverted(octets: &[u8], places: &[usize]) -> Vec<u8> {
+    let mut all = bits::from_octets(octets);
+    let count = all.len();
+    for place in places {
+        all[place % count] ^= true;
+    }
+    bits::to_octets(&all)
 }
 
 /// Reads a frame as its receiver does.
@@ -199,26 +243,87 @@ impl Session {
             receiver,
             frames: VecDeque::new(),
             words: VecDeque::new(),
+            recorder: Recorder::new(settings.number, receiver.half_window()),
         })
     }
 
-    pub fn step(&mut self, event: &Event, fault: Fault) -> Outcome {
+    /// At rest: Active, the queues and channels empty, the lower layer ready, the timer
+    /// stopped, the receiver Open without flags, a buffer free.
+    pub fn at_rest(&self) -> bool {
+        let (sender, receiver) = (&self.sender, &self.receiver);
+        sender.state == State::S1
+            && sender.sent_queue.is_empty()
+            && sender.wait_queue.is_none()
+            && sender.ad_out_ready
+            && sender.timer == 0
+            && self.frames.is_empty()
+            && self.words.is_empty()
+            && receiver.state == farm1::State::Open
+            && !receiver.lockout_flag
+            && !receiver.wait_flag
+            && !receiver.retransmit_flag
+            && receiver.buffer_free()
+    }
+
+    /// No AD frame is under way.
+    pub fn no_ad_frame(&self) -> bool {
+        !self.frames.iter().any(|octets| is_ad(octets))
+    }
+
+    /// The number with which the receiver's reader refuses the octets, if it does.
+    pub fn refusal_of_frame(&self, octets: &[u8]) -> Option<u8> {
+        let (spacecraft, channel) = (self.sender.spacecraft, self.sender.channel);
+        let number = frame::read(octets, spacecraft, channel, Fault::None).number;
+        (number != DONE).then_some(number)
+    }
+
+    /// The octets are refused as another channel's word, or by their length.
+    pub fn refuses_word(&self, octets: &[u8]) -> bool {
+        let number = clcw::read(octets, self.sender.channel, Fault::None).number;
+        [ADDRESS, LENGTH].contains(&number)
+    }
+
+    /// What the event brings to the sender, with the room lent.
+    pub fn to_sender(&self, event: &Event) -> Option<(fop1::Event, usize)> {
         let terminate = fop1::Event::Directive {
             number: 5,
             value: 0,
         };
+        Some(match event {
+            Event::AdRequest { unit, room } => (fop1::Event::AdRequest(unit.clone()), *room),
+            Event::BdRequest { unit, room } => (fop1::Event::BdRequest(unit.clone()), *room),
+            Event::Tick { room } => (fop1::Event::Tick, *room),
+            Event::Lower { response, room } => (response.clone(), *room),
+            Event::Terminate => (terminate, 0),
+            Event::Word { room } | Event::WordStays { room } => {
+                let word = self.words.front()?.clone();
+                (fop1::Event::ControlWord(word), *room)
+            }
+            Event::WordNoise { octets, room } if self.refuses_word(octets) => {
+                (fop1::Event::ControlWord(octets.clone()), *room)
+            }
+            _ => return None,
+        })
+    }
+
+    pub fn step(&mut self, event: &Event, fault: Fault) -> Outcome {
+        if let Some((taken, room)) = self.to_sender(event) {
+            return self.send(event, taken, room, fault);
+        }
         match event {
-            Event::AdRequest { unit, room } => {
-                self.send(&fop1::Event::AdRequest(unit.clone()), *room, fault)
-            }
-            Event::BdRequest { unit, room } => {
-                self.send(&fop1::Event::BdRequest(unit.clone()), *room, fault)
-            }
-            Event::Tick { room } => self.send(&fop1::Event::Tick, *room, fault),
-            Event::Lower { response, room } => self.send(response, *room, fault),
-            Event::Terminate => self.send(&terminate, 0, fault),
-            Event::Word { room } => self.deliver_word(*room, fault),
-            Event::Frame => self.deliver_frame(fault),
+            Event::Frame => match self.frames.pop_front().or_else(|| self.late_frame(fault)) {
+                Some(octets) => self.arrive(octets, fault),
+                None => Outcome::default(),
+            },
+            Event::FrameStays => match self.frames.front().cloned() {
+                Some(octets) if is_ad(&octets) || fault == Fault::SessionBdFrameStays => {
+                    self.arrive(octets, fault)
+                }
+                _ => Outcome::default(),
+            },
+            Event::FrameAgain { place } => self.put_again(*place, fault),
+            Event::Noise { octets } => self.noise(octets.clone(), fault),
+            Event::FrameDamaged { bits } => self.damaged(bits, fault),
             Event::Release => self.release(fault),
             Event::Report => self.report(),
             Event::FrameLost => {
@@ -229,41 +334,96 @@ impl Session {
                 self.words.pop_front();
                 Outcome::default()
             }
+            // No word is under way, or the sender does not refuse the octets.
+            _ => Outcome::default(),
         }
     }
 
-    /// An event of the sender. A frame handed down enters its channel.
-    fn send(&mut self, event: &fop1::Event, room: usize, fault: Fault) -> Outcome {
-        let answer = self.sender.take(event, room, fault);
-        self.frames.extend(answer.frame.clone());
+    /// What comes to the sender. A frame handed down enters its channel; a word is lost where
+    /// the sender refuses it.
+    fn send(&mut self, event: &Event, taken: fop1::Event, room: usize, fault: Fault) -> Outcome {
+        let taken = match event {
+            Event::WordNoise { .. } if fault == Fault::SessionWordNoiseAlerts => {
+                fop1::Event::ControlWord(INVALID_WORD.to_vec())
+            }
+            _ => taken,
+        };
+        match event {
+            Event::Word { .. } => {
+                self.words.pop_front();
+            }
+            Event::WordStays { .. } if fault == Fault::SessionWordStaysTwice => {
+                self.sender.take(&taken, room, fault);
+            }
+            _ => (),
+        }
+        let answer = self.sender.take(&taken, room, fault);
+        if let Some(octets) = &answer.frame {
+            self.recorder.record(octets);
+            self.frames.push_back(octets.clone());
+        }
         Outcome {
+            word: match taken {
+                fop1::Event::ControlWord(word) => Some(word),
+                _ => None,
+            },
             sender: Some(answer),
             ..Outcome::default()
         }
     }
 
-    /// The word is lost where the sender refuses it.
-    fn deliver_word(&mut self, room: usize, fault: Fault) -> Outcome {
-        let Some(word) = self.words.pop_front() else {
-            return Outcome::default();
-        };
-        let outcome = self.send(&fop1::Event::ControlWord(word.clone()), room, fault);
-        Outcome {
-            word: Some(word),
-            ..outcome
-        }
-    }
-
-    fn deliver_frame(&mut self, fault: Fault) -> Outcome {
-        let Some(octets) = self.frames.pop_front() else {
-            return Outcome::default();
-        };
+    /// Octets come to the receiver.
+    fn arrive(&mut self, octets: Vec<u8>, fault: Fault) -> Outcome {
         let address = (self.sender.spacecraft, self.sender.channel);
         let received = Received::frame(&mut self.receiver, &octets, address, fault);
         Outcome {
             frame: Some(octets),
             receiver: Some(received),
             ..Outcome::default()
+        }
+    }
+
+    /// Nothing without a fault.
+    fn late_frame(&self, fault: Fault) -> Option<Vec<u8>> {
+        if fault != Fault::SessionLateFrame || self.sender.state != State::S6 {
+            return None;
+        }
+        let not_accepted = fop1::distance(self.sender.v_s, self.receiver.v_r);
+        let place = self.recorder.sent.checked_sub(not_accepted.into())?;
+        self.recorder.again(place, fault)
+    }
+
+    fn put_again(&mut self, place: usize, fault: Fault) -> Outcome {
+        let again = self.recorder.again(place, fault);
+        self.frames.extend(again.clone());
+        Outcome {
+            again,
+            ..Outcome::default()
+        }
+    }
+
+    fn noise(&mut self, octets: Vec<u8>, fault: Fault) -> Outcome {
+        if self.refusal_of_frame(&octets).is_none() {
+            return Outcome::default();
+        }
+        if fault == Fault::SessionNoiseMovesVr {
+            self.receiver.v_r = self.receiver.beyond_v_r(1);
+        }
+        self.arrive(octets, fault)
+    }
+
+    fn damaged(&mut self, places: &[usize], fault: Fault) -> Outcome {
+        let Some(sent) = self.frames.front() else {
+            return Outcome::default();
+        };
+        let octets = inverted(sent, places);
+        if self.refusal_of_frame(&octets).is_none() {
+            return Outcome::default();
+        }
+        let sent = self.frames.pop_front();
+        match sent {
+            Some(sent) if fault == Fault::SessionDamagedFrameTaken => self.arrive(sent, fault),
+            _ => self.arrive(octets, fault),
         }
     }
 

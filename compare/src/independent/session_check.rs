@@ -6,13 +6,16 @@
 use std::collections::BTreeSet;
 
 use crate::clcw;
-use crate::farm1;
+use crate::farm1::{self, Farm1};
 use crate::fault::Fault;
 use crate::fop1::{self, Answer, Run, Sender, UNIT_MOST};
 use crate::frame;
 use crate::refusal::{DONE, LENGTH, ROOM};
 use crate::session::{carried, Carried, Event, Outcome, Session, Settings};
 use crate::table_7_8::{Reason, State};
+
+#[path = "session_beyond.rs"]
+mod beyond;
 
 /// A unit: its N(S) and its octets.
 #[derive(Clone, PartialEq, Eq, Debug)]
@@ -32,6 +35,41 @@ pub struct Met {
     pub expiries: usize,
     pub confirms_all: usize,
     pub confirms_and_sends: usize,
+    pub noise: usize,
+    pub word_noise: usize,
+    /// Noise that is not refused, and is nothing.
+    pub not_noise: usize,
+    pub damaged: usize,
+    /// In S6 with no AD frame under way, units denied that are on board, and that are not.
+    pub denied_on_board: usize,
+    pub denied_not_on_board: usize,
+    /// Passes, and the units of them.
+    pub passes: usize,
+    pub passed_units: usize,
+}
+
+impl Met {
+    /// Each with its name.
+    pub fn named(&self) -> [(&'static str, usize); 16] {
+        [
+            ("accepts", self.accepts),
+            ("discards", self.discards),
+            ("sends at once", self.sends_at_once),
+            ("sends marked", self.sends_marked),
+            ("sends waiting", self.sends_waiting),
+            ("expiries", self.expiries),
+            ("confirms all", self.confirms_all),
+            ("confirms and sends", self.confirms_and_sends),
+            ("noise", self.noise),
+            ("word noise", self.word_noise),
+            ("not noise", self.not_noise),
+            ("frame damaged", self.damaged),
+            ("denied on board", self.denied_on_board),
+            ("denied not on board", self.denied_not_on_board),
+            ("passes", self.passes),
+            ("units of passes", self.passed_units),
+        ]
+    }
 }
 
 pub struct Checker {
@@ -41,21 +79,24 @@ pub struct Checker {
     pub sent: Vec<Unit>,
     pub accepted: Vec<Unit>,
     pub confirmed: Vec<Unit>,
-    pub denied: Vec<Unit>,
     /// The places in sent.
+    pub denied: Vec<usize>,
     pub outstanding: BTreeSet<usize>,
     /// The releases done.
     pub releases: usize,
     /// The BD units handed down and not yet passed by an accepted one.
     bd_ahead: Vec<Vec<u8>>,
     bd_accepted: usize,
+    /// The count of units accepted when the sender came to S6 with no AD frame under way, if
+    /// the recorder has put none there since.
+    settled: Option<usize>,
     pub met: Met,
 }
 
 /// What held before the event.
 struct Before {
     sender: Sender,
-    receiver_open: bool,
+    receiver: Farm1,
     sent: usize,
     accepted: usize,
     confirmed: usize,
@@ -64,9 +105,12 @@ struct Before {
     need: usize,
 }
 
-type Claim = Result<(), String>;
+/// The words of a claim that a recorder reaching too far breaks.
+pub const NEVER_LOCKED_OUT: &str = "the receiver has never locked out";
 
-fn claim(holds: bool, words: &str) -> Claim {
+pub type Claim = Result<(), String>;
+
+pub fn claim(holds: bool, words: &str) -> Claim {
     match holds {
         true => Ok(()),
         false => Err(words.to_string()),
@@ -93,6 +137,7 @@ impl Checker {
             releases: 0,
             bd_ahead: Vec::new(),
             bd_accepted: 0,
+            settled: None,
             met: Met::default(),
         })
     }
@@ -100,47 +145,53 @@ impl Checker {
     /// Checks the next event of a session and what it gave.
     pub fn check(&mut self, event: &Event, outcome: &Outcome) -> Claim {
         let before = self.before(event);
+        if let Event::FrameDamaged { bits } = event {
+            self.damage_is_noise_and_loss(bits)?;
+        }
         self.table.step(event, Fault::None);
         self.write_histories(outcome)?;
         self.never_locked_out(outcome)?;
         match event {
-            Event::Frame => self.accepts_exactly(&before, outcome)?,
+            Event::Frame | Event::FrameStays => self.accepts_exactly(&before, outcome)?,
             Event::AdRequest { unit, room } => self.sends_at_once(&before, unit, *room, outcome)?,
             Event::Lower { response, room } if *response == fop1::Event::AdAccept => {
                 self.sends_when_ready(&before, *room, outcome)?
             }
             Event::Tick { room } => self.resends_at_expiry(&before, *room, outcome)?,
-            Event::Word { room } => self.confirms_all(&before, *room, outcome)?,
+            Event::Word { room } | Event::WordStays { room } => {
+                self.confirms_all(&before, *room, outcome)?
+            }
+            Event::Noise { octets } => self.noise_changes_nothing(&before, octets, outcome)?,
+            Event::FrameDamaged { .. } => self.damage_changes_nothing(&before, outcome)?,
+            Event::WordNoise { octets, .. } => {
+                self.word_noise_changes_nothing(&before, octets, outcome)?
+            }
             _ => (),
         }
-        self.stronger(&before, outcome)
+        self.stronger(&before, event, outcome)?;
+        self.what_denied_means(outcome)
     }
 
     fn before(&self, event: &Event) -> Before {
-        let unlimited = match event.clone() {
-            Event::AdRequest { unit, .. } => Event::AdRequest {
-                unit,
-                room: usize::MAX,
-            },
-            Event::Lower { response, .. } => Event::Lower {
-                response,
-                room: usize::MAX,
-            },
-            Event::Tick { .. } => Event::Tick { room: usize::MAX },
-            Event::Word { .. } => Event::Word { room: usize::MAX },
-            other => other,
-        };
-        let answer = self.table.clone().step(&unlimited, Fault::None).sender;
-        let frame = answer.and_then(|answer| answer.frame);
         Before {
             sender: self.table.sender.clone(),
-            receiver_open: self.table.receiver.state == farm1::State::Open,
+            receiver: self.table.receiver,
             sent: self.sent.len(),
             accepted: self.accepted.len(),
             confirmed: self.confirmed.len(),
             outstanding: self.outstanding.clone(),
-            need: frame.map_or(0, |frame| frame.len()),
+            need: self.need(event),
         }
+    }
+
+    /// The octets of the frame that the table hands down at the event, if the room is lent.
+    fn need(&self, event: &Event) -> usize {
+        let Some((taken, _)) = self.table.to_sender(event) else {
+            return 0;
+        };
+        let mut sender = self.table.sender.clone();
+        let answer = sender.take(&taken, usize::MAX, Fault::None);
+        answer.frame.map_or(0, |frame| frame.len())
     }
 
     /// n plus a count, modulo 256.
@@ -170,7 +221,7 @@ impl Checker {
             }
             for place in self.places(answer.denied)? {
                 claim(self.outstanding.remove(&place), "denied is outstanding")?;
-                self.denied.push(self.sent[place].clone());
+                self.denied.push(place);
             }
             self.write_handed_down(answer)?;
         }
@@ -231,7 +282,7 @@ impl Checker {
     }
 
     fn never_locked_out(&self, outcome: &Outcome) -> Claim {
-        let words = "the receiver has never locked out";
+        let words = NEVER_LOCKED_OUT;
         claim(self.table.receiver.state != farm1::State::Lockout, words)?;
         claim(!self.table.receiver.lockout_flag, words)?;
         if let Some(received) = &outcome.receiver {
@@ -260,6 +311,7 @@ impl Checker {
         if carried.kind != frame::AD {
             return Ok(());
         }
+        let receiver_open = before.receiver.state == farm1::State::Open;
         let expected = carried.value == self.number(before.accepted);
         let buffer_free = before.accepted < self.settings.buffers + self.releases;
         let accepted = self.accepted.len() > before.accepted;
@@ -268,7 +320,7 @@ impl Checker {
             false => self.met.discards += 1,
         }
         claim(
-            accepted == (before.receiver_open && expected && buffer_free),
+            accepted == (receiver_open && expected && buffer_free),
             "accepted exactly when Open, expected and a buffer free",
         )
     }
@@ -399,15 +451,17 @@ impl Checker {
 
 /// More than is asked for, and true as well.
 impl Checker {
-    fn stronger(&self, before: &Before, outcome: &Outcome) -> Claim {
+    fn stronger(&self, before: &Before, event: &Event, outcome: &Outcome) -> Claim {
         let Some(answer) = &outcome.sender else {
             return Ok(());
         };
         self.told_apart(answer)?;
         self.hands_down(before, answer, outcome)?;
         self.confirms_what_is_reported(before, answer, outcome)?;
-        let refusals = [DONE, LENGTH, ROOM];
-        claim(refusals.contains(&answer.refusal), "refusals are 10 and 11")?;
+        if !matches!(event, Event::WordNoise { .. }) {
+            let refusals = [DONE, LENGTH, ROOM];
+            claim(refusals.contains(&answer.refusal), "refusals are 10 and 11")?;
+        }
         let limit = self.settings.transmission_limit;
         let alert = match answer.alert {
             None | Some(Reason::Term | Reason::T1 | Reason::Llif) => true,
@@ -437,8 +491,11 @@ impl Checker {
             return claim(last, "sent is confirmed and outstanding");
         }
         claim(self.outstanding.is_empty(), "none is outstanding in S6")?;
-        let rest = self.denied == self.sent[confirmed..];
-        claim(rest, "sent is confirmed and denied")
+        let rest = self.denied.iter().copied();
+        claim(
+            rest.eq(confirmed..self.sent.len()),
+            "sent is confirmed and denied",
+        )
     }
 
     /// Each AD frame handed down is the next new unit or an outstanding one, unchanged;

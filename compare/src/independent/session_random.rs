@@ -1,27 +1,81 @@
-//! Random sessions, and random events of a sender alone. Each draw gives a number below its
-//! limit.
+//! Random sessions with passes where they are at rest, and random events of a sender alone.
+//! Each draw gives a number below its limit.
 
 use crate::bits;
 use crate::clcw;
 use crate::fault::Fault;
 use crate::fop1::{self, Sender, UNIT_MOST};
 use crate::session::{Event, Session, Settings};
+use crate::session_check::{Checker, Claim};
+use crate::session_noise::{damage, noise, word_noise};
+use crate::session_pass::Pass;
 use crate::table_7_8::State;
 
 pub type Draw<'a> = &'a mut dyn FnMut(usize) -> usize;
 
 /// Room for any frame.
-const ROOM_MOST: usize = 256;
+pub const ROOM_MOST: usize = 256;
+
+/// The events left where a session is terminated.
+const LEFT_AT_TERMINATE: usize = 60;
+
+/// The kinds of events, in the order of `drawn`; from the second number on those beyond
+/// document 01.
+const KINDS: usize = 21;
+const BEYOND: usize = 15;
 
 /// What a session is like.
-pub struct Manner {
+struct Manner {
     /// The shares of its events, in the order of `drawn`.
-    shares: [usize; 15],
+    shares: [usize; KINDS],
     /// With so many frames or words under way, the oldest arrives before the next enters.
     under_way: usize,
 }
 
-fn between(draw: Draw, least: usize, most: usize) -> usize {
+/// The events of a session: random ones, and passes where it is at rest.
+pub struct Course {
+    manner: Manner,
+    pass: Option<Pass>,
+}
+
+impl Course {
+    pub fn new(draw: Draw) -> Course {
+        Course {
+            manner: manner(draw),
+            pass: None,
+        }
+    }
+
+    /// The next event, with so many left. Some sessions are terminated before their end.
+    pub fn next(&mut self, draw: Draw, left: usize, session: &Session, checker: &Checker) -> Event {
+        if left == LEFT_AT_TERMINATE && draw(2) == 0 {
+            self.pass = None;
+            return Event::Terminate;
+        }
+        if self.pass.is_none() && session.at_rest() && draw(3) == 0 {
+            self.pass = Some(Pass::new(legal_units(draw), checker));
+        }
+        match &self.pass {
+            Some(pass) => pass.event(),
+            None => event(draw, &self.manner, session),
+        }
+    }
+
+    /// What a pass claims after an event of it, which the checker has seen.
+    pub fn check(&mut self, session: &Session, checker: &mut Checker) -> Claim {
+        let Some(pass) = &mut self.pass else {
+            return Ok(());
+        };
+        pass.check(session, checker)?;
+        if pass.ended() {
+            checker.met.passes += 1;
+            self.pass = None;
+        }
+        Ok(())
+    }
+}
+
+pub fn between(draw: Draw, least: usize, most: usize) -> usize {
     least + draw(most - least + 1)
 }
 
@@ -60,10 +114,11 @@ pub fn settings(draw: Draw) -> Settings {
 }
 
 /// How busy a session is, how lossy, how soon it ends.
-pub fn manner(draw: Draw) -> Manner {
-    let mut shares = [0; 15];
+fn manner(draw: Draw) -> Manner {
+    let mut shares = [0; KINDS];
     let most = [
-        2000, 300, 800, 2500, 50, 300, 1, 1, 1, 1, 2000, 2500, 2000, 2000, 400,
+        2000, 300, 800, 2500, 50, 300, 1, 1, 1, 1, 2000, 2500, 2000, 2000, 400, 2000, 2000, 2000,
+        2000, 1500, 800,
     ];
     for (share, most) in shares.iter_mut().zip(most) {
         *share = match draw(4) {
@@ -75,6 +130,9 @@ pub fn manner(draw: Draw) -> Manner {
     // The events without which nothing moves.
     for moving in [0, 3, 10, 11, 12, 13] {
         shares[moving] = shares[moving].max(100);
+    }
+    if draw(8) == 0 {
+        shares[BEYOND..].fill(0);
     }
     let under_way = match draw(3) {
         0 => usize::MAX,
@@ -95,6 +153,24 @@ fn unit(draw: Draw) -> Vec<u8> {
     (0..length).map(|_| draw(256) as u8).collect()
 }
 
+/// The units of a pass: few, or so many that the numbers come round.
+fn legal_units(draw: Draw) -> Vec<Vec<u8>> {
+    let count = match draw(400) {
+        0 => between(draw, 250, 300),
+        _ => between(draw, 1, 6),
+    };
+    let mut units = Vec::new();
+    for _ in 0..count {
+        let length = match draw(8) {
+            0 => UNIT_MOST,
+            1 => between(draw, 1, UNIT_MOST),
+            _ => between(draw, 1, 6),
+        };
+        units.push((0..length).map(|_| draw(256) as u8).collect());
+    }
+    units
+}
+
 fn room(draw: Draw) -> usize {
     match draw(20) {
         0 => draw(16),
@@ -103,17 +179,34 @@ fn room(draw: Draw) -> usize {
     }
 }
 
-/// The next event of a session.
-pub fn event(draw: Draw, manner: &Manner, session: &Session) -> Event {
-    let event = drawn(draw, &manner.shares);
+/// The next random event of a session.
+fn event(draw: Draw, manner: &Manner, session: &Session) -> Event {
+    let event = drawn(draw, &manner.shares, session);
     match event {
         Event::Report if session.words.len() >= manner.under_way => Event::Word { room: ROOM_MOST },
-        Event::Lower { .. } if session.frames.len() >= manner.under_way => Event::Frame,
+        Event::Lower { .. } | Event::FrameAgain { .. }
+            if session.frames.len() >= manner.under_way =>
+        {
+            Event::Frame
+        }
         _ => event,
     }
 }
 
-fn drawn(draw: Draw, shares: &[usize; 15]) -> Event {
+/// The place of a unit for the recorder: most often one of the last NW, the oldest of them
+/// too; or the one before them, or one that is not sent.
+fn place(draw: Draw, session: &Session) -> usize {
+    let (sent, reach) = (session.recorder.sent, session.recorder.reach);
+    match draw(16) {
+        0 => sent + draw(3),
+        1 => sent.saturating_sub(reach + 1),
+        2 => draw(sent + 1),
+        3..=6 => sent.saturating_sub(reach),
+        _ => sent.saturating_sub(between(draw, 1, reach)),
+    }
+}
+
+fn drawn(draw: Draw, shares: &[usize; KINDS], session: &Session) -> Event {
     let mut rest = draw(shares.iter().sum());
     let mut kind = 0;
     while rest >= shares[kind] {
@@ -142,8 +235,26 @@ fn drawn(draw: Draw, shares: &[usize; 15]) -> Event {
         11 => Event::Frame,
         12 => Event::Release,
         13 => Event::Report,
-        _ if draw(2) == 0 => Event::FrameLost,
-        _ => Event::WordLost,
+        14 if draw(2) == 0 => Event::FrameLost,
+        14 => Event::WordLost,
+        BEYOND => Event::FrameStays,
+        16 => Event::WordStays { room: room(draw) },
+        17 => Event::FrameAgain {
+            place: place(draw, session),
+        },
+        18 => Event::Noise {
+            octets: noise(draw, session),
+        },
+        19 => Event::WordNoise {
+            octets: word_noise(draw, session),
+            room: room(draw),
+        },
+        _ => Event::FrameDamaged {
+            bits: match session.frames.front() {
+                Some(octets) => damage(draw, octets.len()),
+                None => Vec::new(),
+            },
+        },
     }
 }
 

@@ -1,15 +1,18 @@
-//! The traps of the standard as sessions, random sessions with every claim checked, and
-//! faults that the claims find.
+//! The traps of the standard as sessions, how far a recorder may reach, what noise may be,
+//! random sessions with every claim checked, and faults that the claims find.
 
 use std::collections::BTreeMap;
 use std::time::Instant;
 
-use crate::fault::{Fault, FOP_FAULTS};
+use crate::farm1;
+use crate::fault::{Fault, FOP_FAULTS, PASS_FAULTS, SESSION_FAULTS};
 use crate::fop1;
 use crate::random::Random;
-use crate::session::{Event, Outcome, Session, Settings};
-use crate::session_check::{Checker, Met};
-use crate::session_random;
+use crate::recorder::one_more_than_nw;
+use crate::session::{inverted, Event, Outcome, Session, Settings, INVALID_WORD};
+use crate::session_check::{Checker, Claim, NEVER_LOCKED_OUT};
+use crate::session_pass::Pass;
+use crate::session_random::{self, Course};
 use crate::table_7_8::{Reason, State};
 
 const ROOM: usize = 256;
@@ -119,7 +122,12 @@ fn marked_and_not_sent() {
 #[test]
 fn empty_channels_give_nothing() {
     let word = Event::Word { room: ROOM };
-    for event in [Event::Frame, word, Event::FrameLost, Event::WordLost] {
+    let stays = Event::WordStays { room: ROOM };
+    let again = Event::FrameAgain { place: 0 };
+    let damaged = Event::FrameDamaged { bits: Vec::new() };
+    let lost = [Event::FrameLost, Event::WordLost];
+    let of_channels = [Event::Frame, word, Event::FrameStays, stays, again, damaged];
+    for event in of_channels.into_iter().chain(lost) {
         let (session, _, outcomes) = run(&settings(), &[event]);
         assert_eq!(session, Session::start(&settings()).unwrap());
         assert_eq!(outcomes, [Outcome::default()]);
@@ -151,6 +159,169 @@ fn starts() {
     assert!(session.sender.sent_queue.is_empty() && session.sender.timer == 0);
 }
 
+/// Runs the events with the recorder reaching so far. The first claim that fails is the error.
+fn run_recorded(settings: &Settings, reach: usize, events: &[Event]) -> (Session, Claim) {
+    let mut session = Session::start(settings).unwrap();
+    let mut checker = Checker::new(settings).unwrap();
+    session.recorder.reach = reach;
+    checker.table.recorder.reach = reach;
+    for event in events {
+        let outcome = session.step(event, Fault::None);
+        if let Err(words) = checker.check(event, &outcome) {
+            return (session, Err(words));
+        }
+    }
+    (session, Ok(()))
+}
+
+// NW is as far as a recorder may reach: one unit more locks the receiver out.
+#[test]
+fn recorder_of_one_more_locks_out() {
+    let (settings, events) = one_more_than_nw();
+    let (session, claims) = run_recorded(&settings, 1, &events);
+    assert_eq!(claims, Ok(()));
+    assert_eq!(session.receiver.state, farm1::State::Open);
+    let (session, claims) = run_recorded(&settings, 2, &events);
+    assert_eq!(claims, Err(NEVER_LOCKED_OUT.to_string()));
+    assert_eq!(session.receiver.state, farm1::State::Lockout);
+    // It is the last event that does it.
+    let (_, claims) = run_recorded(&settings, 2, &events[..8]);
+    assert_eq!(claims, Ok(()));
+}
+
+// A frame and a word stay any number of times; a BD frame does not.
+#[test]
+fn frames_and_words_stay() {
+    let stays = Event::WordStays { room: ROOM };
+    let bd = Event::BdRequest {
+        unit: vec![7],
+        room: ROOM,
+    };
+    let events = [
+        ad(0),
+        bd,
+        Event::FrameStays,
+        Event::FrameStays,
+        Event::Report,
+        stays.clone(),
+        stays,
+        Event::Frame,
+        Event::FrameStays,
+    ];
+    let (session, checker, outcomes) = run(&settings(), &events);
+    let farm = |n: usize| outcomes[n].receiver.as_ref().unwrap().event;
+    assert_eq!(farm(2), Ok(farm1::Event::E1));
+    assert_eq!(farm(3), Ok(farm1::Event::E4));
+    assert_eq!(farm(7), Ok(farm1::Event::E4));
+    let rows = [5, 6].map(|n: usize| outcomes[n].sender.as_ref().unwrap().row);
+    assert_eq!(rows, [2, 1]);
+    assert_eq!(outcomes[8], Outcome::default());
+    assert_eq!((session.frames.len(), session.words.len()), (1, 1));
+    assert_eq!((checker.accepted.len(), checker.confirmed.len()), (1, 1));
+}
+
+// Only words refused with 7 or 10 are noise: an invalid one is E15 with Alert[CLCW].
+#[test]
+fn invalid_word_is_no_noise() {
+    let octets = INVALID_WORD.to_vec();
+    let noise = Event::WordNoise {
+        octets: octets.clone(),
+        room: ROOM,
+    };
+    let (mut session, _, outcomes) = run(&settings(), &[ad(0), noise]);
+    assert_eq!(outcomes[1], Outcome::default());
+    let word = fop1::Event::ControlWord(octets);
+    let answer = session.sender.take(&word, ROOM, Fault::None);
+    assert_eq!((answer.refusal, answer.row), (0, 15));
+    assert_eq!(
+        (answer.alert, answer.state),
+        (Some(Reason::Clcw), State::S6)
+    );
+    assert_eq!(answer.denied.count, 1);
+
+    for (octets, refusal) in [(vec![1, 4, 0, 0], 7), (vec![1, 0, 0], 10)] {
+        let noise = Event::WordNoise { octets, room: ROOM };
+        let (session, _, outcomes) = run(&settings(), &[ad(0), noise]);
+        assert_eq!(outcomes[1].sender.as_ref().unwrap().refusal, refusal);
+        assert_eq!(session, run(&settings(), &[ad(0)]).0);
+    }
+}
+
+// A damaged frame is refused and lost; the same octets as noise leave the frame under way.
+#[test]
+fn damage_and_noise() {
+    let bits = vec![3, 40, 41];
+    let (sent, _, _) = run(&settings(), &[ad(0)]);
+    let octets = inverted(&sent.frames[0], &bits);
+    let damaged = Event::FrameDamaged { bits };
+    let (session, _, outcomes) = run(&settings(), &[ad(0), damaged]);
+    let received = outcomes[1].receiver.as_ref().unwrap();
+    assert_eq!(received.event, Ok(farm1::Event::E9));
+    assert!(session.frames.is_empty() && session.receiver == sent.receiver);
+    let (session, _, outcomes) = run(&settings(), &[ad(0), Event::Noise { octets }]);
+    assert_eq!(outcomes[1].receiver.as_ref(), Some(received));
+    assert_eq!(session, sent);
+    // The frame itself is no noise.
+    let octets = sent.frames[0].clone();
+    let (session, _, outcomes) = run(&settings(), &[ad(0), Event::Noise { octets }]);
+    assert_eq!(outcomes[1], Outcome::default());
+    assert_eq!(session, sent);
+}
+
+// Of two units denied the first is on board, and a wrong V(R) would tell otherwise.
+#[test]
+fn denied_and_on_board() {
+    let events = [
+        ad(0),
+        accept(),
+        ad(1),
+        Event::Frame,
+        Event::FrameLost,
+        Event::Terminate,
+    ];
+    let (_, mut checker, _) = run(&settings(), &events);
+    assert_eq!((checker.denied.len(), checker.accepted.len()), (2, 1));
+    assert_eq!(checker.met.denied_on_board, 1);
+    assert_eq!(checker.met.denied_not_on_board, 1);
+    let nothing = (Event::FrameLost, Outcome::default());
+    assert_eq!(checker.check(&nothing.0, &nothing.1), Ok(()));
+    for v_r in [255, 1] {
+        checker.table.receiver.v_r = v_r;
+        assert!(checker.check(&nothing.0, &nothing.1).is_err());
+    }
+}
+
+/// A pass of so many units with the sender's fault.
+fn pass(units: usize, fault: Fault) -> Claim {
+    let mut session = Session::start(&settings()).unwrap();
+    let mut checker = Checker::new(&settings()).unwrap();
+    assert!(session.at_rest());
+    let units = (0..units).map(|n| vec![n as u8, 1]).collect();
+    let mut pass = Pass::new(units, &checker);
+    let mut events = 0;
+    while !pass.ended() {
+        let event = pass.event();
+        let outcome = session.step(&event, fault);
+        // A pass alone must find the fault, so the other claims are not asked.
+        let _ = checker.check(&event, &outcome);
+        pass.check(&session, &mut checker)?;
+        events += 1;
+    }
+    assert_eq!(events, 6 * checker.met.passed_units);
+    Ok(())
+}
+
+// A sender that never sends fails the pass, and so does one whose timer runs on.
+#[test]
+fn passes() {
+    assert_eq!(pass(1, Fault::None), Ok(()));
+    assert_eq!(pass(600, Fault::None), Ok(()));
+    let words = ["a pass accepts its unit", "a pass ends at rest"];
+    for (fault, words) in PASS_FAULTS.into_iter().zip(words) {
+        assert_eq!(pass(1, fault), Err(words.to_string()));
+    }
+}
+
 #[derive(Default)]
 struct Counts {
     events: usize,
@@ -162,7 +333,7 @@ struct Counts {
     round: usize,
     rows: BTreeMap<(u8, State), usize>,
     refusals: BTreeMap<u8, usize>,
-    met: Met,
+    met: BTreeMap<&'static str, usize>,
 }
 
 impl Counts {
@@ -172,14 +343,9 @@ impl Counts {
         self.most_sent = self.most_sent.max(checker.sent.len());
         self.confirmed += checker.confirmed.len();
         self.round += (checker.sent.len() > 256) as usize;
-        self.met.accepts += checker.met.accepts;
-        self.met.discards += checker.met.discards;
-        self.met.sends_at_once += checker.met.sends_at_once;
-        self.met.sends_marked += checker.met.sends_marked;
-        self.met.sends_waiting += checker.met.sends_waiting;
-        self.met.expiries += checker.met.expiries;
-        self.met.confirms_all += checker.met.confirms_all;
-        self.met.confirms_and_sends += checker.met.confirms_and_sends;
+        for (name, count) in checker.met.named() {
+            *self.met.entry(name).or_insert(0) += count;
+        }
     }
 }
 
@@ -189,16 +355,17 @@ fn random_session(seed: u64, fault: Fault, counts: &mut Counts) -> Result<(), St
     let mut random = Random::new(seed);
     let mut draw = |limit| random.below(limit);
     let settings = session_random::settings(&mut draw);
-    let manner = session_random::manner(&mut draw);
+    let mut course = Course::new(&mut draw);
     let mut session = Session::start(&settings).unwrap();
     let mut checker = Checker::new(&settings).unwrap();
     let most = [1_000, 4_000, 16_000][draw(3)];
     let mut rest = 200 + draw(most);
     while rest > 0 {
-        let event = session_random::event(&mut draw, &manner, &session);
+        let event = course.next(&mut draw, rest, &session, &checker);
         let state = session.sender.state;
         let outcome = session.step(&event, fault);
         checker.check(&event, &outcome)?;
+        course.check(&session, &mut checker)?;
         assert!(fault != Fault::None || session == checker.table);
         if let Some(answer) = &outcome.sender {
             *counts.rows.entry((answer.row, state)).or_insert(0) += 1;
@@ -240,6 +407,7 @@ fn random_sessions() {
         counts.most_sent, counts.round
     );
     println!("{:?}", counts.met);
+    assert!(counts.met.values().all(|count| *count > 0));
     println!("refusals {:?}", counts.refusals);
     let cells = counts.rows.iter();
     let cells: Vec<_> = cells
@@ -248,11 +416,11 @@ fn random_sessions() {
     println!("cells: {}", cells.join(", "));
 }
 
-// These faults break a claim; the other faults of FOP-1 keep them all, and are found by
-// comparing the answers.
+// These faults break a claim; two faults of FOP-1 keep them all, and are found by comparing
+// the answers.
 #[test]
 fn faults_found() {
-    for (name, fault) in FOP_FAULTS {
+    for (name, fault) in FOP_FAULTS.into_iter().chain(SESSION_FAULTS) {
         let mut counts = Counts::default();
         let mut found = None;
         for seed in 0..300 {
