@@ -1,5 +1,5 @@
 //! Random sessions: the library's sender and receiver, linked by channels that lose and
-//! repeat, with a recorder and noise, beside the independent session.
+//! repeat, with a recorder, fill and noise, beside the independent session.
 
 use super::receiver_end::{self, expected_frame, expected_release};
 use super::sender_end::{self, call, Expected, SenderEnd};
@@ -14,7 +14,7 @@ use crate::settings::Settings;
 use independent::fault::Fault;
 use independent::fop1::{self, Sender, STORE};
 use independent::recorder::{one_more_than_nw, Recorder};
-use independent::refusal::{ADDRESS, DONE, LENGTH};
+use independent::refusal::{ADDRESS, DONE, FILL, LENGTH};
 use independent::session::{inverted, Event, Outcome, Session};
 use independent::session_check::{Checker, NEVER_LOCKED_OUT};
 use independent::session_random::{self, Course};
@@ -278,6 +278,7 @@ impl Run {
             Event::FrameAgain { place } => return self.frame_again(*place, outcome),
             Event::Noise { octets } => return self.noise(octets, outcome),
             Event::FrameDamaged { bits } => return self.frame_damaged(bits, outcome),
+            Event::FrameFilled { fill } => return self.frame_filled(fill, outcome),
             Event::Release => return self.release(outcome),
             Event::Report => return self.report(outcome, random),
             Event::FrameLost => {
@@ -418,6 +419,20 @@ impl Run {
             self.ends.frames.pop_front();
         }
         self.noise(&octets, outcome)
+    }
+
+    /// The oldest frame comes with octets behind it, if they are not too many for the library's
+    /// reader. The unit's place and count are those in the frame alone.
+    fn frame_filled(&mut self, fill: &[u8], outcome: &Outcome) -> Vec<String> {
+        let Some(frame) = self.ends.frames.front() else {
+            return expect_nothing(outcome);
+        };
+        let octets = [frame, fill].concat();
+        if self.read(&octets).number == FILL {
+            return expect_nothing(outcome);
+        }
+        self.ends.frames.pop_front();
+        self.arrive(&octets, outcome)
     }
 
     fn release(&mut self, outcome: &Outcome) -> Vec<String> {

@@ -3,6 +3,7 @@
 
 use super::{refusal, Counts};
 use independent::farm1::Event as FarmEvent;
+use independent::frame::FILL_MOST;
 use independent::refusal::{
     ADDRESS, CHECK, COMMAND, DONE, FILL, HEADER, LENGTH, RELEASE, ROOM, SHORT,
 };
@@ -24,6 +25,8 @@ pub struct Met {
     /// The numbers with which noise is refused.
     noise: Counts,
     word_noise: Counts,
+    /// The octets behind the frames that are filled.
+    fill: Counts,
     refusals: Counts,
     rows: Counts,
     farm: Counts,
@@ -40,13 +43,14 @@ const ALL_BEYOND: &str = "all";
 const LOCKED_OUT: &str = "locked out by a recorder of NW + 1";
 
 /// The events beyond document 01.
-const BEYOND: [&str; 6] = [
+const BEYOND: [&str; 7] = [
     "frame stays",
     "word stays",
     "frame again",
     "noise",
     "word noise",
     "frame damaged",
+    "frame filled",
 ];
 
 const KINDS: [&str; 11] = [
@@ -86,6 +90,7 @@ impl Met {
             nothing: Counts::new("nothing", BEYOND.iter().map(|name| name.to_string())),
             noise: Counts::new("noise", NOISE.into_iter().map(refusal)),
             word_noise: Counts::new("word noise", [ADDRESS, LENGTH].into_iter().map(refusal)),
+            fill: Counts::new("octets of fill", (0..=FILL_MOST).map(|n| n.to_string())),
             refusals: Counts::new("refusals", refusals.into_iter().map(refusal)),
             rows: Counts::new("rows", ROWS.iter().map(|row| format!("E{row}"))),
             farm: Counts::new(
@@ -119,6 +124,7 @@ impl Met {
             Event::Noise { .. } => "noise",
             Event::WordNoise { .. } => "word noise",
             Event::FrameDamaged { .. } => "frame damaged",
+            Event::FrameFilled { .. } => "frame filled",
         };
         if BEYOND.contains(&kind) {
             if *outcome == Outcome::default() {
@@ -135,6 +141,9 @@ impl Met {
         if let (Event::Noise { .. }, Some(octets)) = (event, &outcome.frame) {
             let number = session.refusal_of_frame(octets).unwrap_or(DONE);
             self.noise.meet(&refusal(number));
+        }
+        if let Event::FrameFilled { fill } = event {
+            self.fill.meet(&fill.len().to_string());
         }
         if let Some(answer) = &outcome.sender {
             self.refusals.meet(&refusal(answer.refusal));
@@ -169,6 +178,7 @@ impl Met {
             self.nothing,
             self.noise,
             self.word_noise,
+            self.fill,
             self.refusals,
             self.rows,
             self.farm,

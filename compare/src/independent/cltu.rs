@@ -15,7 +15,7 @@ pub const START_SEQUENCE: [u8; 2] = [0xEB, 0x90];
 pub const TAIL_SEQUENCE: [u8; 8] = [0xC5, 0xC5, 0xC5, 0xC5, 0xC5, 0xC5, 0xC5, 0x79];
 
 /// Alternating ones and zeros, starting with a zero (clause 8.6).
-const FILL: u8 = 0x55;
+pub const FILL: u8 = 0x55;
 
 /// Limits of a frame and of the reader's input, in octets (document 01, Limits).
 const FRAME_LEAST: usize = 8;

@@ -88,6 +88,8 @@ pub enum Fault {
     SessionWordNoiseAlerts,
     /// A damaged frame is taken as it was sent.
     SessionDamagedFrameTaken,
+    /// The octets behind a frame are part of its unit.
+    SessionFillCounts,
     /// In S6 the AD frame that the receiver expects comes from an empty channel.
     SessionLateFrame,
 }
@@ -145,8 +147,8 @@ pub const FOP_FAULTS: [(&str, Fault); 12] = [
 /// Those of them that break a pass, which a session must find too.
 pub const PASS_FAULTS: [Fault; 2] = [Fault::FopNeverSends, Fault::FopTimerRunsOn];
 
-/// The faults of a session's channels, its recorder and its noise, by name.
-pub const SESSION_FAULTS: [(&str, Fault); 7] = [
+/// The faults of a session's channels, its recorder, its fill and its noise, by name.
+pub const SESSION_FAULTS: [(&str, Fault); 8] = [
     ("session_recorder_one_more", Fault::SessionRecorderOneMore),
     ("session_bd_frame_stays", Fault::SessionBdFrameStays),
     ("session_word_stays_twice", Fault::SessionWordStaysTwice),
@@ -156,5 +158,6 @@ pub const SESSION_FAULTS: [(&str, Fault); 7] = [
         "session_damaged_frame_taken",
         Fault::SessionDamagedFrameTaken,
     ),
+    ("session_fill_counts", Fault::SessionFillCounts),
     ("session_late_frame", Fault::SessionLateFrame),
 ];

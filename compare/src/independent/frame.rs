@@ -35,7 +35,7 @@ const CHANNEL_MOST: u32 = 63;
 const NUMBER_MOST: u32 = 255;
 
 /// So many octets may follow the frame (document 01, Refusals).
-const FILL_MOST: usize = 6;
+pub const FILL_MOST: usize = 6;
 
 /// What a frame carries. A number can be beyond its limit, and is then not written.
 #[derive(Clone, PartialEq, Eq, Debug)]

@@ -1,6 +1,7 @@
 //! The session (document 01): a sender and a receiver, linked by two channels that may
 //! lose but never alter or reorder. Beyond document 01, a frame or a word may stay when it is
-//! delivered, a recorder may repeat a frame, and noise may come to either end.
+//! delivered, a recorder may repeat a frame, fill may stand behind a frame, and noise may come
+//! to either end.
 
 use std::collections::VecDeque;
 
@@ -91,6 +92,11 @@ pub enum Event {
     /// if its reader refuses it.
     FrameDamaged {
         bits: Vec<usize>,
+    },
+    /// The oldest frame comes to the receiver with these octets behind it, as the fill of its
+    /// last codeblock, if its reader does not refuse it.
+    FrameFilled {
+        fill: Vec<u8>,
     },
 }
 
@@ -324,6 +330,7 @@ impl Session {
             Event::FrameAgain { place } => self.put_again(*place, fault),
             Event::Noise { octets } => self.noise(octets.clone(), fault),
             Event::FrameDamaged { bits } => self.damaged(bits, fault),
+            Event::FrameFilled { fill } => self.filled(fill, fault),
             Event::Release => self.release(fault),
             Event::Report => self.report(),
             Event::FrameLost => {
@@ -425,6 +432,25 @@ impl Session {
             Some(sent) if fault == Fault::SessionDamagedFrameTaken => self.arrive(sent, fault),
             _ => self.arrive(octets, fault),
         }
+    }
+
+    fn filled(&mut self, fill: &[u8], fault: Fault) -> Outcome {
+        let Some(sent) = self.frames.front() else {
+            return Outcome::default();
+        };
+        let octets = [sent, fill].concat();
+        if self.refusal_of_frame(&octets).is_some() {
+            return Outcome::default();
+        }
+        self.frames.pop_front();
+        let mut outcome = self.arrive(octets, fault);
+        if fault == Fault::SessionFillCounts {
+            let received = outcome.receiver.as_mut();
+            if let Some(unit) = received.and_then(|received| received.accepted.as_mut()) {
+                unit.data.extend(fill);
+            }
+        }
+        outcome
     }
 
     fn release(&mut self, fault: Fault) -> Outcome {

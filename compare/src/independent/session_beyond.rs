@@ -1,11 +1,14 @@
 //! The claims about a session beyond document 01: noise changes nothing, a damaged frame is noise
-//! and a loss, and what a denied unit means. That nothing else fails where frames and words stay
-//! and the recorder repeats frames is checked by the other claims.
+//! and a loss, a frame with fill behind it is answered as the frame alone, and what a denied unit
+//! means. That nothing else fails where frames and words stay, fill stands behind frames and the
+//! recorder repeats frames is checked by the other claims.
 
 use super::{claim, Before, Checker, Claim};
 use crate::farm1;
 use crate::fault::Fault;
 use crate::fop1::{self, Run};
+use crate::frame::FILL_MOST;
+use crate::recorder::is_ad;
 use crate::refusal::{ADDRESS, LENGTH};
 use crate::session::{inverted, Event, Outcome, Received};
 use crate::table_7_8::State;
@@ -75,6 +78,34 @@ impl Checker {
         self.met.damaged += 1;
         claim(self.is_noise(octets), "a damaged frame is refused")?;
         self.is_e9_alone(before, outcome)
+    }
+
+    /// A frame with 0 to 6 octets behind it gives what the frame alone gives; with more it is
+    /// nothing.
+    pub(super) fn filled_is_the_frame_alone(&mut self, fill: &[u8], outcome: &Outcome) -> Claim {
+        let Some(sent) = self.table.frames.front() else {
+            return claim(*outcome == Outcome::default(), "no filled frame comes");
+        };
+        if fill.len() > FILL_MOST {
+            self.met.too_much_fill += 1;
+            return claim(*outcome == Outcome::default(), "too much fill is nothing");
+        }
+        let octets = [sent, fill].concat();
+        match is_ad(sent) {
+            true => self.met.ad_filled += 1,
+            false => self.met.bd_filled += 1,
+        }
+        let fill = fill.to_vec();
+        let (mut filled, mut alone) = (self.table.clone(), self.table.clone());
+        filled.step(&Event::FrameFilled { fill }, Fault::None);
+        let expected = Outcome {
+            frame: Some(octets),
+            ..alone.step(&Event::Frame, Fault::None)
+        };
+        claim(
+            filled == alone && *outcome == expected,
+            "a filled frame is answered as the frame alone",
+        )
     }
 
     /// A word refused with 7 or 10 changes nothing; others are nothing.

@@ -40,6 +40,10 @@ pub struct Met {
     /// Noise that is not refused, and is nothing.
     pub not_noise: usize,
     pub damaged: usize,
+    /// Frames with fill behind them, and with more than fill can be, which are nothing.
+    pub ad_filled: usize,
+    pub bd_filled: usize,
+    pub too_much_fill: usize,
     /// In S6 with no AD frame under way, units denied that are on board, and that are not.
     pub denied_on_board: usize,
     pub denied_not_on_board: usize,
@@ -50,7 +54,7 @@ pub struct Met {
 
 impl Met {
     /// Each with its name.
-    pub fn named(&self) -> [(&'static str, usize); 16] {
+    pub fn named(&self) -> [(&'static str, usize); 19] {
         [
             ("accepts", self.accepts),
             ("discards", self.discards),
@@ -64,6 +68,9 @@ impl Met {
             ("word noise", self.word_noise),
             ("not noise", self.not_noise),
             ("frame damaged", self.damaged),
+            ("AD frame filled", self.ad_filled),
+            ("BD frame filled", self.bd_filled),
+            ("too much fill", self.too_much_fill),
             ("denied on board", self.denied_on_board),
             ("denied not on board", self.denied_not_on_board),
             ("passes", self.passes),
@@ -148,11 +155,16 @@ impl Checker {
         if let Event::FrameDamaged { bits } = event {
             self.damage_is_noise_and_loss(bits)?;
         }
+        if let Event::FrameFilled { fill } = event {
+            self.filled_is_the_frame_alone(fill, outcome)?;
+        }
         self.table.step(event, Fault::None);
         self.write_histories(outcome)?;
         self.never_locked_out(outcome)?;
         match event {
-            Event::Frame | Event::FrameStays => self.accepts_exactly(&before, outcome)?,
+            Event::Frame | Event::FrameStays | Event::FrameFilled { .. } => {
+                self.accepts_exactly(&before, outcome)?
+            }
             Event::AdRequest { unit, room } => self.sends_at_once(&before, unit, *room, outcome)?,
             Event::Lower { response, room } if *response == fop1::Event::AdAccept => {
                 self.sends_when_ready(&before, *room, outcome)?

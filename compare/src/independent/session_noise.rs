@@ -1,14 +1,17 @@
 //! Octets that are no frame for a session's receiver, octets that are no word for its sender,
-//! and damage to a frame. Some of the octets are not refused: these must be nothing.
+//! damage to a frame, and fill behind one. Some of the octets are not refused, and some of the
+//! fill is: these must be nothing.
 
 use std::collections::BTreeSet;
 
 use crate::bits::{self, Field};
 use crate::clcw;
+use crate::cltu;
 use crate::fault::Fault;
 use crate::fecf::{self, FECF_BITS};
 use crate::frame::{
-    self, Content, BYPASS_FLAG, CONTROL_COMMAND_FLAG, FRAME_LENGTH, RESERVED_SPARE, VERSION_NUMBER,
+    self, Content, BYPASS_FLAG, CONTROL_COMMAND_FLAG, FILL_MOST, FRAME_LENGTH, RESERVED_SPARE,
+    VERSION_NUMBER,
 };
 use crate::session::{inverted, Session};
 use crate::session_random::{between, Draw};
@@ -16,6 +19,9 @@ use crate::session_random::{between, Draw};
 /// The longest octets that come as noise, and as words.
 const NOISE_MOST: usize = 300;
 const WORD_NOISE_MOST: usize = 40;
+
+/// The most octets behind a frame.
+const TOO_MUCH_FILL_MOST: usize = 20;
 
 fn octets(draw: Draw, count: usize) -> Vec<u8> {
     (0..count).map(|_| draw(256) as u8).collect()
@@ -80,6 +86,18 @@ pub fn damage(draw: Draw, octets: usize) -> Vec<usize> {
     let count = between(draw, 1, most);
     let places: BTreeSet<usize> = (0..count).map(|_| draw(all)).collect();
     places.into_iter().collect()
+}
+
+/// Octets behind a frame: those of a CLTU (clause 8.6), or any. Some are more than fill can be.
+pub fn fill(draw: Draw) -> Vec<u8> {
+    let count = match draw(8) {
+        0 => between(draw, FILL_MOST + 1, TOO_MUCH_FILL_MOST),
+        _ => between(draw, 0, FILL_MOST),
+    };
+    match draw(2) {
+        0 => vec![cltu::FILL; count],
+        _ => octets(draw, count),
+    }
 }
 
 /// Octets for the sender, with those that must be nothing: an invalid word, or one of its own
@@ -188,7 +206,7 @@ fn wrong_header(draw: Draw, session: &Session) -> Vec<u8> {
 
 fn too_much_fill(draw: Draw, session: &Session) -> Vec<u8> {
     let mut frame = under_way_or_new(draw, session);
-    let fill = between(draw, 7, 20);
+    let fill = between(draw, FILL_MOST + 1, TOO_MUCH_FILL_MOST);
     frame.extend(octets(draw, fill));
     frame
 }

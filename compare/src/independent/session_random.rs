@@ -7,7 +7,7 @@ use crate::fault::Fault;
 use crate::fop1::{self, Sender, UNIT_MOST};
 use crate::session::{Event, Session, Settings};
 use crate::session_check::{Checker, Claim};
-use crate::session_noise::{damage, noise, word_noise};
+use crate::session_noise::{damage, fill, noise, word_noise};
 use crate::session_pass::Pass;
 use crate::table_7_8::State;
 
@@ -21,7 +21,7 @@ const LEFT_AT_TERMINATE: usize = 60;
 
 /// The kinds of events, in the order of `drawn`; from the second number on those beyond
 /// document 01.
-const KINDS: usize = 21;
+const KINDS: usize = 22;
 const BEYOND: usize = 15;
 
 /// What a session is like.
@@ -118,7 +118,7 @@ fn manner(draw: Draw) -> Manner {
     let mut shares = [0; KINDS];
     let most = [
         2000, 300, 800, 2500, 50, 300, 1, 1, 1, 1, 2000, 2500, 2000, 2000, 400, 2000, 2000, 2000,
-        2000, 1500, 800,
+        2000, 1500, 800, 1500,
     ];
     for (share, most) in shares.iter_mut().zip(most) {
         *share = match draw(4) {
@@ -249,12 +249,13 @@ fn drawn(draw: Draw, shares: &[usize; KINDS], session: &Session) -> Event {
             octets: word_noise(draw, session),
             room: room(draw),
         },
-        _ => Event::FrameDamaged {
+        20 => Event::FrameDamaged {
             bits: match session.frames.front() {
                 Some(octets) => damage(draw, octets.len()),
                 None => Vec::new(),
             },
         },
+        _ => Event::FrameFilled { fill: fill(draw) },
     }
 }
 

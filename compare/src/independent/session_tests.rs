@@ -1,9 +1,10 @@
-//! The traps of the standard as sessions, how far a recorder may reach, what noise may be,
-//! random sessions with every claim checked, and faults that the claims find.
+//! The traps of the standard as sessions, how far a recorder may reach, what noise and fill may
+//! be, random sessions with every claim checked, and faults that the claims find.
 
 use std::collections::BTreeMap;
 use std::time::Instant;
 
+use crate::cltu;
 use crate::farm1;
 use crate::fault::{Fault, FOP_FAULTS, PASS_FAULTS, SESSION_FAULTS};
 use crate::fop1;
@@ -126,8 +127,10 @@ fn empty_channels_give_nothing() {
     let again = Event::FrameAgain { place: 0 };
     let damaged = Event::FrameDamaged { bits: Vec::new() };
     let lost = [Event::FrameLost, Event::WordLost];
-    let of_channels = [Event::Frame, word, Event::FrameStays, stays, again, damaged];
-    for event in of_channels.into_iter().chain(lost) {
+    let filled = Event::FrameFilled { fill: Vec::new() };
+    let of_channels = [Event::Frame, word, Event::FrameStays, stays, again];
+    let changed = [damaged, filled];
+    for event in of_channels.into_iter().chain(changed).chain(lost) {
         let (session, _, outcomes) = run(&settings(), &[event]);
         assert_eq!(session, Session::start(&settings()).unwrap());
         assert_eq!(outcomes, [Outcome::default()]);
@@ -266,6 +269,56 @@ fn damage_and_noise() {
     let (session, _, outcomes) = run(&settings(), &[ad(0), Event::Noise { octets }]);
     assert_eq!(outcomes[1], Outcome::default());
     assert_eq!(session, sent);
+}
+
+// A frame with 0 to 6 octets behind it is answered as the frame alone, type AD and BD alike; with
+// 7 or more it is nothing, and stays under way. A CLTU that is read hands out 0 to 6 behind it.
+#[test]
+fn fill_behind_a_frame() {
+    for length in 1..=7 {
+        let unit = vec![7; length];
+        let of_ad = Event::AdRequest {
+            unit: unit.clone(),
+            room: ROOM,
+        };
+        let of_bd = Event::BdRequest { unit, room: ROOM };
+        for request in [of_ad, of_bd] {
+            let (sent, _, _) = run(&settings(), &[request.clone()]);
+            let frame = &sent.frames[0];
+            let (alone, _, answers) = run(&settings(), &[request.clone(), Event::Frame]);
+            let accepted = answers[1].receiver.as_ref().unwrap().accepted.as_ref();
+            assert_eq!(accepted.unwrap().data, vec![7; length]);
+
+            let mut handed_out = vec![0; 14];
+            let read = cltu::read(
+                &cltu::encode(frame, Fault::None),
+                &mut handed_out,
+                Fault::None,
+            );
+            assert_eq!((read.number, read.count), (0, 14));
+            let of_cltu = handed_out[frame.len()..].to_vec();
+            assert_eq!(of_cltu, vec![0x55; 7 - length]);
+
+            let any = [0xFF, 0, 0x55, 0xAA, 1, 0x80];
+            let any = (0..=6).map(|count| any[..count].to_vec());
+            for fill in any.chain([of_cltu, vec![0x55; 6]]) {
+                let octets = [frame, &fill[..]].concat();
+                let filled = Event::FrameFilled { fill };
+                let (session, _, outcomes) = run(&settings(), &[request.clone(), filled]);
+                assert_eq!(session, alone);
+                assert_eq!(outcomes[1].receiver, answers[1].receiver);
+                assert_eq!(outcomes[1].frame, Some(octets));
+            }
+
+            for count in [7, 8, 14] {
+                let fill = vec![0x55; count];
+                let filled = Event::FrameFilled { fill };
+                let (session, _, outcomes) = run(&settings(), &[request.clone(), filled]);
+                assert_eq!(outcomes[1], Outcome::default());
+                assert_eq!(session, sent);
+            }
+        }
+    }
 }
 
 // Of two units denied the first is on board, and a wrong V(R) would tell otherwise.
