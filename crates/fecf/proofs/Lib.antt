@@ -1,5 +1,6 @@
 pub mod Remainder
 pub mod Table
+pub mod Rule
 pub mod Syndrome
 pub mod Detection
 pub mod Examples

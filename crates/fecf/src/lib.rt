@@ -1,32 +1,39 @@
-// Clause 6.2.4: the Frame Error Control Field, bit by bit.
+// Clause 6.2.4: the Frame Error Control Field, octet by octet through a table.
+mod entries;
+
+use crate::entries::TABLE;
 ghost use mathlib.Core.Path.{_≡_};
-ghost use Prim.Native.Nat.{_<_};
-ghost use Rattle.base.specs.Register.{shiftBit, shiftBits};
+ghost use Prim.Native.Nat.{_/_};
+ghost use lib.Bits.{bitXor};
+ghost use Rattle.base.specs.Register.{shiftBits};
 ghost use Rattle.fecf.specs.Fecf.{generator, fecfOf};
+ghost use Rattle.fecf.specs.Table.{Rule};
 
-// The generator X^16 + X^12 + X^5 + 1, less its highest term.
-const GENERATOR: u16 = 0x1021;
-
-// One bit into the register of sixteen bits.
-fn shift_bit(register: u16, bit: u16) -> u16
-    requires { ⌜ bit < 2 ⌝ }
-    ensures { λ r. ⌜ r ≡ shiftBit 15 generator register bit ⌝ }
+// The place of the entry: the register's upper octet, with the octet added.
+fn place(register: u16, octet: u8) -> u8
+    ensures { λ r. ⌜ r ≡ bitXor (register / 256) octet ⌝ }
 {
-    let leaving = (register / 32768) ^ bit;
-    (register % 32768 * 2) ^ (leaving * GENERATOR)
+    (register / 256) as u8 ^ octet
 }
 
-// The eight bits of an octet into the register, the most significant first.
-fn shift_octet(register: u16, octet: u8) -> u16
+// The eight bits of an octet into the register: its lower octet moves up, and the entry is added.
+fn shift_octet(table: &[u16; 256], register: u16, octet: u8) -> u16
+    requires { ⌜ Rule (now table) ⌝ }
     ensures { λ r. ⌜ r ≡ shiftBits 15 generator 8 register octet ⌝ }
 {
-    let mut r = register;
-    let mut bits = octet;
-    let mut left: u8 = 8;
-    while 0 < left {
-        r = shift_bit(r, (bits / 128) as u16);
-        bits = bits % 128 * 2;
-        left -= 1;
+    (register % 256 * 256) ^ table[place(register, octet) as usize]
+}
+
+// The FECF of the octets before it. The table is lent, so that it is not made anew at each octet.
+fn fecf_by_table(table: &[u16; 256], message: &[u8]) -> u16
+    requires { ⌜ Rule (now table) ⌝ }
+    ensures { λ r. ⌜ r ≡ fecfOf (now (message .entry)) ⌝ }
+{
+    let mut r: u16 = 0xFFFF;
+    let mut i = 0;
+    while i < message.len() {
+        r = shift_octet(table, r, message[i]);
+        i += 1;
     }
     r
 }
@@ -35,11 +42,5 @@ fn shift_octet(register: u16, octet: u8) -> u16
 pub fn fecf(message: &[u8]) -> u16
     ensures { λ r. ⌜ r ≡ fecfOf (now (message .entry)) ⌝ }
 {
-    let mut r: u16 = 0xFFFF;
-    let mut i = 0;
-    while i < message.len() {
-        r = shift_octet(r, message[i]);
-        i += 1;
-    }
-    r
+    fecf_by_table(&TABLE, message)
 }

@@ -1,0 +1,35 @@
+-- A table of 256 entries: its rule by one computed test over the whole table (`rule-by-test`), and an octet that goes through a table with this
+-- rule (`through`).
+use mathlib.Core.Path.{_≡_, refl, sym, ap, _∙_}
+use mathlib.Core.List.{List}
+use mathlib.Core.Bool.{Bool}
+use Prim.Native.Nat.{ℕ, _*_, _/_, _%_, _<_}
+use native.Mathlib.Omega.{arith}
+use lib.Bits.{bitXor, xor-lt}
+use lib.Dec.{T, eqb, eqb→eq}
+use lib.ListN.{getD}
+use Rattle.base.specs.Register.{register}
+use Rattle.base.proofs.Computed.{all, below}
+use Rattle.fecf.specs.Table.{entryOf, Rule}
+use Rattle.fecf.proofs.Table.{octet, entry, by-table}
+
+-- the entry at a place is the one that the rule tells
+abbrev pub right : List ℕ → ℕ → Bool
+right table i = eqb (getD table i 0) (entryOf i)
+
+pub rule-by-test : (table : List ℕ) → T (all (right table) 256 0) → Rule table
+rule-by-test table t = record { rule = λ i h. eqb→eq (getD table i 0) (entryOf i) (below (right table) 256 t i h) }
+
+-- the upper octet and the octet added tell a place in the table
+pub place-lt : (r o : ℕ) → r < 65536 → o < 256 → bitXor (r / 256) o < 256
+place-lt r o hr ho = xor-lt 8 (r / 256) o (omega arith) ho
+
+entry-is : (i : ℕ) → entryOf i ≡ entry i
+unfolding entryOf register
+entry-is i = refl
+
+-- eight bits into the register, by a table with the rule
+pub through : (table : List ℕ) (r o : ℕ) → Rule table → r < 65536 → o < 256 → bitXor (r % 256 * 256) (getD table (bitXor (r / 256) o) 0) ≡ octet r o
+through table r o h hr ho =
+    let place = bitXor (r / 256) o in
+    ap (bitXor (r % 256 * 256)) (h .rule place (place-lt r o hr ho) ∙ entry-is place) ∙ sym (by-table r o hr ho)
