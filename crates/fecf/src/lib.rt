@@ -10,10 +10,10 @@ ghost use Rattle.fecf.specs.Fecf.{generator, fecfOf};
 ghost use Rattle.fecf.specs.Table.{Rule};
 
 // The place of the entry: the register's upper octet, with the octet added.
-fn place(register: u16, octet: u8) -> u8
+fn place(register: u16, octet: u8) -> u16
     ensures { λ r. ⌜ r ≡ bitXor (register / 256) octet ⌝ }
 {
-    (register / 256) as u8 ^ octet
+    (register / 256) ^ (octet as u16)
 }
 
 // The eight bits of an octet into the register: its lower octet moves up, and the entry is added.

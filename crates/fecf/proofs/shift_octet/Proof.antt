@@ -1,7 +1,7 @@
 -- An octet goes through the table by its rule: proofs/Rule, `through`.
 use borrow.Author.Needs.{needs}
 use denote.Ref.{now}
-use Rattle.fecf.proofs.Rule.{through}
+use Rattle.fecf.proofs.Rule.{place-lt, through}
 use Rattle.fecf.proofs.shift_octet.Statement.{statement}
 use Rattle.fecf.proofs.shift_octet.Tie as tie
 
@@ -18,7 +18,7 @@ mul-result-2 : tie.Need-mul-result-2
 mul-result-2 c = search needs
 
 element-copy-out-result : tie.Need-element-copy-out-result
-element-copy-out-result c = search needs
+element-copy-out-result c = rw (c .place .ensures) (place-lt (c .before .args .register) (c .before .args .octet) (search needs) (search needs))
 
 returns : tie.Need-returns
 returns c =
