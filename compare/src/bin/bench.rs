@@ -1,6 +1,7 @@
 //! Measures the proved library and the independent implementation in one run, alternating
-//! the two, and prints what an operation takes on each side. Before an operation is timed
-//! both sides must answer it alike. It is no part of the comparison.
+//! the two, and prints what an operation takes on each side; frames are measured beside a
+//! plain program too (../plain_frame.rs). Before an operation is timed all sides must answer it
+//! alike. It is no part of the comparison.
 
 #[allow(dead_code)]
 #[path = "../library.rs"]
@@ -8,6 +9,8 @@ mod library;
 #[allow(dead_code)]
 #[path = "../octets.rs"]
 mod octets;
+#[path = "../plain_frame.rs"]
+mod plain_frame;
 #[allow(dead_code)]
 #[path = "../random.rs"]
 mod random;
@@ -121,8 +124,26 @@ fn round(side: &mut impl Side) -> f64 {
     }
 }
 
+/// The median of each side's rounds, and the highest round over the lowest, of the side
+/// where it is greatest. The side measured first changes at each round.
+fn medians<const N: usize>(sides: [&mut dyn FnMut() -> f64; N]) -> ([f64; N], f64) {
+    let mut taken = [(); N].map(|()| Vec::new());
+    for number in 0..ROUNDS {
+        for place in 0..N {
+            let side = (number + place) % N;
+            taken[side].push(sides[side]());
+        }
+    }
+    for rounds in &mut taken {
+        rounds.sort_by(f64::total_cmp);
+    }
+    let spreads = taken.iter().map(|rounds| rounds[ROUNDS - 1] / rounds[0]);
+    let spread = spreads.fold(1.0, f64::max);
+    (taken.map(|rounds| rounds[ROUNDS / 2]), spread)
+}
+
 /// Checks that both sides answer alike, then measures them. An operation may be several
-/// events; the figures are for one. The side measured first changes at each round.
+/// events; the figures are for one.
 fn measure<L: Side, I: Side>(
     name: &str,
     events: usize,
@@ -135,36 +156,38 @@ fn measure<L: Side, I: Side>(
         assert!(alike(&mut library, &mut independent), "{name}: not alike");
     }
 
-    let (mut of_library, mut of_independent) = (Vec::new(), Vec::new());
-    for number in 0..ROUNDS {
-        if number % 2 == 0 {
-            of_library.push(round(&mut library));
-            of_independent.push(round(&mut independent));
-        } else {
-            of_independent.push(round(&mut independent));
-            of_library.push(round(&mut library));
-        }
-    }
-    of_library.sort_by(f64::total_cmp);
-    of_independent.sort_by(f64::total_cmp);
-    let spread = |rounds: &[f64]| rounds[ROUNDS - 1] / rounds[0];
+    let ([of_library, of_independent], spread) =
+        medians([&mut || round(&mut library), &mut || round(&mut independent)]);
     Row {
         name: name.to_string(),
-        library: of_library[ROUNDS / 2] / events as f64,
-        independent: of_independent[ROUNDS / 2] / events as f64,
-        spread: spread(&of_library).max(spread(&of_independent)),
+        library: of_library / events as f64,
+        independent: of_independent / events as f64,
+        spread,
     }
 }
 
 /// An operation that keeps no state and writes into a buffer, on each input in turn.
-struct Plain<T, F> {
+struct Stateless<T, F> {
     inputs: Vec<T>,
     next: usize,
     output: Vec<u8>,
     operation: F,
 }
 
-impl<T, F> Plain<T, F> {
+impl<T, F> Stateless<T, F> {
+    fn new(inputs: &[T], room: usize, operation: F) -> Stateless<T, F>
+    where
+        T: Clone,
+    {
+        assert!(inputs.len() == INPUTS);
+        Stateless {
+            inputs: inputs.to_vec(),
+            next: 0,
+            output: vec![0; room],
+            operation,
+        }
+    }
+
     fn answer<A>(&mut self) -> A
     where
         F: FnMut(&mut T, &mut [u8]) -> A,
@@ -175,7 +198,7 @@ impl<T, F> Plain<T, F> {
     }
 }
 
-impl<T, A, F: FnMut(&mut T, &mut [u8]) -> A> Side for Plain<T, F> {
+impl<T, A, F: FnMut(&mut T, &mut [u8]) -> A> Side for Stateless<T, F> {
     fn clear(&mut self) {
         self.output.fill(0);
         self.next = 0;
@@ -186,33 +209,31 @@ impl<T, A, F: FnMut(&mut T, &mut [u8]) -> A> Side for Plain<T, F> {
     }
 }
 
-/// Both answers, both buffers and both inputs are compared, from a clear buffer.
-fn plain<T: Clone + PartialEq, A: PartialEq>(
+/// The answers, the buffers and the inputs of two sides, from clear buffers.
+fn stateless_alike<T: PartialEq, A: PartialEq, F, G>(
+    one: &mut Stateless<T, F>,
+    other: &mut Stateless<T, G>,
+) -> bool
+where
+    F: FnMut(&mut T, &mut [u8]) -> A,
+    G: FnMut(&mut T, &mut [u8]) -> A,
+{
+    one.output.fill(0);
+    other.output.fill(0);
+    let answers = one.answer() == other.answer();
+    answers && one.output == other.output && one.inputs == other.inputs
+}
+
+fn stateless<T: Clone + PartialEq, A: PartialEq>(
     name: &str,
     inputs: Vec<T>,
     room: usize,
     library: impl FnMut(&mut T, &mut [u8]) -> A,
     independent: impl FnMut(&mut T, &mut [u8]) -> A,
 ) -> Row {
-    assert!(inputs.len() == INPUTS);
-    let library = Plain {
-        inputs: inputs.clone(),
-        next: 0,
-        output: vec![0; room],
-        operation: library,
-    };
-    let independent = Plain {
-        inputs,
-        next: 0,
-        output: vec![0; room],
-        operation: independent,
-    };
-    measure(name, 1, (library, independent), |library, independent| {
-        library.output.fill(0);
-        independent.output.fill(0);
-        let answers = library.answer() == independent.answer();
-        answers && library.output == independent.output && library.inputs == independent.inputs
-    })
+    let library = Stateless::new(&inputs, room, library);
+    let independent = Stateless::new(&inputs, room, independent);
+    measure(name, 1, (library, independent), stateless_alike)
 }
 
 /// The same for a number on each side and in each run.
@@ -240,7 +261,7 @@ fn longest_input(seed: usize) -> Vec<u8> {
 }
 
 fn cltu_write() -> Row {
-    plain(
+    stateless(
         "CLTU write, frame of 256 octets",
         samples(|seed| sample(seed, FRAME)),
         CLTU,
@@ -255,7 +276,7 @@ fn cltu_read(name: &str, inputs: Vec<Vec<u8>>, codeblocks: usize) -> Row {
         let read = cltu::read(input, &mut vec![0; room], Fault::None);
         assert!(read.number == DONE && read.count == room as u64);
     }
-    plain(
+    stateless(
         name,
         inputs,
         room,
@@ -276,10 +297,22 @@ fn ad_frame(number: u8, unit: usize) -> Vec<u8> {
     frame::encode(SPACECRAFT, CHANNEL, &content, Fault::None)
 }
 
+fn ad_contents(unit: usize) -> Vec<Content> {
+    samples(|number| ad_content(number as u8, unit))
+}
+
+fn ad_frames(unit: usize) -> Vec<Vec<u8>> {
+    let frames = samples(|number| ad_frame(number as u8, unit));
+    for frame in &frames {
+        assert!(frame::read(frame, SPACECRAFT, CHANNEL, Fault::None).number == DONE);
+    }
+    frames
+}
+
 fn frame_write() -> Row {
-    plain(
+    stateless(
         "frame write, 256 octets",
-        samples(|number| ad_content(number as u8, UNIT_MOST)),
+        ad_contents(UNIT_MOST),
         FRAME,
         |content, output| library::frame_write(SPACECRAFT, CHANNEL, content, output),
         |content, output| frame::write(SPACECRAFT, CHANNEL, content, output, Fault::None),
@@ -287,18 +320,134 @@ fn frame_write() -> Row {
 }
 
 fn frame_read() -> Row {
-    let frames = samples(|number| ad_frame(number as u8, UNIT_MOST));
-    for frame in &frames {
-        assert!(frame.len() == FRAME);
-        assert!(frame::read(frame, SPACECRAFT, CHANNEL, Fault::None).number == DONE);
-    }
-    plain(
+    let frames = ad_frames(UNIT_MOST);
+    assert!(frames[0].len() == FRAME);
+    stateless(
         "frame read, 256 octets",
         frames,
         0,
         |frame, _| library::frame_read(frame, SPACECRAFT, CHANNEL),
         |frame, _| frame::read(frame, SPACECRAFT, CHANNEL, Fault::None),
     )
+}
+
+/// A figure for the library and for the plain program with each check, in nanoseconds.
+struct FrameRow {
+    name: String,
+    library: f64,
+    bit_by_bit: f64,
+    by_table: f64,
+    /// As in `Row`.
+    spread: f64,
+}
+
+/// Checks that the three answer alike, then measures them.
+fn beside_plain<T: Clone + PartialEq, A: PartialEq>(
+    name: String,
+    inputs: &[T],
+    room: usize,
+    library: impl FnMut(&mut T, &mut [u8]) -> A,
+    bit_by_bit: impl FnMut(&mut T, &mut [u8]) -> A,
+    by_table: impl FnMut(&mut T, &mut [u8]) -> A,
+) -> FrameRow {
+    let mut library = Stateless::new(inputs, room, library);
+    let mut bit_by_bit = Stateless::new(inputs, room, bit_by_bit);
+    let mut by_table = Stateless::new(inputs, room, by_table);
+    for _ in 0..CHECKED {
+        assert!(
+            stateless_alike(&mut library, &mut bit_by_bit),
+            "{name}: not alike"
+        );
+    }
+    library.clear();
+    for _ in 0..CHECKED {
+        assert!(
+            stateless_alike(&mut library, &mut by_table),
+            "{name}: not alike"
+        );
+    }
+
+    let ([library, bit_by_bit, by_table], spread) = medians([
+        &mut || round(&mut library),
+        &mut || round(&mut bit_by_bit),
+        &mut || round(&mut by_table),
+    ]);
+    FrameRow {
+        name,
+        library,
+        bit_by_bit,
+        by_table,
+        spread,
+    }
+}
+
+/// The address, which no side may take for a constant.
+fn address() -> [u32; 2] {
+    black_box([SPACECRAFT, CHANNEL])
+}
+
+fn plain_frame_write(unit: usize) -> FrameRow {
+    let octets = ad_frame(0, unit).len();
+    let [spacecraft, channel] = address();
+    let (by_bit, by_table) = (plain_frame::bit_by_bit, plain_frame::by_table);
+    beside_plain(
+        format!("frame write, {octets} octets"),
+        &ad_contents(unit),
+        octets,
+        |content, output| library::frame_write(spacecraft, channel, content, output),
+        |content, output| plain_frame::write(spacecraft, channel, content, output, by_bit),
+        |content, output| plain_frame::write(spacecraft, channel, content, output, by_table),
+    )
+}
+
+fn plain_frame_read(unit: usize) -> FrameRow {
+    let frames = ad_frames(unit);
+    let [spacecraft, channel] = address();
+    beside_plain(
+        format!("frame read, {} octets", frames[0].len()),
+        &frames,
+        0,
+        |frame, _| library::frame_read(frame, spacecraft, channel),
+        |frame, _| plain_frame::read(frame, spacecraft, channel, plain_frame::bit_by_bit),
+        |frame, _| plain_frame::read(frame, spacecraft, channel, plain_frame::by_table),
+    )
+}
+
+/// The plain program leaves no check out: frames of each kind, with any one bit changed,
+/// before or after the check is made, and of lengths around their own.
+fn check_plain_read() {
+    let unit = sample(0, 3);
+    let contents = [
+        Content::Ad {
+            number: 9,
+            unit: unit.clone(),
+        },
+        Content::Bd { unit },
+        Content::Unlock,
+        Content::SetVr { value: 5 },
+    ];
+    for content in contents {
+        let frame = frame::encode(SPACECRAFT, CHANNEL, &content, Fault::None);
+        let checked = frame.len() - 2;
+        for bit in 0..8 * frame.len() {
+            let mut changed = frame.clone();
+            changed[bit / 8] ^= 0x80 >> (bit % 8);
+            let mut made = changed.clone();
+            let check = plain_frame::by_table(&made[..checked]);
+            made[checked..].copy_from_slice(&check.to_be_bytes());
+            for mut octets in [changed, made] {
+                octets.extend([0; 8]);
+                for length in 0..=octets.len() {
+                    let octets = &octets[..length];
+                    let read = frame::read(octets, SPACECRAFT, CHANNEL, Fault::None);
+                    let by_bit = plain_frame::bit_by_bit;
+                    assert!(plain_frame::read(octets, SPACECRAFT, CHANNEL, by_bit) == read);
+                    let by_table = plain_frame::by_table;
+                    assert!(plain_frame::read(octets, SPACECRAFT, CHANNEL, by_table) == read);
+                }
+            }
+        }
+    }
 }
 
 /// W, V(R) and the buffers.
@@ -572,6 +721,22 @@ fn print_times(rows: &[Row]) {
     }
 }
 
+fn print_frames(rows: &[FrameRow]) {
+    println!("| Frames | Library, ns | Plain bit by bit, ns | Plain by table, ns | Library's speed / bit by bit | Library's speed / table |");
+    println!("|---|---:|---:|---:|---:|---:|");
+    for row in rows {
+        println!(
+            "| {} | {:.1} | {:.1} | {:.1} | {:.2} | {:.2} |",
+            row.name,
+            row.library,
+            row.bit_by_bit,
+            row.by_table,
+            row.bit_by_bit / row.library,
+            row.by_table / row.library
+        );
+    }
+}
+
 fn print_rates(rows: &[Row]) {
     println!("| Events per second | Library | Independent |");
     println!("|---|---:|---:|");
@@ -610,11 +775,24 @@ fn main() {
         sender("sender event, units of 1 octet", 1),
     ]);
 
+    check_plain_read();
+    let frames = [
+        plain_frame_write(UNIT_MOST),
+        plain_frame_write(1),
+        plain_frame_read(UNIT_MOST),
+        plain_frame_read(1),
+    ];
+
     print_times(&rows);
+    println!();
+    print_frames(&frames);
     println!();
     print_rates(&rows[events..]);
     println!();
-    let spread = rows.iter().map(|row| row.spread).fold(1.0, f64::max);
+    let spreads = rows.iter().map(|row| row.spread);
+    let spread = spreads
+        .chain(frames.iter().map(|row| row.spread))
+        .fold(1.0, f64::max);
     println!(
         "median of {ROUNDS} rounds of at least {} ms",
         ROUND.as_millis()
