@@ -1,6 +1,6 @@
 //! Frames written and read on octets, as a plain Rust program does it: what the benchmark
-//! measures beside the library's. The check of a frame is a parameter: `bit_by_bit` or
-//! `by_table`.
+//! measures beside the library's. A call answers as the library's does, by a number and
+//! through references. The check of a frame is a parameter: `bit_by_bit` or `by_table`.
 
 use independent::frame::{Content, Read, AD, BC_SET_VR, BC_UNLOCK, BD};
 use independent::output::Written;
@@ -58,7 +58,6 @@ pub fn by_table(message: &[u8]) -> u16 {
 }
 
 /// Writes a frame (document 01, Refusals: 10, 12, 11).
-#[inline(never)]
 pub fn write(
     spacecraft: u32,
     channel: u32,
@@ -66,6 +65,21 @@ pub fn write(
     output: &mut [u8],
     check: impl Fn(&[u8]) -> u16,
 ) -> Written {
+    let mut count = 0;
+    let number = write_counted(spacecraft, channel, content, output, &mut count, check);
+    Written { number, count }
+}
+
+#[inline(never)]
+fn write_counted(
+    spacecraft: u32,
+    channel: u32,
+    content: &Content,
+    output: &mut [u8],
+    count: &mut u64,
+    check: impl Fn(&[u8]) -> u16,
+) -> u8 {
+    *count = 0;
     let command;
     let (flags, number, unit) = match content {
         Content::Ad { number, unit } => (0x00, *number, &unit[..]),
@@ -77,19 +91,19 @@ pub fn write(
         }
     };
     if unit.is_empty() || unit.len() > 249 {
-        return Written::refused(LENGTH);
+        return LENGTH;
     }
     let set = match content {
         Content::SetVr { value } => *value,
         _ => number,
     };
     if spacecraft > 1023 || channel > 63 || set > 255 {
-        return Written::refused(SETTING);
+        return SETTING;
     }
     let checked = HEADER_OCTETS + unit.len();
     let total = checked + CHECK_OCTETS;
     if output.len() < total {
-        return Written::refused(ROOM);
+        return ROOM;
     }
     let last = total - 1;
     output[0] = flags | (spacecraft >> 8) as u8;
@@ -100,57 +114,67 @@ pub fn write(
     output[HEADER_OCTETS..checked].copy_from_slice(unit);
     let field = check(&output[..checked]);
     output[checked..total].copy_from_slice(&field.to_be_bytes());
-    Written {
-        number: DONE,
-        count: total as u64,
-    }
+    *count = total as u64;
+    DONE
 }
 
 /// Reads a frame (document 01, Refusals: 4, 4, 10, 4, 5, 8, 6, 7, 9).
-#[inline(never)]
 pub fn read(octets: &[u8], spacecraft: u32, channel: u32, check: impl Fn(&[u8]) -> u16) -> Read {
+    let mut read = Read::refused(DONE);
+    let (kind, value) = (&mut read.kind, &mut read.value);
+    let lengths = (&mut read.total, &mut read.field);
+    read.number = read_told(octets, spacecraft, channel, kind, value, lengths, check);
+    read
+}
+
+#[inline(never)]
+fn read_told(
+    octets: &[u8],
+    spacecraft: u32,
+    channel: u32,
+    kind: &mut u8,
+    value: &mut u8,
+    (total_told, field_told): (&mut u16, &mut u16),
+    check: impl Fn(&[u8]) -> u16,
+) -> u8 {
+    (*kind, *value, *total_told, *field_told) = (0, 0, 0, 0);
     if octets.len() < 8 {
-        return Read::refused(SHORT);
+        return SHORT;
     }
     let total = usize::from(octets[2] & 0x03) << 8 | usize::from(octets[3]);
     let total = total + 1;
     if total < 8 {
-        return Read::refused(SHORT);
+        return SHORT;
     }
     if total > 256 {
-        return Read::refused(LENGTH);
+        return LENGTH;
     }
     if total > octets.len() {
-        return Read::refused(SHORT);
+        return SHORT;
     }
     if octets.len() - total > 6 {
-        return Read::refused(FILL);
+        return FILL;
     }
     let (checked, field) = octets[..total].split_at(total - CHECK_OCTETS);
     if check(checked).to_be_bytes() != field {
-        return Read::refused(CHECK);
+        return CHECK;
     }
     // Version number, spare, and control command without bypass.
     if octets[0] & 0xCC != 0 || octets[0] & 0x30 == 0x10 {
-        return Read::refused(HEADER);
+        return HEADER;
     }
     let addressed = u32::from(octets[0] & 0x03) << 8 | u32::from(octets[1]);
     if addressed != spacecraft || u32::from(octets[2] >> 2) != channel {
-        return Read::refused(ADDRESS);
+        return ADDRESS;
     }
     let unit = &checked[HEADER_OCTETS..];
-    let (kind, value) = match (octets[0] & 0x30, unit) {
+    (*kind, *value) = match (octets[0] & 0x30, unit) {
         (0x00, _) => (AD, octets[4]),
         (0x20, _) => (BD, 0),
         (_, [0x00]) => (BC_UNLOCK, 0),
         (_, [0x82, 0x00, value]) => (BC_SET_VR, *value),
-        _ => return Read::refused(COMMAND),
+        _ => return COMMAND,
     };
-    Read {
-        number: DONE,
-        kind,
-        value,
-        total: total as u16,
-        field: unit.len() as u16,
-    }
+    (*total_told, *field_told) = (total as u16, unit.len() as u16);
+    DONE
 }
