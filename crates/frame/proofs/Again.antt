@@ -1,6 +1,5 @@
--- The other way: a frame that was read, written again from what was read, is the frame that was lent without its fill. So it is for an
--- AD frame (`again-ad`), and for any frame whose octet 4 is zero (`again-zero`). A type-B frame's N(S) is not looked at, and is
--- written as zero: in general the two agree at every place before the FECF other than 4 (`again-others`).
+-- The other way: every frame that was read, written again from what was read, is the frame that was lent without its fill (`again`). The
+-- kind gives the flags and the data back, and the number too: a type-B frame that was read has zero there, and zero is written.
 use mathlib.Core.Path.{_≡_, refl, sym, ap, _∙_}
 use mathlib.Core.Bool.{Bool, true, false}
 use mathlib.Core.List.{List, _∷_, _++_}
@@ -8,8 +7,8 @@ use Prim.Native.Nat.{ℕ, zero, suc, _+_, _-_, _*_, _/_, _%_, _<_, _≤_}
 use native.Mathlib.Omega.{arith}
 use borrow.Author.Tests.{eq-eqb, eqb-true}
 use lib.Dec.{eqb}
-use lib.ListN.{length, take, drop, getD, set, length-drop, length-set, List·getD-append}
-use lib.Seq.{take-add, getD-take, getD-drop, getD-set-other, length-take-le}
+use lib.ListN.{length, take, drop, getD, length-drop}
+use lib.Seq.{take-add, getD-drop}
 use Rattle.base.specs.Choice.{pick}
 use Rattle.base.specs.Fields.{fieldAt}
 use Rattle.base.specs.Octets.{Octets, same}
@@ -17,7 +16,7 @@ use Rattle.base.specs.Limits.{largestFrame}
 use Rattle.base.proofs.Lists.{same-equal, take-next, octets-at}
 use Rattle.base.proofs.Tests.{apart}
 use Rattle.fecf.specs.Fecf.{fecfOf, syndromeOf, fieldOctets}
-use Rattle.frame_header.specs.Header.{bypassFlag, controlCommandFlag, frameSequenceNumber, validCombination}
+use Rattle.frame_header.specs.Header.{bypassFlag, controlCommandFlag, frameSequenceNumber, validCombination, validNumber}
 use Rattle.frame_header.proofs.Octets.{o, version-is, spare-is, bypass-is, control-is, spacecraft-is, channel-is, number-is}
 use Rattle.frame.specs.Frame.{bypassOf, controlOf, numberOf, unlockCommand, setVrCommand, dataOf, bodyOf, rawFrame, frameOf, totalOf, dataField, isCommand, commandHeld, refusalOf, kindOf}
 use Rattle.frame.specs.declared.Kind.{Kind}
@@ -27,56 +26,51 @@ use Rattle.frame.proofs.Content.{octets-take, take-frame, content-test}
 use Rattle.frame.proofs.Accepted.{Accepted, accepted}
 use Rattle.frame.proofs.Written.{Fits, body-is}
 
--- a kind gives the flags and the data back, and the number of a type-A frame
+-- a kind gives the flags, the number and the data back
 record Told (kind : Kind) (bypass control number : ℕ) (data′ : List ℕ) : Type 0 where
   bypassed : bypassOf kind ≡ bypass
   controlled : controlOf kind ≡ control
   ordered : control ≤ bypass
   kept : dataOf kind data′ ≡ data′
-  numbered : (k : ℕ) → kind ≡ Ad k → numberOf kind ≡ number
-  zeroed : number ≡ 0 → numberOf kind ≡ number
-  small : number < 256 → numberOf kind < 256
+  numbered : numberOf kind ≡ number
 
 abbrev kindFor : ℕ → ℕ → ℕ → List ℕ → Kind
 kindFor bypass control number data′ =
     pick (eqb control 1) (pick (same data′ unlockCommand) Unlock (SetVr (getD data′ 2 0))) (pick (eqb bypass 1) Bd (Ad number))
 
--- a type-B frame carries no number: it is written as zero
-type-b : (kind : Kind) {control number : ℕ} {data′ : List ℕ} → control ≤ 1 → bypassOf kind ≡ 1 → controlOf kind ≡ control → numberOf kind ≡ 0 → dataOf kind data′ ≡ data′
+-- a type-B frame's number is zero
+type-b : (kind : Kind) {control number : ℕ} {data′ : List ℕ} → control ≤ 1 → validNumber 1 number ≡ true
+    → bypassOf kind ≡ 1 → controlOf kind ≡ control → numberOf kind ≡ 0 → dataOf kind data′ ≡ data′
     → Told kind 1 control number data′
-type-b kind c b e z k = record {
+type-b kind {number = number} c v b e z k = record {
   bypassed = b;
   controlled = e;
   ordered = c;
   kept = k;
-  numbered = λ n a. absurd (omega (arith, sym b ∙ ap bypassOf a));
-  zeroed = λ n. z ∙ sym n;
-  small = λ l. omega arith;
+  numbered = z ∙ sym (eqb-true number 0 v);
 }
 
-told : (bypass control number : ℕ) (data′ : List ℕ) → bypass ≤ 1 → control ≤ 1 → validCombination bypass control ≡ true
+told : (bypass control number : ℕ) (data′ : List ℕ) → bypass ≤ 1 → control ≤ 1 → validCombination bypass control ≡ true → validNumber bypass number ≡ true
     → pick (eqb control 1) (isCommand data′) true ≡ true → Told (kindFor bypass control number data′) bypass control number data′
 unfolding isCommand
-told zero zero number data′ hb hc type held = record {
+told zero zero number data′ hb hc type v held = record {
   bypassed = refl;
   controlled = refl;
   ordered = omega arith;
   kept = refl;
-  numbered = λ k e. refl;
-  zeroed = λ z. refl;
-  small = λ l. l;
+  numbered = refl;
 }
-told (suc zero) zero number data′ hb hc type held = type-b Bd (omega arith) refl refl refl refl
-told zero (suc zero) number data′ hb hc type held = absurd (apart type)
-told (suc zero) (suc zero) number data′ hb hc type held = go (same data′ unlockCommand) refl held
+told (suc zero) zero number data′ hb hc type v held = type-b Bd (omega arith) v refl refl refl refl
+told zero (suc zero) number data′ hb hc type v held = absurd (apart type)
+told (suc zero) (suc zero) number data′ hb hc type v held = go (same data′ unlockCommand) refl held
   where
     go : (b : Bool) → same data′ unlockCommand ≡ b → pick b true (same data′ (setVrCommand (getD data′ 2 0))) ≡ true
         → Told (pick b Unlock (SetVr (getD data′ 2 0))) 1 1 number data′
-    go true e t = type-b Unlock (omega arith) refl refl refl (sym (same-equal data′ unlockCommand e))
-    go false e t = type-b (SetVr (getD data′ 2 0)) (omega arith) refl refl refl (sym (same-equal data′ (setVrCommand (getD data′ 2 0)) t))
-told zero (suc (suc control)) number data′ hb hc type held = absurd (omega arith)
-told (suc zero) (suc (suc control)) number data′ hb hc type held = absurd (omega arith)
-told (suc (suc bypass)) control number data′ hb hc type held = absurd (omega arith)
+    go true e t = type-b Unlock (omega arith) v refl refl refl (sym (same-equal data′ unlockCommand e))
+    go false e t = type-b (SetVr (getD data′ 2 0)) (omega arith) v refl refl refl (sym (same-equal data′ (setVrCommand (getD data′ 2 0)) t))
+told zero (suc (suc control)) number data′ hb hc type v held = absurd (omega arith)
+told (suc zero) (suc (suc control)) number data′ hb hc type v held = absurd (omega arith)
+told (suc (suc bypass)) control number data′ hb hc type v held = absurd (omega arith)
 
 -- the first two octets of a header with version and spare zero, by its fields
 high-octet : (x z b c spacecraft : ℕ) → z < 256 → x / 64 ≡ 0 → x / 4 % 4 ≡ 0 → b ≡ x / 32 % 2 → c ≡ x / 16 % 2 → x % 4 * 256 + z ≡ spacecraft
@@ -109,11 +103,14 @@ module _ (octets : List ℕ) (spacecraft channel : ℕ) (h : Octets octets) (e :
   control-here : fieldAt controlCommandFlag octets ≡ o octets 0 / 16 % 2
   control-here = control-is octets at (y .header .entire)
 
+  number-here : fieldAt frameSequenceNumber octets ≡ o octets 4
+  number-here = number-is octets at (y .header .entire)
+
   told-here : Told (kindOf octets) (fieldAt bypassFlag octets) (fieldAt controlCommandFlag octets) (fieldAt frameSequenceNumber octets) (dataField octets (totalOf octets))
   unfolding kindOf commandHeld
   told-here =
       told (fieldAt bypassFlag octets) (fieldAt controlCommandFlag octets) (fieldAt frameSequenceNumber octets) (dataField octets (totalOf octets))
-      (omega (arith, bypass-here)) (omega (arith, control-here)) (y .header .combination) (y .held)
+      (omega (arith, bypass-here)) (omega (arith, control-here)) (y .header .combination) (y .header .sequence) (y .held)
 
   length-unit : length (dataField octets (totalOf octets)) ≡ totalOf octets - 7
   length-unit = length-data octets (totalOf octets) (y .low) (y .whole)
@@ -135,16 +132,16 @@ module _ (octets : List ℕ) (spacecraft channel : ℕ) (h : Octets octets) (e :
       ∙ ap (λ (x : List ℕ). o octets 2 ∷ x) (take-next octets 1 3 (omega arith)
       ∙ ap (λ (x : List ℕ). o octets 3 ∷ x) (take-next octets 0 4 (omega arith))))))
 
-  fits : (number : ℕ) → number < 256
-      → Fits (fieldAt bypassFlag octets) (fieldAt controlCommandFlag octets) number spacecraft channel (dataField octets (totalOf octets))
+  fits : Fits (fieldAt bypassFlag octets) (fieldAt controlCommandFlag octets) (fieldAt frameSequenceNumber octets) spacecraft channel (dataField octets (totalOf octets))
   unfolding dataField
-  fits number hn =
+  fits =
       let l : 8 ≤ totalOf octets = y .low in
       let m : totalOf octets ≤ largestFrame = y .high in
       record {
         flag = omega (arith, bypass-here);
         type = told-here .ordered;
-        ns = hn;
+        ns = omega (arith, number-here, at 4);
+        sequence = y .header .sequence;
         address = omega (arith, spacecraft-is octets at (y .header .entire), y .ourSpacecraft, at 1);
         virtual = omega (arith, channel-is octets at (y .header .entire), y .ourChannel, at 2);
         low = omega (arith, length-unit);
@@ -157,11 +154,11 @@ module _ (octets : List ℕ) (spacecraft channel : ℕ) (h : Octets octets) (e :
           octets-take (drop 5 octets) (totalOf octets - 7) (λ i. omega (arith, getD-drop 5 octets i 0, at (5 + i))) (omega (arith, length-drop 5 octets, y .whole))
 
   -- and as they are written again
-  written-body : (number : ℕ) → number < 256
-      → bodyOf (bypassOf (kindOf octets)) (controlOf (kindOf octets)) number spacecraft channel (dataOf (kindOf octets) (dataField octets (totalOf octets)))
-      ≡ set (take (totalOf octets - 2) octets) 4 number
-  written-body number hn =
+  written-body : bodyOf (bypassOf (kindOf octets)) (controlOf (kindOf octets)) (numberOf (kindOf octets)) spacecraft channel (dataOf (kindOf octets) (dataField octets (totalOf octets)))
+      ≡ take (totalOf octets - 2) octets
+  written-body =
       let unit = dataField octets (totalOf octets) in
+      let number = fieldAt frameSequenceNumber octets in
       let l : 8 ≤ totalOf octets = y .low in
       let m : totalOf octets ≤ largestFrame = y .high in
       let v : o octets 0 / 64 ≡ 0 = sym (version-is octets at (y .header .entire)) ∙ y .header .versionZero in
@@ -174,52 +171,22 @@ module _ (octets : List ℕ) (spacecraft channel : ℕ) (h : Octets octets) (e :
       let q : spacecraft % 256 ≡ o octets 1 = low-octet (o octets 0) (o octets 1) spacecraft (at 1) s in
       let w : channel * 4 + (length unit + 7 - 1) / 256 ≡ o octets 2 = omega (arith, length-unit, at 3) in
       let x : (length unit + 7 - 1) % 256 ≡ o octets 3 = omega (arith, length-unit, at 3) in
+      let z : fieldAt frameSequenceNumber octets ≡ o octets 4 = number-here in
       let g : _≡_ {A = List ℕ}
       ((fieldAt bypassFlag octets * 32 + fieldAt controlCommandFlag octets * 16 + spacecraft / 256) ∷ (spacecraft % 256) ∷ (channel * 4 + (length unit + 7 - 1) / 256) ∷ ((length unit + 7 - 1) % 256) ∷ number ∷ unit)
-      (o octets 0 ∷ o octets 1 ∷ o octets 2 ∷ o octets 3 ∷ number ∷ unit) = cc in
-      rw (told-here .bypassed, told-here .controlled, told-here .kept)
-      (body-is (fieldAt bypassFlag octets) (fieldAt controlCommandFlag octets) number spacecraft channel unit (fits number hn)
+      (o octets 0 ∷ o octets 1 ∷ o octets 2 ∷ o octets 3 ∷ o octets 4 ∷ unit) = cc in
+      rw (told-here .bypassed, told-here .controlled, told-here .numbered, told-here .kept)
+      (body-is (fieldAt bypassFlag octets) (fieldAt controlCommandFlag octets) number spacecraft channel unit fits
       ∙ g
-      ∙ ap (λ (b : List ℕ). set b 4 number) (sym lent-body))
+      ∙ sym lent-body)
 
-  -- N(S) of a frame that was read
-  number-here : fieldAt frameSequenceNumber octets ≡ o octets 4
-  number-here = number-is octets at (y .header .entire)
-
-  small : numberOf (kindOf octets) < 256
-  small = told-here .small (omega (arith, number-here, at 4))
-
-  again : numberOf (kindOf octets) ≡ o octets 4
-      → frameOf spacecraft channel (kindOf octets) (dataField octets (totalOf octets)) ≡ take (totalOf octets) octets
+  pub again : frameOf spacecraft channel (kindOf octets) (dataField octets (totalOf octets)) ≡ take (totalOf octets) octets
   unfolding rawFrame
-  again n =
+  again =
       let t = take (totalOf octets - 2) octets in
       let f : o octets (totalOf octets - 2) * 256 + o octets (totalOf octets - 1) ≡ fecfOf t =
       eqb-true (o octets (totalOf octets - 2) * 256 + o octets (totalOf octets - 1)) (fecfOf t)
       (sym (content-test octets (totalOf octets) at (y .low) (y .whole)) ∙ eq-eqb (syndromeOf (take (totalOf octets) octets)) 0 (y .syndrome)) in
-      let b : bodyOf (bypassOf (kindOf octets)) (controlOf (kindOf octets)) (numberOf (kindOf octets)) spacecraft channel (dataOf (kindOf octets) (dataField octets (totalOf octets))) ≡ t =
-      written-body (numberOf (kindOf octets)) small ∙ ap (set t 4) n ∙ set-own in
-      ap (λ (x : List ℕ). x ++ fieldOctets (fecfOf x)) b ∙ ap (λ (x : ℕ). t ++ fieldOctets x) (sym f) ∙ sym (take-frame octets (totalOf octets) at (y .low) (y .whole))
-    where
-      set-own : set (take (totalOf octets - 2) octets) 4 (o octets 4) ≡ take (totalOf octets - 2) octets
-      set-own = ap (λ (x : List ℕ). set x 4 (o octets 4)) lent-body ∙ sym lent-body
-
-  pub again-ad : (number : ℕ) → kindOf octets ≡ Ad number
-      → frameOf spacecraft channel (kindOf octets) (dataField octets (totalOf octets)) ≡ take (totalOf octets) octets
-  again-ad number k = again (told-here .numbered number k ∙ number-here)
-
-  pub again-zero : getD octets 4 0 ≡ 0 → frameOf spacecraft channel (kindOf octets) (dataField octets (totalOf octets)) ≡ take (totalOf octets) octets
-  again-zero z = again (told-here .zeroed (number-here ∙ z) ∙ number-here)
-
-  pub again-others : (i : ℕ) → i < totalOf octets - 2 → (i ≡ 4 → ⊥)
-      → getD (frameOf spacecraft channel (kindOf octets) (dataField octets (totalOf octets))) i 0 ≡ getD octets i 0
-  unfolding rawFrame
-  again-others i l d =
-      let t = take (totalOf octets - 2) octets in
-      let b = bodyOf (bypassOf (kindOf octets)) (controlOf (kindOf octets)) (numberOf (kindOf octets)) spacecraft channel (dataOf (kindOf octets) (dataField octets (totalOf octets))) in
-      let w = written-body (numberOf (kindOf octets)) small in
-      let k : length b ≡ totalOf octets - 2 = ap length w ∙ length-set t 4 (numberOf (kindOf octets)) ∙ length-take-le (totalOf octets - 2) octets (omega (arith, y .whole)) in
-      List·getD-append b (fieldOctets (fecfOf b)) 0 i (omega arith)
-      ∙ ap (λ (x : List ℕ). getD x i 0) w
-      ∙ getD-set-other t 4 i (numberOf (kindOf octets)) 0 d
-      ∙ getD-take (totalOf octets - 2) octets i 0 l
+      ap (λ (x : List ℕ). x ++ fieldOctets (fecfOf x)) written-body
+      ∙ ap (λ (x : ℕ). t ++ fieldOctets x) (sym f)
+      ∙ sym (take-frame octets (totalOf octets) at (y .low) (y .whole))

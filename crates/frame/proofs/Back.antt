@@ -34,11 +34,11 @@ Legal (SetVr value) unit = value < 256
 -- it fits, and reads back as itself
 pub legal-fits : (spacecraft channel : ℕ) (kind : Kind) (unit : List ℕ) → spacecraft ≤ largestSpacecraft → channel ≤ largestChannel → Legal kind unit
     → Fits (bypassOf kind) (controlOf kind) (numberOf kind) spacecraft channel (dataOf kind unit)
-legal-fits spacecraft channel (Ad number) unit hs hv l = fitting (omega arith) (omega arith) (l .0) hs hv (l .1) (l .2) (l .3)
-legal-fits spacecraft channel Bd unit hs hv l = fitting (omega arith) (omega arith) (omega arith) hs hv (l .0) (l .1) (l .2)
-legal-fits spacecraft channel Unlock unit hs hv l = fitting (omega arith) (omega arith) (omega arith) hs hv (omega arith) (omega arith) (omega arith, tt)
+legal-fits spacecraft channel (Ad number) unit hs hv l = fitting (omega arith) (omega arith) (l .0) refl hs hv (l .1) (l .2) (l .3)
+legal-fits spacecraft channel Bd unit hs hv l = fitting (omega arith) (omega arith) (omega arith) refl hs hv (l .0) (l .1) (l .2)
+legal-fits spacecraft channel Unlock unit hs hv l = fitting (omega arith) (omega arith) (omega arith) refl hs hv (omega arith) (omega arith) (omega arith, tt)
 legal-fits spacecraft channel (SetVr value) unit hs hv l =
-    fitting (omega arith) (omega arith) (omega arith) hs hv (omega arith) (omega arith) (omega arith, (omega arith, (l, tt)))
+    fitting (omega arith) (omega arith) (omega arith) refl hs hv (omega arith) (omega arith) (omega arith, (omega arith, (l, tt)))
 
 command-held : (kind : Kind) (unit : List ℕ) → pick (eqb (controlOf kind) 1) (isCommand (dataOf kind unit)) true ≡ true
 unfolding isCommand

@@ -26,17 +26,19 @@ pub accepted : refusalOf unlock 1 0 ≡ 0
 unfolding refusalOf contentRefusal headerRefusal validHeader commandHeld isCommand dataField totalOf fieldAt octetBits bitsOf valueOf fecfOf syndromeOf register shiftBits shiftBit
 accepted = refl
 
--- seven octets lent; the header says 257; seven octets of fill; another FECF; version 1; another spacecraft; no command
+-- seven octets lent; the header says 257; seven octets of fill; another FECF; version 1; Unlock with sequence octet 1; another spacecraft;
+-- no command
 pub refused :
     (refusalOf (take 7 unlock) 1 0 ≡ 4)
     × (refusalOf (0x30 ∷ 0x01 ∷ 0x01 ∷ 0x00 ∷ 0x00 ∷ 0x00 ∷ 0x00 ∷ 0x00 ∷ []) 1 0 ≡ 10)
     × (refusalOf (unlock ++ replicate 7 0x55) 1 0 ≡ 5)
     × (refusalOf (0x30 ∷ 0x01 ∷ 0x00 ∷ 0x07 ∷ 0x00 ∷ 0x00 ∷ 0x00 ∷ 0x00 ∷ []) 1 0 ≡ 8)
     × (refusalOf (checked (0x70 ∷ 0x01 ∷ 0x00 ∷ 0x07 ∷ 0x00 ∷ 0x00 ∷ [])) 1 0 ≡ 6)
+    × (refusalOf (checked (0x30 ∷ 0x01 ∷ 0x00 ∷ 0x07 ∷ 0x01 ∷ 0x00 ∷ [])) 1 0 ≡ 6)
     × (refusalOf unlock 2 0 ≡ 7)
     × (refusalOf (checked (0x30 ∷ 0x01 ∷ 0x00 ∷ 0x07 ∷ 0x00 ∷ 0x01 ∷ [])) 1 0 ≡ 9)
 unfolding refusalOf contentRefusal headerRefusal validHeader commandHeld isCommand dataField totalOf fieldAt octetBits bitsOf valueOf fecfOf syndromeOf register shiftBits shiftBit
-refused = (refl, refl, refl, refl, refl, refl, refl)
+refused = (refl, refl, refl, refl, refl, refl, refl, refl)
 
 abbrev writtenNumber : ℕ → ℕ → Kind → List ℕ → ℕ → ℕ
 writtenNumber spacecraft channel kind unit room = numberOf (answer (writing spacecraft channel kind unit room))

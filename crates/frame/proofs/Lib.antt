@@ -8,3 +8,4 @@ pub mod Again
 pub mod Detects
 pub mod Examples
 pub mod Refuted
+pub mod Stricter

@@ -16,7 +16,7 @@ use Rattle.base.proofs.Lists.{octets-at, below-append}
 use Rattle.base.proofs.Tests.{both-left, both-right, not-so}
 use Rattle.fecf.specs.Fecf.{fecfOf, syndromeOf, fieldOctets}
 use Rattle.fecf.proofs.Syndrome.{fecf-lt, syndrome-zero}
-use Rattle.frame_header.specs.Header.{headerLength, version, bypassFlag, controlCommandFlag, reservedSpare, spacecraftIdentifier, virtualChannelIdentifier, frameSequenceNumber, validCombination, validHeader}
+use Rattle.frame_header.specs.Header.{headerLength, version, bypassFlag, controlCommandFlag, reservedSpare, spacecraftIdentifier, virtualChannelIdentifier, frameSequenceNumber, validCombination, validNumber, validHeader}
 use Rattle.frame_header.proofs.Octets.{o, version-is, bypass-is, control-is, spare-is, spacecraft-is, channel-is, number-is}
 use Rattle.frame_header.proofs.Packed.{header-octets}
 use Rattle.frame_header.proofs.Laws.{valid-is}
@@ -32,24 +32,26 @@ unfolding refusalOf
 lengths-right s n spacecraft channel e low high whole few =
     rw (e, le-leb 8 (length s) (omega arith), le-leb 8 n low, le-leb n largestFrame high, le-leb n (length s) whole, le-leb (length s) (n + 6) few)
 
--- what a frame is written of: its parts within their limits, and no type (0,1)
+-- what a frame is written of: its parts within their limits, no type (0,1), and zero for the number of a type-B frame
 pub record Fits (bypass control number spacecraft channel : ℕ) (field : List ℕ) : Type 0 where
   pub flag : bypass ≤ 1
   pub type : control ≤ bypass
   pub ns : number < 256
+  pub sequence : validNumber bypass number ≡ true
   pub address : spacecraft ≤ largestSpacecraft
   pub virtual : channel ≤ largestChannel
   pub low : 1 ≤ length field
   pub high : length field ≤ largestUnit
   pub octets : Octets field
 
-pub fitting : {bypass control number spacecraft channel : ℕ} {field : List ℕ} → bypass ≤ 1 → control ≤ bypass → number < 256
+pub fitting : {bypass control number spacecraft channel : ℕ} {field : List ℕ} → bypass ≤ 1 → control ≤ bypass → number < 256 → validNumber bypass number ≡ true
     → spacecraft ≤ largestSpacecraft → channel ≤ largestChannel
     → 1 ≤ length field → length field ≤ largestUnit → Octets field → Fits bypass control number spacecraft channel field
-fitting flag type ns address virtual low high octets = record {
+fitting flag type ns sequence address virtual low high octets = record {
   flag = flag;
   type = type;
   ns = ns;
+  sequence = sequence;
   address = address;
   virtual = virtual;
   low = low;
@@ -158,7 +160,14 @@ module _ (bypass control number spacecraft channel : ℕ) (field : List ℕ) (fi
 
     -- its header is valid
     valid-back : validHeader s ≡ true
-    valid-back = valid-is s (record { entire = entire; versionZero = version-back; spareZero = spare-back; combination = rw (bypass-back, control-back) combination })
+    valid-back =
+        valid-is s (record {
+          entire = entire;
+          versionZero = version-back;
+          spareZero = spare-back;
+          combination = rw (bypass-back, control-back) combination;
+          sequence = rw (bypass-back, number-back) (fits .sequence);
+        })
 
     -- what is left to judge: the address, and the command of a frame of type C
     pub refusal-left : (s′ c′ : ℕ) → refusalOf s s′ c′

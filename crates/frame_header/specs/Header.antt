@@ -1,11 +1,11 @@
 -- Clauses 6.2.2 and 6.8: the Transfer Frame Primary Header, its eight fields at their locations, and which of its values are valid
 -- whatever the receiver.
 use Prim.Native.Nat.{ℕ, _-_}
-use mathlib.Core.Bool.{Bool, not}
+use mathlib.Core.Bool.{Bool, true, not}
 use mathlib.Core.List.{List, [], _∷_}
 use lib.Dec.{leb, eqb}
 use lib.ListN.{length}
-use Rattle.base.specs.Choice.{both}
+use Rattle.base.specs.Choice.{pick, both}
 use Rattle.base.specs.Fields.{Location, Field, packed, octetsOf, fieldAt, at, holds}
 
 -- clause 6.2.2.1: the header has five octets
@@ -65,10 +65,18 @@ headerOf bypass control spacecraft channel total number = octetsOf headerLength 
 abbrev pub validCombination : ℕ → ℕ → Bool
 validCombination bypass control = not (both (eqb bypass 0) (eqb control 1))
 
--- clause 6.8, and document 01's refusal 6: a whole header, its Version Number and Reserved Spare zero, its flags a valid combination
+-- Clause 6.2.2.9: zero in type-B frames, those with Bypass Flag 1. Document 01 said: "Type-B frames are written with N(S) zero; on reading
+-- it isn't looked at." Document 02, order 10, amends this: "A type-B frame whose sequence octet isn't zero is now refusal 6, judged where
+-- 6 was judged, and so event E9."
+abbrev pub validNumber : ℕ → ℕ → Bool
+validNumber bypass number = pick (eqb bypass 1) (eqb number 0) true
+
+-- clause 6.8, and refusal 6 of document 01 with document 02's order 10: a whole header, its Version Number and Reserved Spare zero, its
+-- flags a valid combination, and its Frame Sequence Number zero in a type-B frame
 unfoldable pub validHeader : List ℕ → Bool
 validHeader octets =
     both (leb headerLength (length octets))
     (both (eqb (fieldAt version octets) 0)
     (both (eqb (fieldAt reservedSpare octets) 0)
-    (validCombination (fieldAt bypassFlag octets) (fieldAt controlCommandFlag octets))))
+    (both (validCombination (fieldAt bypassFlag octets) (fieldAt controlCommandFlag octets))
+    (validNumber (fieldAt bypassFlag octets) (fieldAt frameSequenceNumber octets)))))

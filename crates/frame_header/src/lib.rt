@@ -5,7 +5,8 @@ ghost use Rattle.frame_header.specs.Header.{validHeader};
 // Clause 6.2.2.1: the octets of a header.
 pub const HEADER_LENGTH: usize = 5;
 
-// Whether octets begin with a valid header, document 01's refusal 6 where not. The rest of them is not looked at.
+// Whether octets begin with a valid header, refusal 6 of document 01 with document 02's order 10 where not. The rest of them is not
+// looked at.
 pub fn valid(octets: &[u8]) -> bool
     ensures { λ r. ⌜ r ≡ validHeader (now (octets .entry)) ⌝ }
 {
@@ -21,6 +22,9 @@ pub fn valid(octets: &[u8]) -> bool
     }
     if first / 16 % 4 == 1 {
         return false;
+    }
+    if first / 32 % 2 == 1 {
+        return octets[4] == 0;
     }
     true
 }

@@ -28,9 +28,15 @@ returns-3 c = judged (search needs) (search tests)
 returns-4 : tie.Need-returns-4
 returns-4 c = judged (search needs) (search tests)
 
+shared-slice-read-result : tie.Need-shared-slice-read-result
+shared-slice-read-result c = search needs
+
 returns-5 : tie.Need-returns-5
 returns-5 c = judged (search needs) (search tests)
 
+returns-6 : tie.Need-returns-6
+returns-6 c = judged (search needs) (search tests)
+
 pub valid-spec : {M : Type 1} → statement M
 valid-spec =
-    tie.close (tie.spec returns shared-slice-read-first returns-2 returns-3 returns-4 returns-5)
+    tie.close (tie.spec returns shared-slice-read-first returns-2 returns-3 returns-4 shared-slice-read-result returns-5 returns-6)
