@@ -96,7 +96,7 @@ enum pondreszi_refusal {
     PONDRESZI_NO_END = 3,   /* the input ends before a bad codeblock, and no 2 */
     PONDRESZI_SHORT = 4,    /* frame below 8 octets, or fewer lent than its header says */
     PONDRESZI_FILL = 5,     /* more than 6 octets after the frame */
-    PONDRESZI_HEADER = 6,   /* version or spare not zero, or type (0,1) */
+    PONDRESZI_HEADER = 6,   /* version or spare not zero, type (0,1), or a type-B frame's sequence octet not zero */
     PONDRESZI_ADDRESS = 7,  /* spacecraft or virtual channel is not ours (frame or CLCW) */
     PONDRESZI_CHECK = 8,    /* the FECF differs */
     PONDRESZI_COMMAND = 9,  /* BC data is neither command */
@@ -172,6 +172,10 @@ enum pondreszi_frame_kind {
  * kind: enum pondreszi_frame_kind. value: N(S) of an AD frame, the value of Set V(R), otherwise 0. total: the octets of the frame.
  * field: the octets of its data field, which is octets[5 .. 5 + field]. All are 0 after a refusal.
  * Refusals, in this order: 4, 10, 4, 5, 8, 6, 7, 9.
+ *
+ * Document 01 said of the sequence octet, octets[4]: "Type-B frames are written with N(S) zero; on reading it isn't looked at." Document
+ * 02, order 10, amends this: "A type-B frame whose sequence octet isn't zero is now refusal 6, judged where 6 was judged, and so event
+ * E9." The types B are BD and BC, those with the Bypass Flag set. An AD frame may have any.
  */
 uint8_t pondreszi_frame_read(const uint8_t *octets, size_t len, uint32_t spacecraft, uint32_t channel, uint8_t *kind, uint8_t *value,
                              uint16_t *total, uint16_t *field);

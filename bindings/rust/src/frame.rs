@@ -155,9 +155,13 @@ pub struct Frame<'a> {
 
 /// Reads a frame of that spacecraft and channel, with up to 6 octets of fill behind it.
 ///
+/// Of a type-B frame (BD, Unlock, Set V(R)) the sequence octet, `octets[4]`, has to be zero. Document 01
+/// said "on reading it isn't looked at"; document 02, order 10, amends this: "A type-B frame whose
+/// sequence octet isn't zero is now refusal 6, judged where 6 was judged, and so event E9."
+///
 /// ```
 /// use pondreszi::frame::{self, Kind};
-/// use pondreszi::Refusal;
+/// use pondreszi::{coding, Refusal};
 ///
 /// let mut octets = frame::write_ad(42, 3, 17, b"unit")?;
 /// let read = frame::read(&octets, 42, 3)?;
@@ -166,6 +170,12 @@ pub struct Frame<'a> {
 /// assert_eq!(frame::read(&octets, 42, 4).unwrap_err().refusal, Refusal::Address);
 /// octets[5] ^= 1;
 /// assert_eq!(frame::read(&octets, 42, 3).unwrap_err().refusal, Refusal::Check);
+///
+/// let mut numbered = frame::write_bd(42, 3, b"unit")?;
+/// numbered.truncate(9);
+/// numbered[4] = 17;
+/// numbered.extend(coding::fecf(&numbered).to_be_bytes());
+/// assert_eq!(frame::read(&numbered, 42, 3).unwrap_err().refusal, Refusal::Header);
 /// # Ok::<(), pondreszi::Refused>(())
 /// ```
 pub fn read(octets: &[u8], spacecraft: u16, channel: u8) -> Result<Frame<'_>, Refused> {

@@ -24,7 +24,7 @@ numbered! {
         Short = 4,
         /// More than 6 octets after the frame.
         Fill = 5,
-        /// Version or spare not zero, or type (0,1).
+        /// Version or spare not zero, type (0,1), or a type-B frame's sequence octet not zero.
         Header = 6,
         /// Spacecraft or virtual channel is not ours, of a frame or a control word.
         Address = 7,

@@ -876,6 +876,7 @@ fn refusals() {
         (read(&bd[..7]), Refusal::Short),
         (read(&[&bd[..], &[0; 7]].concat()), Refusal::Fill),
         (read(&changed(0, 0x40)), Refusal::Header),
+        (read(&changed(4, 1)), Refusal::Header),
         (read(&changed(1, 2)), Refusal::Address),
         (read(&damaged), Refusal::Check),
         (read(&changed(0, 0x10)), Refusal::Command),

@@ -31,10 +31,11 @@ pub const READ: Operation = Operation {
     random: read_random,
 };
 
-/// Document 01, Limits, Refusals and Frame.
+/// Document 01, Limits, Refusals and Frame; document 02, order 10.
 fn read_fixed(tally: &mut Tally, fault: Fault) {
     three_frames(tally, fault);
     accepted(tally, fault);
+    each_number(tally, fault);
     one_rule_broken(tally, fault);
     two_rules_broken(tally, fault);
     each_bit_flipped(tally, fault);
@@ -126,28 +127,33 @@ fn three_frames(tally: &mut Tally, fault: Fault) {
     }
 }
 
-fn accepted(tally: &mut Tally, fault: Fault) {
-    for number in [1, 128, 255] {
-        let unlock = changed(&with_fecf(&UNLOCK), FRAME_SEQUENCE_NUMBER, number);
-        let set_vr = changed(&with_fecf(&SET_VR), FRAME_SEQUENCE_NUMBER, number);
-        let bd = changed(&bd_frame(&[7; 10]), FRAME_SEQUENCE_NUMBER, number);
-        let ad = changed(&bd_frame(&[7; 10]), BYPASS_FLAG, 0);
-        let ad = changed(&ad, FRAME_SEQUENCE_NUMBER, number);
-        read(&to_us(unlock), Some(done(BC_UNLOCK, 0, 8, 1)), tally, fault);
-        read(
-            &to_us(set_vr),
-            Some(done(BC_SET_VR, 5, 10, 3)),
-            tally,
-            fault,
-        );
-        read(&to_us(bd), Some(done(BD, 0, 17, 10)), tally, fault);
-        read(
-            &to_us(ad),
-            Some(done(AD, number as u8, 17, 10)),
-            tally,
-            fault,
-        );
+/// Every sequence octet. A type-B frame has zero there: the header's check, behind the FECF
+/// and before the address and the command. An AD frame has any.
+fn each_number(tally: &mut Tally, fault: Fault) {
+    let type_b = [
+        (with_fecf(&UNLOCK), done(BC_UNLOCK, 0, 8, 1)),
+        (with_fecf(&SET_VR), done(BC_SET_VR, 5, 10, 3)),
+        (bd_frame(&[7; 10]), done(BD, 0, 17, 10)),
+        (with_fecf(&NO_COMMAND), Read::refused(COMMAND)),
+    ];
+    let ad = changed(&bd_frame(&[7; 10]), BYPASS_FLAG, 0);
+    for number in 0..=255 {
+        for (frame, zero) in &type_b {
+            let frame = changed(frame, FRAME_SEQUENCE_NUMBER, number);
+            let (ours, others) = match number {
+                0 => (*zero, ADDRESS),
+                _ => (Read::refused(HEADER), HEADER),
+            };
+            read(&to_us(frame.clone()), Some(ours), tally, fault);
+            refused(to_others(frame.clone()), others, tally, fault);
+            refused(to_us(wrong_check(frame)), CHECK, tally, fault);
+        }
+        let ad = to_us(changed(&ad, FRAME_SEQUENCE_NUMBER, number));
+        read(&ad, Some(done(AD, number as u8, 17, 10)), tally, fault);
     }
+}
+
+fn accepted(tally: &mut Tally, fault: Fault) {
     let longest = to_us(bd_frame(&[7; 249]));
     read(&longest, Some(done(BD, 0, 256, 249)), tally, fault);
 }

@@ -22,9 +22,11 @@ pub enum Fault {
     PlaceOffByEight,
     /// A success clears the whole lent output first.
     TouchesAll,
-    /// The frame reader refuses a type-B frame whose N(S) is not zero: clause 6.2.2.9,
-    /// not document 01.
-    FrameNSOfTypeB,
+    /// The frame reader takes a type-B frame whatever its sequence octet: document 01
+    /// before document 02's order 10.
+    FrameNumberOfTypeBTaken,
+    /// The frame reader refuses an AD frame too where its sequence octet is not zero.
+    FrameNumberOfAdJudged,
     /// The frame reader judges the address before the FECF.
     FrameAddressBeforeCheck,
     /// The frame reader refuses every frame.
@@ -95,7 +97,7 @@ pub enum Fault {
 }
 
 /// The faults of the operations, by name.
-pub const FAULTS: [(&str, Fault); 16] = [
+pub const FAULTS: [(&str, Fault); 17] = [
     ("fill_zero", Fault::FillZero),
     ("randomizer_through", Fault::RandomizerThrough),
     ("randomizer_late", Fault::RandomizerLate),
@@ -105,7 +107,11 @@ pub const FAULTS: [(&str, Fault); 16] = [
     ("start_one_error", Fault::StartOneError),
     ("place_off_by_eight", Fault::PlaceOffByEight),
     ("touches_all", Fault::TouchesAll),
-    ("frame_n_s_of_type_b", Fault::FrameNSOfTypeB),
+    (
+        "frame_number_of_type_b_taken",
+        Fault::FrameNumberOfTypeBTaken,
+    ),
+    ("frame_number_of_ad_judged", Fault::FrameNumberOfAdJudged),
     ("frame_address_before_check", Fault::FrameAddressBeforeCheck),
     ("frame_refuses_all", Fault::FrameRefusesAll),
     ("frame_fill_seven", Fault::FrameFillSeven),

@@ -1,5 +1,5 @@
 //! The TC Transfer Frame: primary header, data field, FECF (clause 6.2.1), written and
-//! read by the rules of document 01.
+//! read by the rules of document 01, with document 02's order 10.
 
 use crate::bits::{self, Field};
 use crate::fault::Fault;
@@ -208,7 +208,13 @@ pub fn read(octets: &[u8], spacecraft: u32, channel: u32, fault: Fault) -> Read 
         return Read::refused(HEADER);
     }
     let number = bits::get(frame, FRAME_SEQUENCE_NUMBER) as u8;
-    if fault == Fault::FrameNSOfTypeB && bypass == 1 && number != 0 {
+    // Document 02, order 10: the sequence octet of a type-B frame is zero.
+    let zero_due = match fault {
+        Fault::FrameNumberOfTypeBTaken => false,
+        Fault::FrameNumberOfAdJudged => true,
+        _ => bypass == 1,
+    };
+    if zero_due && number != 0 {
         return Read::refused(HEADER);
     }
     if !ours {
@@ -420,12 +426,23 @@ mod tests {
         }
     }
 
-    // Document 01, Frame: on reading, N(S) of type-B frames isn't looked at.
+    // Document 02, order 10: 6, judged where 6 was judged, behind 8 and before 7 and 9.
     #[test]
-    fn number_of_type_b_is_not_judged() {
-        let bd = with_fecf(&[0x20, 0x01, 0x00, 0x07, 0x09, 0x01]);
-        let unlock = with_fecf(&[0x30, 0x01, 0x00, 0x07, 0xFF, 0x00]);
-        assert_eq!(read(&bd, 1, 0, Fault::None), done(BD, 0, 8, 1));
-        assert_eq!(read(&unlock, 1, 0, Fault::None), done(BC_UNLOCK, 0, 8, 1));
+    fn number_of_type_b() {
+        for number in 0..=255 {
+            let bd = with_fecf(&[0x20, 0x01, 0x00, 0x07, number, 0x01]);
+            let unlock = with_fecf(&[0x30, 0x01, 0x00, 0x07, number, 0x00]);
+            let no_command = with_fecf(&[0x30, 0x01, 0x00, 0x07, number, 0x01]);
+            for (mut frame, ours) in [(bd, DONE), (unlock, DONE), (no_command, COMMAND)] {
+                for (spacecraft, zero) in [(1, ours), (2, ADDRESS)] {
+                    let due = if number == 0 { zero } else { HEADER };
+                    assert_eq!(read(&frame, spacecraft, 0, Fault::None).number, due);
+                }
+                frame[7] ^= 1;
+                assert_eq!(read(&frame, 1, 0, Fault::None).number, CHECK);
+            }
+            let ad = with_fecf(&[0x00, 0x01, 0x00, 0x07, number, 0x01]);
+            assert_eq!(read(&ad, 1, 0, Fault::None), done(AD, number, 8, 1));
+        }
     }
 }

@@ -207,7 +207,8 @@ fn damaged_and_repaired(random: &mut Random) -> Input {
     input
 }
 
-/// A wrong version or spare, or type (0,1), and the FECF right.
+/// A wrong version or spare, type (0,1), or a type-B frame's sequence octet not zero, and
+/// the FECF right.
 fn wrong_header(random: &mut Random) -> Input {
     let mut input = whole(random);
     break_header(&mut input.octets, random);
@@ -216,12 +217,16 @@ fn wrong_header(random: &mut Random) -> Input {
 }
 
 fn break_header(octets: &mut [u8], random: &mut Random) {
-    match random.below(4) {
+    match random.below(5) {
         0 => change(octets, VERSION_NUMBER, random.between(1, 3)),
         1 => change(octets, RESERVED_SPARE, random.between(1, 3)),
         2 => {
             change(octets, BYPASS_FLAG, 0);
             change(octets, CONTROL_COMMAND_FLAG, 1);
+        }
+        3 => {
+            change(octets, BYPASS_FLAG, 1);
+            change(octets, FRAME_SEQUENCE_NUMBER, random.between(1, 255));
         }
         _ => {
             change(octets, VERSION_NUMBER, random.below(4));
@@ -267,7 +272,8 @@ fn wrong_command(random: &mut Random) -> Input {
     input
 }
 
-/// A type-B frame of which N(S) is mostly not zero, and the FECF right.
+/// A type-B frame of which the sequence octet is mostly not zero, and the FECF right; now
+/// and then to another address, and of the BC frames some with no command.
 fn numbered_type_b(random: &mut Random) -> Input {
     let length = unit_length(random);
     let contents = [
@@ -279,7 +285,13 @@ fn numbered_type_b(random: &mut Random) -> Input {
             value: random.between(0, 255) as u32,
         },
     ];
-    let mut input = sent(random.pick(&contents), random);
+    let mut input = match random.below(4) {
+        0 => wrong_command(random),
+        _ => sent(random.pick(&contents), random),
+    };
+    if random.once_in(4) {
+        break_address(&mut input, random);
+    }
     change(&mut input.octets, FRAME_SEQUENCE_NUMBER, random.below(256));
     repair(&mut input.octets);
     input.octets.extend(noise(random, 6));
