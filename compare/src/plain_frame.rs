@@ -163,6 +163,10 @@ fn read_told(
     if octets[0] & 0xCC != 0 || octets[0] & 0x30 == 0x10 {
         return HEADER;
     }
+    // The sequence octet of a type-B frame, one with bypass, is zero.
+    if octets[0] & 0x20 != 0 && octets[4] != 0 {
+        return HEADER;
+    }
     let addressed = u32::from(octets[0] & 0x03) << 8 | u32::from(octets[1]);
     if addressed != spacecraft || u32::from(octets[2] >> 2) != channel {
         return ADDRESS;
