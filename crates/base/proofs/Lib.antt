@@ -7,3 +7,4 @@ pub mod Xor
 pub mod Register
 pub mod Table
 pub mod Division
+pub mod Distance

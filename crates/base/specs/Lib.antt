@@ -7,3 +7,4 @@ pub mod Flags
 pub mod Polynomial
 pub mod Register
 pub mod Modulo
+pub mod Distance
