@@ -5,3 +5,4 @@ pub mod RoundTrip
 pub mod Sound
 pub mod Examples
 pub mod Refuted
+pub mod Start

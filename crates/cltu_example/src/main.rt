@@ -15,17 +15,19 @@ fn main() {
     damage(sent);
 }
 
-// The same CLTU with one bit of its first codeblock flipped, cut before its tail sequence, and with its start sequence
-// broken; then whole, but read into too short an output.
+// The same CLTU with one bit of its first codeblock flipped, cut before its tail sequence, and with one and then two wrong bits in its
+// start sequence; then whole, but read into too short an output.
 fn damage(sent: [u8; 26]) {
     let mut back = [0u8; 14];
     let mut flipped = sent;
     flipped[2] ^= 0x01;
     read(b"one bit flipped     ", &flipped, &mut back);
     read(b"cut before the tail ", &sent[0..18], &mut back);
-    let mut broken = sent;
-    broken[0] ^= 0x01;
-    read(b"start broken        ", &broken, &mut back);
+    let mut wrong = sent;
+    wrong[0] ^= 0x01;
+    read(b"start, 1 wrong bit  ", &wrong, &mut back);
+    wrong[1] ^= 0x01;
+    read(b"start, 2 wrong bits ", &wrong, &mut back);
     let mut short = [0u8; 13];
     read(b"room for 13 octets  ", &sent, &mut short);
 }
