@@ -91,7 +91,7 @@ extern "C" {
 
 enum pondreszi_refusal {
     PONDRESZI_DONE = 0,
-    PONDRESZI_NO_START = 1, /* no start sequence in the input */
+    PONDRESZI_NO_START = 1, /* no start sequence in the input, not even with one wrong bit */
     PONDRESZI_NO_BLOCK = 2, /* the first codeblock is bad */
     PONDRESZI_NO_END = 3,   /* the input ends before a bad codeblock, and no 2 */
     PONDRESZI_SHORT = 4,    /* frame below 8 octets, or fewer lent than its header says */
@@ -127,14 +127,16 @@ uint8_t pondreszi_randomizer_octet(uint64_t place);
 uint8_t pondreszi_cltu_write(const uint8_t *frame, size_t frame_len, uint8_t *output, size_t output_len, uint64_t *count);
 
 /*
- * Reads the first CLTU in up to 4,096 octets, hunting for its start sequence at octet boundaries. The decoded octets, fill included, go
- * to the front of the output: count of them. They can be handed to pondreszi_frame_read or pondreszi_receiver_frame as they are.
+ * Reads the first CLTU in up to 4,096 octets, hunting for its start sequence at octet boundaries: the first place that differs from EB 90 in
+ * at most one bit counts. The decoded octets, fill included, go to the front of the output: count of them. They can be handed to
+ * pondreszi_frame_read or pondreszi_receiver_frame as they are.
  *
  * place: where reading ended. Done: the offset of the codeblock that ended it (the tail); go on behind it for the next CLTU. Refusal 1:
  * the input's length; 2: the offset of the bad codeblock; 3: the offset where the next codeblock would begin. Otherwise 0.
  * corrected: the count of corrected codeblocks, 0 for now.
  *
- * After refusal 2 noise may have held a false start sequence: call again with the octets from place on.
+ * An earlier near match hides a later exact one: EA 90 before a whole CLTU is refusal 2 at place 2. 4,096 octets of noise hold about one
+ * such match, so refusal 2 is the usual answer to noise: call again with the octets from place on.
  * Refusals: 10 input over 4,096 octets, 1, 2, 3, 11 output too short.
  */
 uint8_t pondreszi_cltu_read(const uint8_t *input, size_t input_len, uint8_t *output, size_t output_len, uint64_t *count,

@@ -75,10 +75,11 @@ pub struct DecodedInto {
     pub corrected: u64,
 }
 
-/// Reads the first CLTU in up to 4,096 octets.
+/// Reads the first CLTU in up to 4,096 octets. The first place at an octet boundary that
+/// differs from EB 90 in at most one bit counts.
 ///
-/// After `NoBlock` noise may have held a false start sequence: read again from the place
-/// on.
+/// An earlier near match hides a later exact one. 4,096 octets of noise hold about one
+/// such match, so `NoBlock` is the usual answer to noise: read again from the place on.
 ///
 /// ```
 /// use pondreszi::{cltu, Refusal};
@@ -89,6 +90,9 @@ pub struct DecodedInto {
 /// assert_eq!(decoded.octets[..8], [7; 8]);
 /// assert_eq!(decoded.octets.len(), 14);
 /// assert_eq!(decoded.place, 3 + 2 + 16);
+///
+/// octets[3] ^= 1;
+/// assert_eq!(cltu::read(&octets)?, decoded);
 ///
 /// octets[5] ^= 1;
 /// let refused = cltu::read(&octets).unwrap_err();

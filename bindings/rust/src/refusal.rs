@@ -14,7 +14,7 @@ numbered! {
     /// assert_eq!(Refusal::from_number(0), None);
     /// ```
     Refusal {
-        /// No start sequence in the input.
+        /// No start sequence in the input, not even with one wrong bit.
         NoStart = 1,
         /// The first codeblock is bad.
         NoBlock = 2,

@@ -62,7 +62,7 @@ use independent::farm1::{Arrival, Farm1};
 use independent::fault::Fault;
 use independent::fop1::{self, Sender, STORE, UNIT_MOST};
 use independent::frame::{self, Content};
-use independent::refusal::DONE;
+use independent::refusal::{DONE, NO_START};
 use library::{Received, SenderEvent, SenderMemory, SenderSettings};
 use octets::{SenderState, ANSWER, RECEIVER_STATE, SENDER_STATE};
 use random::Random;
@@ -258,6 +258,35 @@ fn longest_input(seed: usize) -> Vec<u8> {
     input.extend(TAIL_SEQUENCE);
     input.resize(INPUT, 0);
     input
+}
+
+/// Random octets up to the limit, in which nothing is within one bit of a start sequence.
+fn without_start(seed: usize) -> Vec<u8> {
+    let mut input = sample(seed, INPUT);
+    let start = u16::from_be_bytes(START_SEQUENCE);
+    for place in 1..INPUT {
+        let sixteen = u16::from_be_bytes([input[place - 1], input[place]]);
+        if (sixteen ^ start).count_ones() <= 1 {
+            // The second octet is then two bits away.
+            input[place] = 0;
+        }
+    }
+    input
+}
+
+/// Hunting through a whole input, in vain.
+fn cltu_hunt() -> Row {
+    let inputs = samples(without_start);
+    for input in &inputs {
+        assert!(cltu::read(input, &mut [], Fault::None).number == NO_START);
+    }
+    plain(
+        "CLTU read, 4,096 octets without a start sequence",
+        inputs,
+        0,
+        |input, output| library::cltu_read(input, output),
+        |input, output| cltu::read(input, output, Fault::None),
+    )
 }
 
 fn cltu_write() -> Row {
@@ -764,6 +793,7 @@ fn main() {
             longest,
             CODEBLOCKS,
         ),
+        cltu_hunt(),
         frame_write(),
         frame_read(),
     ];

@@ -25,7 +25,7 @@ pub const READ: Operation = Operation {
     random: read_random,
 };
 
-/// Document 01, Limits, Refusals and Codeblock and CLTU.
+/// Document 01, Limits, Refusals and Codeblock and CLTU, as document 02, order 2, amends them.
 fn read_fixed(tally: &mut Tally, fault: Fault) {
     let codeblock = inputs::cltu::with_error_control(&[0; 7]);
     let start_and_tail = [&START_SEQUENCE[..], &TAIL_SEQUENCE].concat();
@@ -33,13 +33,19 @@ fn read_fixed(tally: &mut Tally, fault: Fault) {
     let whole = [&one_codeblock[..], &TAIL_SEQUENCE].concat();
     let longest = [&whole[..], &[0; 4096 - 18]].concat();
     let too_long = [&longest[..], &[0]].concat();
+    let hidden = [&[0xEA, 0x90][..], &whole].concat();
 
-    let fixed: [(&[u8], usize, u8, u64, u64); 14] = [
+    let fixed: [(&[u8], usize, u8, u64, u64); 19] = [
         (&[], 0, NO_START, 0, 0),
         (&[0xEB], 20, NO_START, 0, 1),
         (&[0; 4096], 20, NO_START, 0, 4096),
         (&START_SEQUENCE, 20, NO_END, 0, 2),
         (&[0xEB, 0xEB, 0x90], 20, NO_END, 0, 3),
+        (&[0xEB, 0x91], 20, NO_END, 0, 2),
+        (&[0xEA, 0x91], 20, NO_START, 0, 2),
+        (&[0xEB, 0x93], 20, NO_START, 0, 2),
+        (&[0xE8, 0x90], 20, NO_START, 0, 2),
+        (&hidden, 20, NO_BLOCK, 0, 2),
         (&start_and_tail[..9], 20, NO_END, 0, 2),
         (&start_and_tail, 20, NO_BLOCK, 0, 2),
         (&one_codeblock, 20, NO_END, 0, 10),
@@ -59,6 +65,46 @@ fn read_fixed(tally: &mut Tally, fault: Fault) {
             corrected: 0,
         };
         read(input, buffer, Some(paper), tally, fault);
+    }
+    near_starts(&whole, tally, fault);
+}
+
+/// A CLTU of one codeblock behind zeros, at every offset up to 16 and at the last that its
+/// start sequence can have, with each bit and each two bits of its start sequence in error:
+/// with one it is read as if there were none, with two there is no start sequence.
+fn near_starts(whole: &[u8], tally: &mut Tally, fault: Fault) {
+    let last = 4096 - START_SEQUENCE.len();
+    for offset in (0..=16).chain([last]) {
+        let mut input = vec![0; offset];
+        input.extend(whole);
+        input.truncate(4096);
+        let behind = offset as u64 + START_SEQUENCE.len() as u64;
+        let as_whole = if offset == last {
+            (NO_END, 0, behind)
+        } else {
+            (DONE, 7, behind + 8)
+        };
+        for bit in 0..16 {
+            for other in 0..=bit {
+                let mask: u16 = 1 << bit | 1 << other;
+                let [first, second] = mask.to_be_bytes();
+                let mut flipped = input.clone();
+                flipped[offset] ^= first;
+                flipped[offset + 1] ^= second;
+                let (number, count, place) = if bit == other {
+                    as_whole
+                } else {
+                    (NO_START, 0, input.len() as u64)
+                };
+                let paper = Read {
+                    number,
+                    count,
+                    place,
+                    corrected: 0,
+                };
+                read(&flipped, vec![0xA5; 7], Some(paper), tally, fault);
+            }
+        }
     }
 }
 

@@ -1,5 +1,5 @@
 //! The CLTU: start sequence, codeblocks, tail sequence (clause 8.3.1),
-//! written and read by the rules of document 01.
+//! written and read by the rules of document 01, as document 02 amends them.
 
 use crate::bits;
 use crate::codeblock::{self, CODEBLOCK_BITS, INFORMATION_BITS};
@@ -111,28 +111,26 @@ pub fn read(input: &[u8], output: &mut [u8], fault: Fault) -> Read {
     }
 }
 
-/// The bit at which the first start sequence begins: sixteen bits equal to it, at an
-/// octet boundary (document 01, Codeblock and CLTU).
+/// The bit at which the first start sequence begins: sixteen bits at an octet boundary, of
+/// which at most one differs from it (clause 8.3.2; document 02, order 2).
 fn find_start_sequence(received: &[bool], fault: Fault) -> Option<usize> {
-    if fault == Fault::RefusesAll {
-        return None;
-    }
+    let most_errors = match fault {
+        Fault::RefusesAll => return None,
+        Fault::StartExact => 0,
+        Fault::StartTwoErrors => 2,
+        _ => 1,
+    };
     let pattern = bits::from_octets(&START_SEQUENCE);
     let mut first = 0;
     while first + pattern.len() <= received.len() {
         let sixteen = &received[first..first + pattern.len()];
-        if sixteen == pattern {
+        let errors = sixteen
+            .iter()
+            .zip(&pattern)
+            .filter(|(one, other)| one != other)
+            .count();
+        if errors <= most_errors {
             return Some(first);
-        }
-        if fault == Fault::StartOneError {
-            let errors = sixteen
-                .iter()
-                .zip(&pattern)
-                .filter(|(one, other)| one != other)
-                .count();
-            if errors == 1 {
-                return Some(first);
-            }
         }
         first += 8;
     }
@@ -268,6 +266,38 @@ mod tests {
             assert_eq!(output, [0xAA; 20]);
         }
         let (answer, _) = read_into(&long[..4096], 20);
+        assert_eq!((answer.number, answer.place), (DONE, 18));
+    }
+    /// The CLTU with the bits of a mask flipped in its start sequence.
+    fn flipped(whole: &[u8], mask: u16) -> Vec<u8> {
+        let mut input = whole.to_vec();
+        input[0] ^= (mask >> 8) as u8;
+        input[1] ^= mask as u8;
+        input
+    }
+
+    // Document 02, order 2; clause 8.3.2.
+    #[test]
+    fn one_wrong_bit_of_the_start_sequence() {
+        let whole = written(8);
+        let as_written = read_into(&whole, 20);
+        assert_eq!(as_written.0.number, DONE);
+        for bit in 0..16 {
+            assert_eq!(read_into(&flipped(&whole, 1 << bit), 20), as_written);
+            for other in 0..bit {
+                let (answer, _) = read_into(&flipped(&whole, 1 << bit | 1 << other), 20);
+                assert_eq!(answer, refuse(NO_START, 8 * whole.len()));
+            }
+        }
+    }
+
+    // Document 02, order 2: "An earlier near match hides a later exact one".
+    #[test]
+    fn a_near_match_hides_an_exact_one() {
+        let input = [&[0xEA, 0x90][..], &written(8)].concat();
+        let (answer, _) = read_into(&input, 20);
+        assert_eq!(answer, refuse(NO_BLOCK, 8 * 2));
+        let (answer, _) = read_into(&input[2..], 20);
         assert_eq!((answer.number, answer.place), (DONE, 18));
     }
 }

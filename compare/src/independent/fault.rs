@@ -16,8 +16,10 @@ pub enum Fault {
     FillerIgnored,
     /// The reader finds no start sequence in any input.
     RefusesAll,
-    /// A start sequence may have one bit in error: clause 8.3.2, not document 01.
-    StartOneError,
+    /// A start sequence has no bit in error: document 01 before order 2 of document 02.
+    StartExact,
+    /// A start sequence may have two bits in error.
+    StartTwoErrors,
     /// The reader's place is eight octets beyond the bad codeblock.
     PlaceOffByEight,
     /// A success clears the whole lent output first.
@@ -104,7 +106,8 @@ pub const FAULTS: [(&str, Fault); 17] = [
     ("parity_plain", Fault::ParityPlain),
     ("filler_ignored", Fault::FillerIgnored),
     ("refuses_all", Fault::RefusesAll),
-    ("start_one_error", Fault::StartOneError),
+    ("start_exact", Fault::StartExact),
+    ("start_two_errors", Fault::StartTwoErrors),
     ("place_off_by_eight", Fault::PlaceOffByEight),
     ("touches_all", Fault::TouchesAll),
     (

@@ -38,7 +38,24 @@ fn good_codeblock(random: &mut Random) -> Vec<u8> {
     with_error_control(&information)
 }
 
-const KINDS: [Kind<Vec<u8>>; 14] = [
+/// The start sequence with so many bits in error.
+fn wrong_start(random: &mut Random, errors: usize) -> [u8; 2] {
+    let mut bits = bits::from_octets(&START_SEQUENCE);
+    let right = bits.clone();
+    while bits
+        .iter()
+        .zip(&right)
+        .filter(|(one, other)| one != other)
+        .count()
+        < errors
+    {
+        let place = random.below(bits.len());
+        bits[place] = !right[place];
+    }
+    bits::to_octets(&bits).try_into().unwrap()
+}
+
+const KINDS: [Kind<Vec<u8>>; 15] = [
     (14, surrounded),
     (14, damaged),
     (10, cut_short),
@@ -48,6 +65,7 @@ const KINDS: [Kind<Vec<u8>>; 14] = [
     (6, biased_noise),
     (8, wrong_filler),
     (5, damaged_start),
+    (8, near_places),
     (2, off_the_boundary),
     (18, run_of_codeblocks),
     (2, about_the_limit),
@@ -134,13 +152,15 @@ fn only_noise(random: &mut Random) -> Vec<u8> {
     noise(random, 200)
 }
 
-/// Noise in which EB and 90 are frequent.
+/// Noise in which EB and 90 are frequent, with and without a bit in error.
 fn biased_noise(random: &mut Random) -> Vec<u8> {
     let mut input = noise(random, 100);
     for octet in input.iter_mut() {
         match random.below(16) {
             0 | 1 => *octet = 0xEB,
             2 | 3 => *octet = 0x90,
+            4 => *octet = 0xEB ^ 1 << random.below(8),
+            5 => *octet = 0x90 ^ 1 << random.below(8),
             _ => {}
         }
     }
@@ -157,12 +177,32 @@ fn wrong_filler(random: &mut Random) -> Vec<u8> {
     input
 }
 
-/// A CLTU with one bit of the start sequence in error, alone or before a whole one.
+/// A CLTU with bits of the start sequence in error, alone or before a whole one.
 fn damaged_start(random: &mut Random) -> Vec<u8> {
     let mut input = whole_cltu(random);
-    random.flip_a_bit(&mut input[..START_SEQUENCE.len()]);
+    let errors = *random.pick(&[1, 1, 2, 2, 3]);
+    input[..START_SEQUENCE.len()].copy_from_slice(&wrong_start(random, errors));
     if random.once_in(2) {
         input.extend(whole_cltu(random));
+    }
+    input
+}
+
+/// Start sequences with up to three bits in error at any offset, one over the other too, and
+/// perhaps a CLTU behind them.
+fn near_places(random: &mut Random) -> Vec<u8> {
+    let length = random.between(START_SEQUENCE.len(), 40);
+    let mut input = random.octets(length);
+    for _ in 0..random.between(1, 6) {
+        let errors = *random.pick(&[0, 1, 1, 2, 2, 2, 2, 3]);
+        let offset = random.between(0, length - START_SEQUENCE.len());
+        input[offset..offset + START_SEQUENCE.len()].copy_from_slice(&wrong_start(random, errors));
+    }
+    if random.once_in(2) {
+        let mut end = whole_cltu(random);
+        let errors = *random.pick(&[0, 1, 2]);
+        end[..START_SEQUENCE.len()].copy_from_slice(&wrong_start(random, errors));
+        input.extend(end);
     }
     input
 }
