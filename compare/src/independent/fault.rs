@@ -99,7 +99,7 @@ pub enum Fault {
 }
 
 /// The faults of the operations, by name.
-pub const FAULTS: [(&str, Fault); 17] = [
+pub const FAULTS: [(&str, Fault); 18] = [
     ("fill_zero", Fault::FillZero),
     ("randomizer_through", Fault::RandomizerThrough),
     ("randomizer_late", Fault::RandomizerLate),

@@ -4,7 +4,7 @@
 -- (`no-start-given`, `no-start-only`). That the first near place hides an exact one behind it: Refuted, `start-exact`.
 use mathlib.Core.Path.{_≡_, refl, sym, ap, ap₂, _∙_}
 use mathlib.Core.Bool.{false}
-use mathlib.Core.List.{List, [], _∷_, _++_, append-assoc}
+use mathlib.Core.List.{List, [], _∷_, _++_}
 use Prim.Native.Nat.{ℕ, _+_, _*_, _/_, _%_, _^_, _<_, _≤_}
 use native.Mathlib.Omega.{arith}
 use borrow.Author.Tests.{leb-true, ltb-true}
@@ -14,7 +14,7 @@ use lib.ListN.{length, drop, length-append}
 use lib.Seq.{drop-at, drop-append-add}
 use Rattle.base.specs.Choice.{must}
 use Rattle.base.specs.Limits.{largestInput}
-use Rattle.base.specs.Octets.{Octets, bitsOf, octetBits}
+use Rattle.base.specs.Octets.{bitsOf, octetBits}
 use Rattle.base.specs.Distance.{differing, wrongBits}
 use Rattle.base.specs.Outcome.{Outcome, Outcome.done, Outcome.refused}
 use Rattle.base.proofs.Computed.{below, is-true}
@@ -23,10 +23,10 @@ use Rattle.codeblock.specs.declared.Judged.{Judged}
 use Rattle.start_sequence.specs.StartSequence.{startSequence, starts, startOf, Received}
 use Rattle.start_sequence.proofs.Search.{first-near, sequence-received, none-earlier, none-found}
 use Rattle.cltu.specs.Cltu.{codeblocks, filled, cltuOf, Found, readingAfter, readingBy, reading}
-use Rattle.cltu.proofs.Judge.{Judge, detects}
+use Rattle.cltu.proofs.Judge.{Judge}
 use Rattle.cltu.proofs.Outcomes.{reading-none}
 use Rattle.cltu.proofs.RoundTrip.{round-trip-by}
-use Rattle.cltu.proofs.Sound.{Case, CaseBy.too-long, CaseBy.no-start, CaseBy.no-block, CaseBy.no-end, CaseBy.no-room, CaseBy.read, cases}
+use Rattle.cltu.proofs.Sound.{CaseBy, CaseBy.too-long, CaseBy.no-start, CaseBy.no-block, CaseBy.no-end, CaseBy.no-room, CaseBy.read, cases-by}
 
 -- reading goes by the length, the place of the start sequence and what is behind it
 abbrev by : (List ℕ → Judged) → ℕ → ℕ → ℕ → List ℕ → Outcome Found
@@ -86,20 +86,21 @@ unfolding cltuOf
 round-trip-received judge laws before octets frame behind room received none l h r =
     received-start judge before octets (drop 2 (cltuOf frame) ++ behind) room received none ∙ round-trip-by before frame behind room laws none l h r
 
--- refusal 1 where nothing starts
-pub no-start-given : (input : List ℕ) (room : ℕ) → length input ≤ largestInput → ((i : ℕ) → i < length input → starts (drop i input) ≡ false)
-    → reading input room ≡ refused 1 (length input)
-no-start-given input room h none = reading-none judged input room h (omega (arith, none-found input none))
+-- refusal 1 where nothing starts, and only there
+module _ (judge : List ℕ → Judged) (input : List ℕ) (room : ℕ) where
+  pub no-start-given : length input ≤ largestInput → ((i : ℕ) → i < length input → starts (drop i input) ≡ false)
+      → readingBy judge input room ≡ refused 1 (length input)
+  no-start-given h none = reading-none judge input room h (omega (arith, none-found input none))
 
--- and only there
-pub no-start-only : (input : List ℕ) (room place : ℕ) → reading input room ≡ refused 1 place
-    → (place ≡ length input) × ((i : ℕ) → i < length input → starts (drop i input) ≡ false)
-no-start-only input room place e = go (cases input room)
-  where
-    go : Case input room → (place ≡ length input) × ((i : ℕ) → i < length input → starts (drop i input) ≡ false)
-    go (too-long a r) = absurd (let z : _≡_ {A = ℕ} 1 10 = cc in omega arith)
-    go (no-start a b r) = (cc, λ i h. none-earlier input i (omega arith))
-    go (no-block a b c d r) = absurd (let z : _≡_ {A = ℕ} 1 2 = cc in omega arith)
-    go (no-end a b c r) = absurd (let z : _≡_ {A = ℕ} 1 3 = cc in omega arith)
-    go (no-room a b c d g r) = absurd (let z : _≡_ {A = ℕ} 1 11 = cc in omega arith)
-    go (read a b c d g r) = absurd (let z : _≡_ {A = ℕ} 0 1 = cc in omega arith)
+  pub no-start-only : (place : ℕ) → readingBy judge input room ≡ refused 1 place
+      → (length input ≤ largestInput) × (place ≡ length input) × ((i : ℕ) → i < length input → starts (drop i input) ≡ false)
+  no-start-only place e = go (cases-by judge input room)
+    where
+      go : {corrected : ℕ} → CaseBy judge corrected input room
+          → (length input ≤ largestInput) × (place ≡ length input) × ((i : ℕ) → i < length input → starts (drop i input) ≡ false)
+      go (too-long a r) = absurd (let z : _≡_ {A = ℕ} 1 10 = cc in omega arith)
+      go (no-start a b r) = (a, cc, λ i h. none-earlier input i (omega arith))
+      go (no-block a b c d r) = absurd (let z : _≡_ {A = ℕ} 1 2 = cc in omega arith)
+      go (no-end a b c r) = absurd (let z : _≡_ {A = ℕ} 1 3 = cc in omega arith)
+      go (no-room a b c d g r) = absurd (let z : _≡_ {A = ℕ} 1 11 = cc in omega arith)
+      go (read a b c d g r) = absurd (let z : _≡_ {A = ℕ} 0 1 = cc in omega arith)

@@ -1,5 +1,6 @@
--- The search for the first start sequence: one step of it as the loop takes it (`search-on`, `search-found`), and what is known of
--- where it ends (`start-room`, `found-starts`, `first-start`).
+-- The search for the first start sequence: one step of it as the loop takes it (`search-on`, `search-found`), and what is known of where it
+-- ends: a start sequence stands there, whole, and none earlier (`found-starts`, `start-room`, `none-earlier`, `none-found`); one that stands
+-- behind octets that hold none, at most one bit of it wrong, is the one found (`first-near`, `first-start`).
 use mathlib.Core.Path.{_≡_, refl, sym, ap, _∙_}
 use mathlib.Core.Bool.{Bool, true, false}
 use mathlib.Core.List.{List, [], _∷_, _++_}
@@ -10,9 +11,9 @@ use native.Mathlib.Omega.{arith}
 use lib.ListN.{length, drop}
 use lib.Seq.{drop-cons}
 use Rattle.base.specs.Choice.{pick}
-use Rattle.base.proofs.Tests.{apart, yes, no}
 use Rattle.base.specs.Octets.{bitsOf, octetBits}
 use Rattle.base.specs.Distance.{differing, wrongBits}
+use Rattle.base.proofs.Tests.{apart, yes, no}
 use Rattle.start_sequence.specs.StartSequence.{startSequence, starts, startOf, Received}
 use Rattle.start_sequence.proofs.Starts.{near-starts, none-before, starts-two, starts-one}
 
@@ -90,16 +91,7 @@ sequence-received = record { two = refl; within = (omega arith, (omega arith, tt
 pub first-start : (before behind : List ℕ) → startOf before ≡ length before → startOf (before ++ (startSequence ++ behind)) ≡ length before
 first-start before behind h = first-near before startSequence behind sequence-received h
 
--- nothing starts before the place found, and the length is found exactly where nothing starts
-pub start-le : (s : List ℕ) → startOf s ≤ length s
-unfolding startOf
-start-le [] = omega arith
-start-le (x ∷ xs) = go (starts (x ∷ xs)) (start-le xs)
-  where
-    go : (b : Bool) → startOf xs ≤ length xs → pick b 0 (suc (startOf xs)) ≤ suc (length xs)
-    go true h = omega arith
-    go false h = omega arith
-
+-- nothing starts before the place found; where nothing starts, the length is found
 pub none-earlier : (s : List ℕ) (i : ℕ) → i < startOf s → starts (drop i s) ≡ false
 unfolding startOf
 none-earlier [] i h = absurd (not-suc-le-zero h)

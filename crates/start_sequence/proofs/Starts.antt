@@ -3,7 +3,7 @@
 -- of both, and what stands within one bit of the start sequence does not start an octet earlier (`none-before`).
 use mathlib.Core.Path.{_≡_, refl, sym, ap, ap₂, _∙_}
 use mathlib.Core.Bool.{true, false}
-use mathlib.Core.List.{List, [], _∷_, _++_}
+use mathlib.Core.List.{List, [], _∷_}
 use Prim.Native.Nat.{ℕ, suc, _+_, _*_, _<_, _≤_}
 use native.Mathlib.Nat.{add-zero}
 use native.Mathlib.Numerals.{add-one}
@@ -12,13 +12,13 @@ use borrow.Author.Tests.{le-leb, lt-leb, leb-true}
 use lib.Bits.{bitXor, xor-block, xor-lt}
 use lib.Count.{ones, onesIn, ones-cat}
 use lib.Dec.{eqb, eqb→eq, leb}
-use lib.ListN.{length, take, drop, getD, drop-of-length-le}
+use lib.ListN.{length, drop, getD, drop-of-length-le}
 use lib.Seq.{drop-cons}
 use Rattle.base.specs.Octets.{bitsOf, octetBits}
 use Rattle.base.specs.Distance.{differing, wrongBits}
 use Rattle.base.proofs.Computed.{below, is-true}
 use Rattle.base.proofs.Distance.{wrong-octet}
-use Rattle.start_sequence.specs.StartSequence.{startSequence, recognized, starts, Received}
+use Rattle.start_sequence.specs.StartSequence.{startSequence, recognized, starts}
 
 -- how many bits of an octet received are wrong, of the first octet and of the second
 abbrev first : ℕ → ℕ
@@ -43,10 +43,6 @@ starts-two x y s t = starts-wrong x y s ∙ sym (starts-wrong x y t)
 pub starts-one : (x : ℕ) → starts (x ∷ []) ≡ false
 unfolding starts recognized octetBits bitsOf
 starts-one x = refl
-
-pub starts-none : starts [] ≡ false
-unfolding starts recognized octetBits
-starts-none = refl
 
 -- what is within one bit starts
 pub near-starts : (x y : ℕ) (s : List ℕ) → wrongBits startSequence (x ∷ y ∷ []) ≤ 1 → starts (x ∷ y ∷ s) ≡ true
