@@ -280,7 +280,7 @@ fn cltu_hunt() -> Row {
     for input in &inputs {
         assert!(cltu::read(input, &mut [], Fault::None).number == NO_START);
     }
-    plain(
+    stateless(
         "CLTU read, 4,096 octets without a start sequence",
         inputs,
         0,

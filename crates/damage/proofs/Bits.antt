@@ -10,7 +10,7 @@ use Rattle.base.specs.Octets.{Bits, Octets, bitsOf, octetBits}
 use Rattle.base.proofs.Fields.{octet-digits, bits-digits, value-field, length-bits}
 use Rattle.base.proofs.Lists.{below-append}
 use Rattle.base.proofs.Xor.{xor-equal}
-use Rattle.damage.specs.Damage.{differing, wrongBits}
+use Rattle.base.specs.Distance.{differing, wrongBits}
 
 pub bits-octet : (o : ℕ) → o < 256 → Bits (bitsOf 8 o)
 bits-octet o h = subst Bits (sym (octet-digits o h)) (bits-digits 8 o)

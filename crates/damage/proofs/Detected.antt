@@ -22,7 +22,7 @@ use Rattle.codeblock.specs.Codeblock.{generator, parity, errorControl, codebloc
 use Rattle.codeblock.proofs.Codeblock.{length-codeblock, good-is, bad-judged}
 use Rattle.cltu.specs.Cltu.{tailSequence}
 use Rattle.cltu.proofs.Judge.{detects}
-use Rattle.damage.specs.Damage.{differing, wrongBits}
+use Rattle.base.specs.Distance.{differing, wrongBits}
 use Rattle.damage.proofs.Bits.{bits-octets, none-differing, none-wrong}
 use Rattle.damage.proofs.Columns.{total, total-good, sum, columns, total-columns}
 

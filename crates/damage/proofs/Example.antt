@@ -7,7 +7,7 @@ use Prim.Native.Nat.{ℕ, zero, suc, _*_, _<_, _≤_}
 use native.Mathlib.Omega.{arith}
 use borrow.Author.Tests.{ltb-true, ltb-false, leb-true}
 use lib.Bits.{bitXor, xor-lt}
-use lib.Dec.{T, ltb, leb}
+use lib.Dec.{T, ltb, leb, leb→le}
 use lib.ListN.{length, take, drop, getD, set, replicate, length-set, length-drop, drop-of-length-le}
 use Rattle.base.specs.Octets.{Octets, bitsOf, octetBits}
 use Rattle.base.specs.Outcome.{answer, numberOf, countOf}
@@ -17,12 +17,14 @@ use Rattle.base.proofs.Lists.{octets-at, below-set}
 use Rattle.base.proofs.Tests.{apart}
 use Rattle.codeblock.specs.Codeblock.{parity, errorControl, codeblockOf, bad, judged, isGood}
 use Rattle.randomizer.specs.Randomizer.{nextBit, later, octet, randomized}
-use Rattle.start_sequence.specs.StartSequence.{starts, startOf}
+use Rattle.start_sequence.specs.StartSequence.{recognized, starts, startOf, Received}
+use Rattle.start_sequence.proofs.Search.{sequence-received}
 use Rattle.encoded_data.specs.EncodedData.{goodRun, informationIn, correctedIn}
 use Rattle.cltu.specs.Cltu.{filled, encoded, informationFor, cltuOf, tailSequence, readingRun, readingBy, reading}
 use Rattle.cltu.proofs.Examples.{frame}
 use Rattle.cltu.proofs.Places.{length-cltu}
-use Rattle.damage.specs.Damage.{differing, wrongBits, eightAt, Damaged}
+use Rattle.base.specs.Distance.{differing, wrongBits}
+use Rattle.damage.specs.Damage.{eightAt, Damaged}
 use Rattle.damage.proofs.Reading.{octets-cltu}
 
 -- the codeblock of seven octets 00 with bits 0, 1, 2 and 39 wrong
@@ -78,7 +80,7 @@ few-all received t b = go (ltb b 3) refl
         drop-of-length-le (drop 2 sent) {i = 8 * b} (simp length-drop (omega (arith, length-cltu frame, ltb-false b 3 e))) in
         rw none (omega arith)
 
-damaged-changed : (place bits : ℕ) → bits < 256 → take 2 (changed place bits) ≡ take 2 sent
+damaged-changed : (place bits : ℕ) → bits < 256 → Received (take 2 (changed place bits))
     → T (all (λ b. leb (wrongBits (eightAt b sent) (eightAt b (changed place bits))) 3) 3 0) → Damaged sent (changed place bits)
 damaged-changed place bits h s t = record {
   same-length = length-set sent place _;
@@ -87,15 +89,21 @@ damaged-changed place bits h s t = record {
   few = few-all (changed place bits) t;
 }
 
--- three wrong bits in the first codeblock, in the second, in the tail
+-- three wrong bits in the first codeblock, in the second, in the tail; one in the start sequence
 pub met : Damaged sent (changed 5 0b0010_0101) × Damaged sent (changed 17 0b1100_0001) × Damaged sent (changed 20 0b0111_0000)
+    × Damaged sent (changed 0 0b0000_0001)
 unfolding wrongBits differing octetBits bitsOf cltuOf informationFor encoded filled randomized octet later nextBit codeblockOf errorControl parity register shiftBits shiftBit
-met = (damaged-changed 5 0b0010_0101 (omega arith) refl tt, damaged-changed 17 0b1100_0001 (omega arith) refl tt, damaged-changed 20 0b0111_0000 (omega arith) refl tt)
+met = (
+  damaged-changed 5 0b0010_0101 (omega arith) sequence-received tt,
+  damaged-changed 17 0b1100_0001 (omega arith) sequence-received tt,
+  damaged-changed 20 0b0111_0000 (omega arith) sequence-received tt,
+  damaged-changed 0 0b0000_0001 (omega arith) (record { two = refl; within = (omega arith, (omega arith, tt)); near = leb→le 1 1 tt }) tt,
+)
 
--- the first is refused with 2, the second hands out seven octets, too few for the frame, and the third the frame with its fill
+-- the first is refused with 2, the second hands out seven octets, too few for the frame, and the others the frame with its fill
 pub readings :
     (numberOf (answer (reading (changed 5 0b0010_0101) 14)) ≡ 2)
     × (countOf (answer (reading (changed 17 0b1100_0001) 14)) ≡ 7)
-    × (reading (changed 20 0b0111_0000) 14 ≡ reading sent 14)
-unfolding readingBy readingRun correctedIn informationIn goodRun startOf starts cltuOf informationFor encoded filled randomized octet later nextBit judged codeblockOf errorControl parity register shiftBits shiftBit
-readings = (refl, refl, refl)
+    × (reading (changed 20 0b0111_0000) 14 ≡ reading sent 14) × (reading (changed 0 0b0000_0001) 14 ≡ reading sent 14)
+unfolding readingBy readingRun correctedIn informationIn goodRun startOf starts recognized differing octetBits bitsOf cltuOf informationFor encoded filled randomized octet later nextBit judged codeblockOf errorControl parity register shiftBits shiftBit
+readings = (refl, refl, refl, refl)

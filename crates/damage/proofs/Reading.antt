@@ -22,8 +22,8 @@ use Rattle.codeblock.specs.declared.Judged.{Judged}
 use Rattle.codeblock.proofs.Codeblock.{judged-codeblock, length-codeblock}
 use Rattle.randomizer.specs.Randomizer.{octet, randomized}
 use Rattle.randomizer.proofs.Randomized.{randomized-twice, octets-randomized}
-use Rattle.start_sequence.specs.StartSequence.{startSequence, startOf}
-use Rattle.start_sequence.proofs.Search.{first-start}
+use Rattle.start_sequence.specs.StartSequence.{startOf}
+use Rattle.start_sequence.proofs.Search.{first-near, sequence-received}
 use Rattle.encoded_data.specs.EncodedData.{goodRun, informationIn}
 use Rattle.encoded_data.proofs.Scan.{run-good, run-ends}
 use Rattle.cltu.specs.Cltu.{codeblocks, filled, encoded, informationFor, cltuOf, tailSequence, readingRun, readingAfter, reading}
@@ -31,7 +31,8 @@ use Rattle.cltu.proofs.Judge.{corrected-none}
 use Rattle.cltu.proofs.Places.{length-information, length-encoded, length-seven, length-cltu, octets-filled}
 use Rattle.cltu.proofs.RoundTrip.{first-block, other-blocks}
 use Rattle.cltu.proofs.Outcomes.{reading-found}
-use Rattle.damage.specs.Damage.{wrongBits, eightAt, Damaged, readingFront, ReadToDamage}
+use Rattle.base.specs.Distance.{wrongBits}
+use Rattle.damage.specs.Damage.{eightAt, Damaged, readingFront, ReadToDamage}
 use Rattle.damage.proofs.Bits.{none-wrong, self-wrong}
 use Rattle.damage.proofs.Detected.{octets-codeblock, octets-tail, codeblock-detected, tail-detected}
 
@@ -180,16 +181,12 @@ module _ (frame : List ℕ) (h : Octets frame) (high : length frame ≤ largestF
         ∙ randomized-take 0 (7 * run) (informationFor frame)
         ∙ ap (take (7 * run)) (randomized-twice 0 (filled frame))
 
-    received-is : received ≡ startSequence ++ body
-    unfolding cltuOf
-    received-is = sym (take-append-drop 2 received) ∙ ap (λ (l : List ℕ). l ++ body) (damaged .start)
-
     reads : (room : ℕ) → reading received room ≡ readingFront frame run room
     unfolding readingRun readingFront startOf
     reads room =
         let l : run < length body / 8 = omega (arith, body-length, run-within) in
         let w : suc n ≡ length body / 8 = omega (arith, body-length) in
-        let s : startOf received ≡ 0 = ap startOf received-is ∙ first-start [] body refl in
+        let s : startOf received ≡ 0 = ap startOf (sym (take-append-drop 2 received)) ∙ first-near [] (take 2 received) body (damaged .start) refl in
         reading-found judged received room 0 (omega (arith, damaged .same-length, length-cltu frame)) (omega (arith, damaged .same-length, length-cltu frame)) (sym s)
         ∙ ap (λ (t : List ℕ). readingAfter judged 2 t room) (rest received 2)
         ∙ ap (λ (j : ℕ). readingRun judged 2 body room (goodRun judged j body)) (sym w)
@@ -217,7 +214,8 @@ module _ (frame : List ℕ) (h : Octets frame) (high : length frame ≤ largestF
       (omega arith, (omega arith, below-append 256 (encoded n (informationFor frame)) tailSequence (octets-encoded n (informationFor frame) octets-information) octets-tail))
 
   undamaged : Damaged (cltuOf frame) (cltuOf frame)
-  undamaged = record { same-length = refl; octets = octets-cltu; start = refl; few = λ b. omega (arith, self-wrong (eightAt b (cltuOf frame))) }
+  unfolding cltuOf
+  undamaged = record { same-length = refl; octets = octets-cltu; start = sequence-received; few = λ b. omega (arith, self-wrong (eightAt b (cltuOf frame))) }
 
   -- where no codeblock is damaged, the tail alone, reading is as of what was sent
   pub tail-damaged : (received : List ℕ) → Damaged (cltuOf frame) received

@@ -2,39 +2,30 @@
 use Prim.Native.Nat.{ℕ, _+_, _*_, _<_, _≤_}
 use mathlib.Core.Path.{_≡_}
 use mathlib.Core.List.{List, [], _∷_}
-use lib.Bits.{bitXor}
 use lib.Dec.{ltb, leb}
 use lib.ListN.{length, take, drop}
 use Rattle.base.specs.Choice.{must}
 use Rattle.base.specs.Limits.{smallestFrame, largestFrame, largestUnit}
-use Rattle.base.specs.Octets.{Octets, octetBits}
+use Rattle.base.specs.Octets.{Octets}
+use Rattle.base.specs.Distance.{wrongBits}
 use Rattle.base.specs.Outcome.{Outcome, Outcome.done, Outcome.refused}
 use Rattle.frame.specs.Frame.{totalOf}
 use Rattle.frame.specs.Answers.{readingOf, partOf}
 use Rattle.frame.specs.declared.FrameReading.the-variants.{Refused}
+use Rattle.start_sequence.specs.StartSequence.{Received}
 use Rattle.cltu.specs.Cltu.{Found, codeblocks, filled, cltuOf, reading}
 use Rattle.fop.specs.Units.{Frame, AD, BD, Unlock, SetVR}
 use Rattle.fop.specs.Units as units
-
--- in how many places two lists of bits differ, lists of one length
-unfoldable pub differing : List ℕ → List ℕ → ℕ
-differing [] ys = 0
-differing (x ∷ xs) [] = 0
-differing (x ∷ xs) (y ∷ ys) = bitXor x y + differing xs ys
-
--- how many bits are wrong in octets received for octets sent, of one length
-unfoldable pub wrongBits : List ℕ → List ℕ → ℕ
-wrongBits sent received = differing (octetBits sent) (octetBits received)
 
 -- the eight octets with number b behind the start sequence: each codeblock, and then the tail sequence
 abbrev pub eightAt : ℕ → List ℕ → List ℕ
 eightAt b cltu = take 8 (drop (8 * b) (drop 2 cltu))
 
--- octets received for a CLTU sent: the start sequence is intact, and in each eight octets behind it at most three bits are wrong
+-- octets received for a CLTU sent: at most one bit of the start sequence is wrong, and at most three in each eight octets behind it
 pub record Damaged (sent received : List ℕ) : Type 0 where
   pub same-length : length received ≡ length sent
   pub octets : Octets received
-  pub start : take 2 received ≡ take 2 sent
+  pub start : Received (take 2 received)
   pub few : (b : ℕ) → wrongBits (eightAt b sent) (eightAt b received) ≤ 3
 
 -- reading that ends behind n codeblocks of a frame's CLTU: 2 where n is 0, then 11, then the information of those codeblocks
