@@ -1,6 +1,6 @@
 //! The independent side of the comparison, written from ECSS-E-ST-50-04C
-//! (clause numbers below are its numbers) and from document 01, plainly and
-//! bit by bit.
+//! (clause numbers below are its numbers) and from document 01 as document 02
+//! amends it, plainly and bit by bit.
 
 pub mod bits;
 pub mod clcw;

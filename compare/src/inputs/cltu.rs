@@ -191,7 +191,8 @@ fn damaged_start(random: &mut Random) -> Vec<u8> {
 /// Start sequences with up to three bits in error at any offset, one over the other too, and
 /// perhaps a CLTU behind them.
 fn near_places(random: &mut Random) -> Vec<u8> {
-    let length = random.between(START_SEQUENCE.len(), 40);
+    let most = *random.pick(&[40, 40, 40, 400, 4000]);
+    let length = random.between(START_SEQUENCE.len(), most);
     let mut input = random.octets(length);
     for _ in 0..random.between(1, 6) {
         let errors = *random.pick(&[0, 1, 1, 2, 2, 2, 2, 3]);

@@ -18,7 +18,7 @@ use Rattle.frame.specs.declared.FrameReading.the-variants.{Frame}
 use Rattle.frame.proofs.Back.{Legal, frame-back, data-back}
 use Rattle.frame.proofs.Lengths.{length-frame}
 
--- what the receiving end makes of a CLTU that stands behind octets without a start sequence, whatever follows it
+-- what the receiving end makes of a CLTU that stands behind octets without a place within one bit of a start sequence, whatever follows
 pub record Through (before behind : List ℕ) (spacecraft channel : ℕ) (kind : Kind) (unit : List ℕ) (room : ℕ) : Type 0 where
   pub octets : List ℕ
   pub place : ℕ
