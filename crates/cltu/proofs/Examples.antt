@@ -8,7 +8,7 @@ use Rattle.base.specs.Register.{shiftBit, shiftBits, register}
 use Rattle.base.specs.Limits.{largestFrame, largestInput}
 use Rattle.base.specs.Octets.{bitsOf, octetBits}
 use Rattle.base.specs.Distance.{differing}
-use Rattle.codeblock.specs.Codeblock.{parity, errorControl, codeblockOf, judged}
+use Rattle.codeblock.specs.Codeblock.{parity, errorControl, codeblockOf, isEncoding, otherwise, judged}
 use Rattle.randomizer.specs.Randomizer.{nextBit, later, octet, randomized}
 use Rattle.start_sequence.specs.StartSequence.{startSequence, recognized, starts, startOf}
 use Rattle.encoded_data.specs.EncodedData.{goodRun, informationIn, correctedIn}
@@ -29,7 +29,7 @@ pub readings :
     × (readNumber startSequence 14 ≡ 3)
     × (readNumber (replicate (largestInput + 1) 0) 14 ≡ 10)
     × (readNumber (cltuOf frame) 13 ≡ 11)
-unfolding readingBy readingRun correctedIn informationIn goodRun startOf starts recognized differing octetBits bitsOf cltuOf informationFor encoded filled randomized octet later nextBit judged codeblockOf errorControl parity register shiftBits shiftBit
+unfolding readingBy readingRun correctedIn informationIn goodRun startOf starts recognized differing octetBits bitsOf cltuOf informationFor encoded filled randomized octet later nextBit judged otherwise isEncoding codeblockOf errorControl parity register shiftBits shiftBit
 readings = (refl, refl, refl, refl, refl, refl)
 
 -- length; room

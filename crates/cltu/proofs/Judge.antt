@@ -5,7 +5,8 @@ use mathlib.Core.List.{List}
 use Prim.Native.Nat.{ℕ, zero, suc, _+_}
 use lib.ListN.{length, take, drop}
 use Rattle.base.specs.Register.{shiftBit, shiftBits, register}
-use Rattle.codeblock.specs.Codeblock.{parity, errorControl, codeblockOf, good, bad, judged, isGood}
+use Rattle.codeblock.specs.Codeblock.{parity, errorControl, codeblockOf, good, bad, isEncoding, otherwise, judged, isGood}
+use Rattle.codeblock.specs.declared.Mode.the-variants.{Detecting}
 use Rattle.codeblock.specs.declared.Judged.{Judged}
 use Rattle.codeblock.proofs.Codeblock.{judged-codeblock, good-seven, corrects-none}
 use Rattle.encoded_data.specs.EncodedData.{correctedIn}
@@ -18,12 +19,12 @@ pub record Judge (judge : List ℕ → Judged) : Type 0 where
   pub seven : (block : List ℕ) → isGood (judge block) ≡ true → length (judge block .information) ≡ 7
 
 -- the judge that only detects
-pub detects : Judge judged
-unfolding judged codeblockOf errorControl parity register shiftBits shiftBit
-detects = record { encoding = judged-codeblock; tail = refl; seven = good-seven }
+pub detects : Judge (judged Detecting)
+unfolding judged otherwise isEncoding codeblockOf errorControl parity register shiftBits shiftBit
+detects = record { encoding = judged-codeblock Detecting; tail = refl; seven = good-seven Detecting }
 
 -- it corrects nothing
-pub corrected-none : (n : ℕ) (s : List ℕ) → correctedIn judged n s ≡ 0
+pub corrected-none : (n : ℕ) (s : List ℕ) → correctedIn (judged Detecting) n s ≡ 0
 unfolding correctedIn
 corrected-none zero s = refl
 corrected-none (suc n) s = ap₂ _+_ (corrects-none (take 8 s)) (corrected-none n (drop 8 s))

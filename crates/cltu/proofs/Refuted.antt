@@ -13,7 +13,8 @@ use Rattle.base.specs.Outcome.{Outcome, Outcome.done, Outcome.refused, answer, 
 use Rattle.base.specs.Register.{shiftBit, shiftBits, register}
 use Rattle.base.proofs.Tests.{apart}
 use Rattle.base.proofs.Lists.{same-not}
-use Rattle.codeblock.specs.Codeblock.{parity, errorControl, codeblockOf, judged, isGood}
+use Rattle.codeblock.specs.Codeblock.{parity, errorControl, codeblockOf, isEncoding, otherwise, judged, isGood}
+use Rattle.codeblock.specs.declared.Mode.the-variants.{Detecting}
 use Rattle.randomizer.specs.Randomizer.{nextBit, later, octet, randomized}
 use Rattle.start_sequence.specs.StartSequence.{startSequence, recognized, starts, startOf}
 use Rattle.encoded_data.specs.EncodedData.{goodRun, informationIn, correctedIn}
@@ -77,8 +78,8 @@ start-last = (refl, refl)
 
 -- a reader whose test of a codeblock does not look at the filler bit
 pub filler-ignored : (test : List ℕ → Bool) → ((information : List ℕ) (control : ℕ) → test (information ++ ((control * 2) ∷ [])) ≡ test (information ++ ((control * 2 + 1) ∷ [])))
-    → ((block : List ℕ) → test block ≡ isGood (judged block)) → ⊥
-unfolding judged codeblockOf errorControl parity register shiftBits shiftBit
+    → ((block : List ℕ) → test block ≡ isGood (judged Detecting block)) → ⊥
+unfolding judged otherwise isEncoding codeblockOf errorControl parity register shiftBits shiftBit
 filler-ignored test blind agrees =
     apart (sym (agrees (replicate 7 0 ++ (0xFF ∷ []))) ∙ sym (blind (replicate 7 0) 0x7F) ∙ agrees (replicate 7 0 ++ (0xFE ∷ [])))
 

@@ -13,6 +13,7 @@ use Rattle.base.specs.Outcome.{Outcome.done}
 use Rattle.base.specs.Limits.{largestInput}
 use Rattle.base.proofs.Lists.{rest}
 use Rattle.codeblock.specs.Codeblock.{codeblockOf, good, bad, judged, isGood}
+use Rattle.codeblock.specs.declared.Mode.the-variants.{Detecting}
 use Rattle.codeblock.specs.declared.Judged.{Judged}
 use Rattle.randomizer.specs.Randomizer.{randomized}
 use Rattle.randomizer.proofs.Randomized.{randomized-twice}
@@ -25,7 +26,7 @@ use Rattle.cltu.proofs.Places.{length-block, length-information, length
 use Rattle.cltu.proofs.Outcomes.{reading-found, after-done}
 
 -- the tail sequence is bad
-pub tail-bad : judged tailSequence ≡ bad
+pub tail-bad : judged Detecting tailSequence ≡ bad
 tail-bad = detects .tail
 
 -- the first of the codeblocks, and the rest

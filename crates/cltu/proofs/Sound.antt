@@ -16,6 +16,7 @@ use Rattle.base.specs.Outcome.{Outcome, Outcome.done, Outcome.refused}
 use Rattle.base.specs.Limits.{largestInput}
 use Rattle.base.proofs.Lists.{rest}
 use Rattle.codeblock.specs.Codeblock.{codeblockOf, judged, isGood}
+use Rattle.codeblock.specs.declared.Mode.the-variants.{Detecting}
 use Rattle.codeblock.specs.declared.Judged.{Judged}
 use Rattle.codeblock.proofs.Codeblock.{good-is, good-judged}
 use Rattle.randomizer.specs.Randomizer.{randomized}
@@ -59,7 +60,7 @@ pub data CaseBy (judge : List ℕ → Judged) (corrected : ℕ) (input : List �
 
 -- by the judge that only detects: nothing is corrected
 abbrev pub Case : List ℕ → ℕ → Type 0
-Case = CaseBy judged 0
+Case = CaseBy (judged Detecting) 0
 
 module _ (judge : List ℕ → Judged) (input : List ℕ) (room : ℕ) where
   -- how many codeblocks of the run were corrected
@@ -105,7 +106,7 @@ module _ (judge : List ℕ → Judged) (input : List ℕ) (room : ℕ) where
   cases-by = at-length (leb (length input) largestInput) refl
 
 pub cases : (input : List ℕ) (room : ℕ) → Case input room
-cases input room = subst (λ (k : ℕ). CaseBy judged k input room) (corrected-none (run judged input) (afterStart input)) (cases-by judged input room)
+cases input room = subst (λ (k : ℕ). CaseBy (judged Detecting) k input room) (corrected-none (run (judged Detecting) input) (afterStart input)) (cases-by (judged Detecting) input room)
 
 -- what a reading that is done says of its input by any judge: so many good codeblocks from the first start sequence on, whose
 -- information the octets are, the block behind them bad
@@ -125,7 +126,7 @@ pub record SoundBy (judge : List ℕ → Judged) (input octets : List ℕ) (foun
 
 -- by the judge that only detects also: the codeblocks are the encodings of the octets randomized, and nothing was corrected
 pub record Sound (input octets : List ℕ) (found : Found) : Type 0 where
-  pub read : SoundBy judged input octets found
+  pub read : SoundBy (judged Detecting) input octets found
   pub between : take (8 * read .blocks) (drop (read .start + 2) input) ≡ encoded (read .blocks) (randomized 0 octets)
   pub corrected : found .corrected ≡ 0
 
@@ -175,20 +176,20 @@ module _ {judge : List ℕ → Judged} (laws : Judge judge) (input : List ℕ) w
           subst (λ (x : Found). SoundBy judge input octets x) q (subst (λ (o : List ℕ). SoundBy judge input o told) p (sound-read b c d))
 
 -- codeblocks that are judged good by detecting alone are the encodings of their information
-encodings : (n : ℕ) (s : List ℕ) → 8 * n ≤ length s → ((b : ℕ) → b < n → isGood (judged (take 8 (drop (8 * b) s))) ≡ true)
-    → take (8 * n) s ≡ encoded n (informationIn judged n s)
+encodings : (n : ℕ) (s : List ℕ) → 8 * n ≤ length s → ((b : ℕ) → b < n → isGood (judged Detecting (take 8 (drop (8 * b) s))) ≡ true)
+    → take (8 * n) s ≡ encoded n (informationIn (judged Detecting) n s)
 unfolding encoded informationIn
 encodings zero s l h = refl
 encodings (suc n) s l h =
-    let g : isGood (judged (take 8 s)) ≡ true = h 0 (omega arith) in
-    let i : judged (take 8 s) .information ≡ take 7 s = ap (λ (j : Judged). j .information) (good-judged (take 8 s) g) ∙ take-take 7 8 s (omega arith) in
+    let g : isGood (judged Detecting (take 8 s)) ≡ true = h 0 (omega arith) in
+    let i : judged Detecting (take 8 s) .information ≡ take 7 s = ap (λ (j : Judged). j .information) (good-judged (take 8 s) g) ∙ take-take 7 8 s (omega arith) in
     let e : take 8 s ≡ codeblockOf (take 7 s) = good-is (take 8 s) g ∙ ap codeblockOf (take-take 7 8 s (omega arith)) in
     let k : 8 * suc n ≡ 8 + 8 * n = omega (arith, mul-suc 8 n) in
     let t : length (take 7 s) ≡ 7 = simp length-take (omega (arith, mul-suc 8 n)) in
-    let r = informationIn judged n (drop 8 s) in
+    let r = informationIn (judged Detecting) n (drop 8 s) in
     ap (λ (j : ℕ). take j s) k
     ∙ take-add 8 (8 * n) s
-    ∙ ap₂ (λ (a b : List ℕ). a ++ b) e (encodings n (drop 8 s) (simp length-drop (omega (arith, mul-suc 8 n))) (λ b m. ap isGood (block-next judged s b) ∙ h (suc b) (omega arith)))
+    ∙ ap₂ (λ (a b : List ℕ). a ++ b) e (encodings n (drop 8 s) (simp length-drop (omega (arith, mul-suc 8 n))) (λ b m. ap isGood (block-next (judged Detecting) s b) ∙ h (suc b) (omega arith)))
     ∙ sym (ap (λ (a : List ℕ). encoded (suc n) (a ++ r)) i ∙ ap₂ (λ (a b : List ℕ). codeblockOf a ++ encoded n b) (take-at (take 7 s) r 7 t) (drop-at (take 7 s) r 7 t))
 
 module _ (input : List ℕ) where
@@ -199,6 +200,6 @@ module _ (input : List ℕ) where
       record {
         read = s;
         between = encodings (s .blocks) rest (omega (arith, length-drop (s .start + 2) input, s .place, s .whole)) (s .good)
-            ∙ ap (encoded (s .blocks)) (sym (randomized-twice 0 (informationIn judged (s .blocks) rest)) ∙ ap (randomized 0) (sym (s .information)));
+            ∙ ap (encoded (s .blocks)) (sym (randomized-twice 0 (informationIn (judged Detecting) (s .blocks) rest)) ∙ ap (randomized 0) (sym (s .information)));
         corrected = s .corrections ∙ corrected-none (s .blocks) rest;
       }

@@ -7,6 +7,7 @@ use Rattle.base.specs.Choice.{must}
 use Rattle.base.specs.Limits.{smallestFrame, largestFrame, largestInput}
 use Rattle.base.specs.Outcome.{Outcome, Outcome.done, Outcome.refused}
 use Rattle.codeblock.specs.Codeblock.{codeblockOf, judged}
+use Rattle.codeblock.specs.declared.Mode.the-variants.{Detecting}
 use Rattle.codeblock.specs.declared.Judged.{Judged}
 use Rattle.encoded_data.specs.EncodedData.{goodRun, informationIn, correctedIn}
 use Rattle.randomizer.specs.Randomizer.{randomized}
@@ -82,4 +83,4 @@ module _ (judge : List ℕ → Judged) where
 
 -- document 01: reading by the judge that detects errors and corrects none
 abbrev pub reading : List ℕ → ℕ → Outcome Found
-reading = readingBy judged
+reading = readingBy (judged Detecting)

@@ -6,6 +6,7 @@ ghost use lib.ListN.{length};
 ghost use Rattle.base.specs.Limits.{largestInput};
 ghost use Rattle.base.specs.Outcome.{answer, after};
 ghost use Rattle.codeblock.specs.Codeblock.{judged};
+ghost use Rattle.codeblock.specs.declared.Mode.the-variants.{Detecting};
 ghost use Rattle.cltu.specs.Cltu.{readingAfter, reading};
 ghost use Rattle.cltu.specs.Answers.{readAnswer};
 
@@ -30,8 +31,8 @@ const LARGEST_INFORMATION: usize = LARGEST_INPUT / 8 * 7;
 // Reads the codeblocks after a start sequence; the rest of the input stands at an offset.
 fn read_after(input: &[u8], offset: usize, out: &mut [u8]) -> CltuReading
     requires { ⌜ offset + length (now input) ≤ largestInput ⌝ }
-    ensures answer { λ r. ⌜ readAnswer r ≡ answer (readingAfter judged offset (now (input .entry)) (length (now (out .entry)))) ⌝ }
-    ensures memory { λ r. ⌜ now (out .exit) ≡ after (readingAfter judged offset (now (input .entry)) (length (now (out .entry)))) (now (out .entry)) ⌝ }
+    ensures answer { λ r. ⌜ readAnswer r ≡ answer (readingAfter (judged Detecting) offset (now (input .entry)) (length (now (out .entry)))) ⌝ }
+    ensures memory { λ r. ⌜ now (out .exit) ≡ after (readingAfter (judged Detecting) offset (now (input .entry)) (length (now (out .entry)))) (now (out .entry)) ⌝ }
 {
     let mut information = [0u8; LARGEST_INFORMATION];
     let run = encoded_data::take_good(input, &mut information);

@@ -1,81 +1,144 @@
--- Laws of a received codeblock: an encoding is good, what is good is an encoding, and how eight octets are judged.
+-- Laws of a received codeblock, in either mode: an encoding is good, what is good is an encoding or one bit away from one, and eight octets
+-- are an encoding where their last is the error control octet of the others.
 use mathlib.Core.Path.{_≡_, refl, sym, ap, _∙_}
 use mathlib.Core.Bool.{Bool, true, false}
 use mathlib.Core.List.{List, [], _∷_, _++_}
-use Prim.Native.Nat.{ℕ, _+_, _/_, _%_, _≤_}
+use Prim.Native.Nat.{ℕ, zero, suc, _+_, _-_, _/_, _%_, _^_, _≤_}
 use native.Mathlib.Omega.{arith}
-use borrow.Author.Tests.{eq-eqb, ne-eqb, eqb-true, eqb-false}
+use lib.Bits.{bitXor}
 use lib.Dec.{eqb}
-use lib.ListN.{length, take, drop, getD, length-append, length-take, take-append-drop, drop-of-length-le}
+use lib.ListN.{length, take, drop, getD, set, length-append, length-take, length-set, take-append-drop, drop-of-length-le}
 use lib.Seq.{take-at, drop-cons}
 use Rattle.base.specs.Choice.{pick}
 use Rattle.base.specs.Octets.{same}
-use Rattle.base.proofs.Tests.{apart, not-so}
+use Rattle.base.proofs.Tests.{apart, yes, no, not-so}
 use Rattle.base.proofs.Lists.{same-equal, same-self, same-last, take-next}
 use Rattle.codeblock.specs.declared.Judged.{Judged}
-use Rattle.codeblock.specs.Codeblock.{errorControl, codeblockOf, good, bad, judged, isGood}
+use Rattle.codeblock.specs.declared.Mode.{Mode}
+use Rattle.codeblock.specs.declared.Mode.the-variants.{Detecting, Correcting}
+use Rattle.codeblock.specs.Codeblock.{errorControl, codeblockOf, good, bad, isEncoding, flipped, mended, otherwise, judged, isGood}
 
 pub length-codeblock : (information : List ℕ) → length (codeblockOf information) ≡ length information + 1
 unfolding codeblockOf
 length-codeblock information = length-append information (errorControl information ∷ [])
 
--- the filler bit is zero
-pub filler-zero : (information : List ℕ) → errorControl information % 2 ≡ 0
-unfolding errorControl
-filler-zero information = omega arith
+pub length-flipped : (i : ℕ) (block : List ℕ) → length (flipped i block) ≡ length block
+unfolding flipped
+length-flipped i block = length-set block (i / 8) _
 
--- an encoding is good, with nothing corrected
-pub judged-codeblock : (information : List ℕ) → length information ≡ 7 → judged (codeblockOf information) ≡ good information 0
-unfolding judged codeblockOf
-judged-codeblock information h = rw (take-at information (errorControl information ∷ []) 7 h, same-self (information ++ (errorControl information ∷ [])))
+-- the information of a block with a bit inverted is the information with that bit inverted, if it has it
+take-inverted : (n k m : ℕ) (s : List ℕ) → set (take n s) k (bitXor (getD (take n s) k 0) m) ≡ take n (set s k (bitXor (getD s k 0) m))
+take-inverted zero k m s = refl
+take-inverted (suc n) k m [] = refl
+take-inverted (suc n) zero m (x ∷ s) = refl
+take-inverted (suc n) (suc k) m (x ∷ s) = ap (λ (l : List ℕ). x ∷ l) (take-inverted n k m s)
 
+pub take-flipped : (n i : ℕ) (block : List ℕ) → flipped i (take n block) ≡ take n (flipped i block)
+unfolding flipped
+take-flipped n i block = take-inverted n (i / 8) (2 ^ (7 - i % 8)) block
+
+-- the encoding of seven octets is one, and an encoding is that of its first seven octets
+pub is-encoding : (information : List ℕ) → length information ≡ 7 → isEncoding (codeblockOf information) ≡ true
+unfolding isEncoding codeblockOf
+is-encoding information h = rw (take-at information (errorControl information ∷ []) 7 h, same-self (information ++ (errorControl information ∷ [])))
+
+pub encoding-is : (block : List ℕ) → isEncoding block ≡ true → block ≡ codeblockOf (take 7 block)
+unfolding isEncoding
+encoding-is block e = same-equal block (codeblockOf (take 7 block)) e
+
+pub encoding-length : (block : List ℕ) → isEncoding block ≡ true → length block ≡ 8
+encoding-length block e =
+    let l : length block ≡ length (take 7 block) + 1 = ap length (encoding-is block e) ∙ length-codeblock (take 7 block) in
+    omega (arith, simp length-take at l)
+
+-- an encoding is good with nothing corrected; what is none is judged by the mode
+pub encoding-judged : (mode : Mode) (block : List ℕ) → isEncoding block ≡ true → judged mode block ≡ good (take 7 block) 0
+unfolding judged
+encoding-judged mode block e = yes _ _ _ e
+
+pub other-judged : (mode : Mode) (block : List ℕ) → isEncoding block ≡ false → judged mode block ≡ otherwise mode block
+unfolding judged
+other-judged mode block e = no _ _ _ e
+
+pub judged-codeblock : (mode : Mode) (information : List ℕ) → length information ≡ 7 → judged mode (codeblockOf information) ≡ good information 0
+unfolding codeblockOf
+judged-codeblock mode information h =
+    encoding-judged mode (codeblockOf information) (is-encoding information h)
+    ∙ ap (λ (l : List ℕ). good l 0) (take-at information (errorControl information ∷ []) 7 h)
+
+-- what holds of a bad block, of an encoding, and of a block that is an encoding with one bit inverted, holds of every judgement
+module _ (block : List ℕ) (P : Judged → Type 0) (of-bad : P bad) (of-one : (i : ℕ) → isEncoding (flipped i block) ≡ true → P (good (take 7 (flipped i block)) 1)) where
+  pub of-mended : (n i : ℕ) → P (mended n i block)
+  unfolding mended
+  of-mended zero i = of-bad
+  of-mended (suc n) i = go (isEncoding (flipped i block)) refl (of-mended n (suc i))
+    where
+      go : (b : Bool) → isEncoding (flipped i block) ≡ b → P (mended n (suc i) block) → P (pick b (good (take 7 (flipped i block)) 1) (mended n (suc i) block))
+      go true e later = of-one i e
+      go false e later = later
+
+  of-otherwise : (mode : Mode) → P (otherwise mode block)
+  unfolding otherwise
+  of-otherwise Detecting = of-bad
+  of-otherwise Correcting = of-mended 63 0
+
+  pub of-judged : (isEncoding block ≡ true → P (good (take 7 block) 0)) → (mode : Mode) → P (judged mode block)
+  unfolding judged
+  of-judged of-none mode = go (isEncoding block) refl
+    where
+      go : (b : Bool) → isEncoding block ≡ b → P (pick b (good (take 7 block) 0) (otherwise mode block))
+      go true e = of-none e
+      go false e = of-otherwise mode
+
+seven-first : (block : List ℕ) → length block ≡ 8 → length (take 7 block) ≡ 7
+seven-first block l = simp length-take (omega arith)
+
+flipped-eight : (block : List ℕ) (i : ℕ) → isEncoding (flipped i block) ≡ true → length block ≡ 8
+flipped-eight block i e = sym (length-flipped i block) ∙ encoding-length (flipped i block) e
+
+-- the information of a good codeblock has seven octets
+pub good-seven : (mode : Mode) (block : List ℕ) → isGood (judged mode block) ≡ true → length (judged mode block .information) ≡ 7
+good-seven mode block =
+    of-judged block (λ (j : Judged). isGood j ≡ true → length (j .information) ≡ 7) (λ e. absurd (apart e))
+    (λ i e g. seven-first (flipped i block) (encoding-length (flipped i block) e)) (λ e g. seven-first block (encoding-length block e)) mode
+
+-- at most one bit is corrected
+pub corrects-few : (mode : Mode) (block : List ℕ) → judged mode block .corrected ≤ 1
+corrects-few mode block = of-judged block (λ (j : Judged). j .corrected ≤ 1) (omega arith) (λ i e. omega arith) (λ e. omega arith) mode
+
+-- other lengths than eight are bad
+pub judged-length : (mode : Mode) (block : List ℕ) → (length block ≡ 8 → ⊥) → judged mode block ≡ bad
+judged-length mode block h =
+    of-judged block (λ (j : Judged). j ≡ bad) refl (λ i e. absurd (h (flipped-eight block i e))) (λ e. absurd (h (encoding-length block e))) mode
+
+-- the detecting mode: an encoding, or bad
 good-by : (b : Bool) (information : List ℕ) → isGood (pick b (good information 0) bad) ≡ b
 good-by true information = refl
 good-by false information = refl
 
-by-good : (b : Bool) (information : List ℕ) → isGood (pick b (good information 0) bad) ≡ true → pick b (good information 0) bad ≡ good information 0
-by-good true information e = refl
-by-good false information e = absurd (apart e)
+detected : (block : List ℕ) → isGood (judged Detecting block) ≡ isEncoding block
+unfolding judged otherwise
+detected block = good-by (isEncoding block) (take 7 block)
 
-by-bad : (b : Bool) (information : List ℕ) → isGood (pick b (good information 0) bad) ≡ false → pick b (good information 0) bad ≡ bad
-by-bad true information e = absurd (apart (sym e))
-by-bad false information e = refl
+-- what is good is the encoding of its first seven octets
+pub good-is : (block : List ℕ) → isGood (judged Detecting block) ≡ true → block ≡ codeblockOf (take 7 block)
+good-is block e = encoding-is block (sym (detected block) ∙ e)
 
+pub good-judged : (block : List ℕ) → isGood (judged Detecting block) ≡ true → judged Detecting block ≡ good (take 7 block) 0
+good-judged block e = encoding-judged Detecting block (sym (detected block) ∙ e)
+
+pub bad-judged : (block : List ℕ) → isGood (judged Detecting block) ≡ false → judged Detecting block ≡ bad
+unfolding otherwise
+bad-judged block e = other-judged Detecting block (sym (detected block) ∙ e)
+
+-- nothing is corrected
 none-by : (b : Bool) (information : List ℕ) → pick b (good information 0) bad .corrected ≡ 0
 none-by true information = refl
 none-by false information = refl
 
--- what is good is the encoding of its first seven octets
-pub good-is : (block : List ℕ) → isGood (judged block) ≡ true → block ≡ codeblockOf (take 7 block)
-unfolding judged
-good-is block e = same-equal block (codeblockOf (take 7 block)) (sym (good-by (same block (codeblockOf (take 7 block))) (take 7 block)) ∙ e)
-
-pub good-judged : (block : List ℕ) → isGood (judged block) ≡ true → judged block ≡ good (take 7 block) 0
-unfolding judged
-good-judged block e = by-good (same block (codeblockOf (take 7 block))) (take 7 block) e
-
-pub good-length : (block : List ℕ) → isGood (judged block) ≡ true → length block ≡ 8
-good-length block e =
-    let l : length block ≡ length (take 7 block) + 1 = ap length (good-is block e) ∙ length-codeblock (take 7 block) in
-    omega (arith, simp length-take at l)
-
--- a judgement is of one of the two kinds
-pub bad-judged : (block : List ℕ) → isGood (judged block) ≡ false → judged block ≡ bad
-unfolding judged
-bad-judged block e = by-bad (same block (codeblockOf (take 7 block))) (take 7 block) e
-
--- nothing is corrected
-pub corrects-none : (block : List ℕ) → judged block .corrected ≡ 0
-unfolding judged
-corrects-none block = none-by (same block (codeblockOf (take 7 block))) (take 7 block)
-
--- at most one bit is corrected
-pub corrects-few : (block : List ℕ) → judged block .corrected ≤ 1
-corrects-few block = omega (arith, corrects-none block)
-
--- the information of a good codeblock has seven octets
-pub good-seven : (block : List ℕ) → isGood (judged block) ≡ true → length (judged block .information) ≡ 7
-good-seven block e = ap (λ (j : Judged). length (j .information)) (good-judged block e) ∙ simp length-take (omega (arith, good-length block e))
+pub corrects-none : (block : List ℕ) → judged Detecting block .corrected ≡ 0
+unfolding judged otherwise
+corrects-none block = none-by (isEncoding block) (take 7 block)
 
 -- the first seven of eight octets
 pub first-seven : (block : List ℕ) → length block ≡ 8
@@ -89,32 +152,15 @@ first-seven s l =
     ∙ ap (λ (t : List ℕ). getD s 4 0 ∷ t) (take-next s 1 5 (omega arith)
     ∙ ap (λ (t : List ℕ). getD s 5 0 ∷ t) (take-next s 0 6 (omega arith)))))))
 
--- other lengths than eight are bad
-pub judged-length : (block : List ℕ) → (length block ≡ 8 → ⊥) → isGood (judged block) ≡ false
-judged-length block h = not-so (isGood (judged block)) (λ e. h (good-length block e))
-
--- eight octets are judged by the last
-pub judged-last : (block : List ℕ) → length block ≡ 8 → isGood (judged block) ≡ eqb (getD block 7 0) (errorControl (take 7 block))
-unfolding judged codeblockOf
-judged-last block h =
+-- and the last behind them
+pub eight-octets : (block : List ℕ) → length block ≡ 8 → block ≡ take 7 block ++ (getD block 7 0 ∷ [])
+eight-octets block h =
     let d : drop 7 block ≡ getD block 7 0 ∷ [] = drop-cons block 7 0 (omega arith) ∙ ap (λ (l : List ℕ). getD block 7 0 ∷ l) (drop-of-length-le block {i = 8} (omega arith)) in
-    let e : block ≡ take 7 block ++ (getD block 7 0 ∷ []) = sym (take-append-drop 7 block) ∙ ap (λ (l : List ℕ). take 7 block ++ l) d in
-    good-by (same block (codeblockOf (take 7 block))) (take 7 block)
-    ∙ ap (λ (b : List ℕ). same b (take 7 block ++ (errorControl (take 7 block) ∷ []))) e
+    sym (take-append-drop 7 block) ∙ ap (λ (l : List ℕ). take 7 block ++ l) d
+
+-- eight octets are an encoding by the last
+pub encoding-last : (block : List ℕ) → length block ≡ 8 → isEncoding block ≡ eqb (getD block 7 0) (errorControl (take 7 block))
+unfolding isEncoding codeblockOf
+encoding-last block h =
+    ap (λ (b : List ℕ). same b (take 7 block ++ (errorControl (take 7 block) ∷ []))) (eight-octets block h)
     ∙ same-last (take 7 block) (getD block 7 0) (errorControl (take 7 block))
-
--- by its parity bits, and where they agree by its filler bit
-eqb-halves : (x y : ℕ) → y % 2 ≡ 0 → x / 2 ≡ y / 2 → eqb x y ≡ eqb (x % 2) 0
-eqb-halves x y h e = go (eqb (x % 2) 0) refl
-  where
-    go : (b : Bool) → eqb (x % 2) 0 ≡ b → eqb x y ≡ b
-    go true t =
-        let z : x % 2 ≡ 0 = eqb-true (x % 2) 0 t in
-        eq-eqb x y (omega arith)
-    go false t = ne-eqb x y (λ z. eqb-false (x % 2) 0 t (omega arith))
-
-pub judged-parity : (block : List ℕ) → length block ≡ 8 → (getD block 7 0 / 2 ≡ errorControl (take 7 block) / 2 → ⊥) → isGood (judged block) ≡ false
-judged-parity block h n = judged-last block h ∙ ne-eqb (getD block 7 0) (errorControl (take 7 block)) (λ e. n (ap (λ (x : ℕ). x / 2) e))
-
-pub judged-filler : (block : List ℕ) → length block ≡ 8 → getD block 7 0 / 2 ≡ errorControl (take 7 block) / 2 → isGood (judged block) ≡ eqb (getD block 7 0 % 2) 0
-judged-filler block h e = judged-last block h ∙ eqb-halves (getD block 7 0) (errorControl (take 7 block)) (filler-zero (take 7 block)) e

@@ -1,13 +1,15 @@
 -- Clauses 8.2 and 8.5: the BCH codeblock. 56 information bits, 7 parity bits, each complemented, and a filler bit zero.
-use Prim.Native.Nat.{ℕ, _+_, _*_}
+use Prim.Native.Nat.{ℕ, zero, suc, _+_, _-_, _*_, _/_, _%_, _^_}
 use mathlib.Core.Bool.{Bool, true, false}
 use mathlib.Core.List.{List, [], _∷_, _++_}
 use lib.Bits.{bitXor}
-use lib.ListN.{take, replicate}
+use lib.ListN.{take, getD, set, replicate}
 use Rattle.base.specs.Choice.{pick}
 use Rattle.base.specs.Octets.{same}
 use Rattle.base.specs.Register.{register}
 use Rattle.codeblock.specs.declared.Judged.{Judged}
+use Rattle.codeblock.specs.declared.Mode.{Mode}
+use Rattle.codeblock.specs.declared.Mode.the-variants.{Detecting, Correcting}
 
 -- clause 8.5: g(x) = x^7 + x^6 + x^2 + 1, less its highest term
 abbrev pub generator : ℕ
@@ -30,6 +32,10 @@ errorControl information = bitXor (parity information) 0b111_1111 * 2 + fillerBi
 unfoldable pub codeblockOf : List ℕ → List ℕ
 codeblockOf information = information ++ (errorControl information ∷ [])
 
+-- the syndrome of a received codeblock: in which bits its last octet differs from the error control octet of its first seven
+unfoldable pub syndromeOf : List ℕ → ℕ
+syndromeOf block = bitXor (getD block 7 0) (errorControl (take 7 block))
+
 -- a received codeblock that is good, with its information and how many of its bits were corrected (at most one)
 abbrev pub good : List ℕ → ℕ → Judged
 good information corrected = record { good = true; information = information; corrected = corrected }
@@ -38,9 +44,30 @@ good information corrected = record { good = true; information = information; co
 abbrev pub bad : Judged
 bad = record { good = false; information = replicate 7 0; corrected = 0 }
 
--- document 01, "Codeblock and CLTU": good exactly when all 64 bits equal the encoding of the first 56; nothing is corrected
-unfoldable pub judged : List ℕ → Judged
-judged block = pick (same block (codeblockOf (take 7 block))) (good (take 7 block) 0) bad
+-- document 01, "Codeblock and CLTU": "all 64 bits equal the encoding of the first 56"
+unfoldable pub isEncoding : List ℕ → Bool
+isEncoding block = same block (codeblockOf (take 7 block))
+
+-- the block with its bit i of 64 inverted, the most significant of the first octet being bit 0
+unfoldable pub flipped : ℕ → List ℕ → List ℕ
+flipped i block = set block (i / 8) (bitXor (getD block (i / 8) 0) (2 ^ (7 - i % 8)))
+
+-- document 02, order 3: "One bit away: that bit is corrected and counted, including a parity bit. Neither: the block is bad." Of the n bits
+-- from bit i on, the first whose inversion makes the block an encoding is corrected; where there is none, the block is bad.
+unfoldable pub mended : ℕ → ℕ → List ℕ → Judged
+mended zero i block = bad
+mended (suc n) i block = pick (isEncoding (flipped i block)) (good (take 7 (flipped i block)) 1) (mended n (suc i) block)
+
+-- document 02, order 3: "The first 63 bits, parity complemented back, are good, or one bit away from a good word, or neither." So a block that
+-- is no encoding is bad in the detecting mode; in the correcting mode it is mended at one of its first 63 bits. "A filler bit of one is bad in both modes":
+-- bit 63 is not among them (proofs/Modes, `filler-bad`).
+unfoldable pub otherwise : Mode → List ℕ → Judged
+otherwise Detecting block = bad
+otherwise Correcting block = mended 63 0 block
+
+-- the judgement of a received codeblock, in either mode
+unfoldable pub judged : Mode → List ℕ → Judged
+judged mode block = pick (isEncoding block) (good (take 7 block) 0) (otherwise mode block)
 
 -- clause 8.7, state S3: a codeblock is good or bad
 abbrev pub isGood : Judged → Bool

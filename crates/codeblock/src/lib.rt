@@ -1,11 +1,24 @@
-// Clauses 8.2 and 8.5: the BCH codeblock. Its error control octet, and the judgement of a received codeblock.
+// Clauses 8.2, 8.5 and 8.8: the BCH codeblock. Its error control octet, and the judgement of a received codeblock.
+mod table;
+
+use crate::table::BITS;
+use crate::table::NO_BIT;
 ghost use mathlib.Core.Path.{_≡_};
 ghost use Prim.Native.Nat.{_<_};
+ghost use lib.ListN.{length, take};
+ghost use Rattle.base.specs.Octets.{Octets};
 ghost use Rattle.base.specs.Register.{shiftBit, shiftBits};
-ghost use Rattle.codeblock.specs.Codeblock.{generator, errorControl, judged, isGood};
+ghost use Rattle.codeblock.specs.Codeblock.{generator, errorControl, syndromeOf, flipped, mended, judged, isGood};
+ghost use Rattle.codeblock.specs.declared.Mode.the-variants.{Detecting};
 
 // The generator x^7 + x^6 + x^2 + 1, less its highest term.
 const GENERATOR: u8 = 0x45;
+
+// Clause 8.8: whether a single wrong bit of a codeblock is corrected, or only detected.
+pub enum Mode {
+    Detecting,
+    Correcting,
+}
 
 // A received codeblock: whether it is good, its information, and how many of its bits were corrected (at most one).
 pub struct Judged {
@@ -59,39 +72,84 @@ const BAD: Judged = Judged {
     corrected: 0,
 };
 
-// Judges octets as a codeblock: good where there are eight, the parity bits as the information gives them, the filler bit zero.
-pub fn judge(block: &[u8]) -> Judged
-    ensures { λ r. ⌜ r ≡ judged (now (block .entry)) ⌝ }
+// The bits of an octet, bit 0 the most significant.
+const WEIGHTS: [u8; 8] = [128, 64, 32, 16, 8, 4, 2, 1];
+
+// The information of a codeblock: its first seven octets.
+fn information(block: &[u8]) -> [u8; 7]
+    requires { ⌜ length (now block) ≡ 8 ⌝ }
+    ensures { λ r. ⌜ r ≡ take 7 (now (block .entry)) ⌝ }
+{
+    [
+        block[0],
+        block[1],
+        block[2],
+        block[3],
+        block[4],
+        block[5],
+        block[6],
+    ]
+}
+
+// The information with a bit of the codeblock inverted; a bit of the error control octet changes nothing of it.
+fn invert(information: [u8; 7], bit: u8) -> [u8; 7]
+    ensures { λ r. ⌜ r ≡ flipped bit information ⌝ }
+{
+    let octet = (bit / 8) as usize;
+    if 7 <= octet {
+        return information;
+    }
+    let mut inverted = information;
+    inverted[octet] = inverted[octet] ^ WEIGHTS[(bit % 8) as usize];
+    inverted
+}
+
+// The judgement of a codeblock that is no encoding, in the correcting mode, by its syndrome: mended at the one bit that has it.
+fn mend(block: &[u8], syndrome: u8) -> Judged
+    requires { ⌜ (length (now block) ≡ 8) × Octets (now block) × (syndrome ≡ syndromeOf (now block)) ⌝ }
+    ensures { λ r. ⌜ r ≡ mended 63 0 (now (block .entry)) ⌝ }
+{
+    if syndrome % 2 != 0 {
+        return BAD;
+    }
+    let bit = BITS[(syndrome / 2) as usize];
+    if bit == NO_BIT {
+        return BAD;
+    }
+    let received = information(block);
+    Judged {
+        good: true,
+        information: invert(received, bit),
+        corrected: 1,
+    }
+}
+
+// Judges octets as a codeblock. There are eight; it is good where its syndrome is zero, else bad in the detecting mode and mended in the
+// correcting mode.
+pub fn judge(block: &[u8], mode: Mode) -> Judged
+    ensures { λ r. ⌜ r ≡ judged mode (now (block .entry)) ⌝ }
 {
     if block.len() != 8 {
         return BAD;
     }
-    let control = error_control(&block[..7]);
-    if block[7] / 2 != control / 2 {
-        return BAD;
+    let syndrome = block[7] ^ error_control(&block[..7]);
+    if syndrome == 0 {
+        return Judged {
+            good: true,
+            information: information(block),
+            corrected: 0,
+        };
     }
-    if block[7] % 2 != 0 {
-        return BAD;
-    }
-    Judged {
-        good: true,
-        information: [
-            block[0],
-            block[1],
-            block[2],
-            block[3],
-            block[4],
-            block[5],
-            block[6],
-        ],
-        corrected: 0,
+    match mode {
+        Mode::Detecting => BAD,
+        Mode::Correcting => mend(block, syndrome),
     }
 }
 
-// Whether the octets are a good codeblock.
+// Whether the octets are a good codeblock, in the detecting mode.
 pub fn is_good(block: &[u8]) -> bool
-    ensures { λ r. ⌜ r ≡ isGood (judged (now (block .entry))) ⌝ }
+    ensures { λ r. ⌜ r ≡ isGood (judged Detecting (now (block .entry))) ⌝ }
 {
-    let j = judge(block);
+    let j = judge(block, Mode::Detecting);
     j.good
 }

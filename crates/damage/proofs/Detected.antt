@@ -18,13 +18,14 @@ use Rattle.base.proofs.Lists.{below-append, below-take}
 use Rattle.base.proofs.Register.{register-lt}
 use Rattle.base.proofs.Tests.{apart, not-so, both-left, both-right}
 use Rattle.base.proofs.Xor.{xor-undo, four, bit-times}
+use Rattle.base.specs.Distance.{differing, wrongBits}
 use Rattle.codeblock.specs.Codeblock.{generator, parity, errorControl, codeblockOf, bad, judged, isGood}
+use Rattle.codeblock.specs.declared.Mode.the-variants.{Detecting}
 use Rattle.codeblock.proofs.Codeblock.{length-codeblock, good-is, bad-judged}
+use Rattle.codeblock.proofs.Bits.{bits-octets, none-differing, none-wrong}
+use Rattle.codeblock.proofs.Columns.{total, total-good, sum, columns, total-columns}
 use Rattle.cltu.specs.Cltu.{tailSequence}
 use Rattle.cltu.proofs.Judge.{detects}
-use Rattle.base.specs.Distance.{differing, wrongBits}
-use Rattle.damage.proofs.Bits.{bits-octets, none-differing, none-wrong}
-use Rattle.damage.proofs.Columns.{total, total-good, sum, columns, total-columns}
 
 -- no choice of 1 to k of the columns adds up to v
 unfoldable noChoice : ℕ → List ℕ → ℕ → Bool
@@ -74,7 +75,7 @@ blocks-apart v s t f ls lt hs ht e low high =
     sums-apart 3 v (columns 8) (octetBits s) (octetBits t) f (omega (arith, length-bits s)) (omega (arith, length-bits t)) (bits-octets s hs) (bits-octets t ht)
     (ap₂ bitXor (c s ls hs) (c t lt ht) ∙ e) low high
 
-good-sum : (block : List ℕ) → Octets block → isGood (judged block) ≡ true → total block ≡ 0b1111_1110
+good-sum : (block : List ℕ) → Octets block → isGood (judged Detecting block) ≡ true → total block ≡ 0b1111_1110
 good-sum block h g = ap total (good-is block g) ∙ total-good (take 7 block) (below-take 256 7 block h)
 
 pub octets-codeblock : (information : List ℕ) → Octets information → Octets (codeblockOf information)
@@ -85,22 +86,22 @@ octets-codeblock information h =
     below-append 256 information (errorControl information ∷ []) h (omega arith, tt)
 
 pub codeblock-detected : (information block : List ℕ) → length information ≡ 7 → Octets information → length block ≡ 8 → Octets block
-    → 1 ≤ wrongBits (codeblockOf information) block → wrongBits (codeblockOf information) block ≤ 3 → judged block ≡ bad
+    → 1 ≤ wrongBits (codeblockOf information) block → wrongBits (codeblockOf information) block ≤ 3 → judged Detecting block ≡ bad
 unfolding noChoice
 codeblock-detected information block l h lb hb low high =
-    bad-judged block (not-so (isGood (judged block)) (λ g.
+    bad-judged block (not-so (isGood (judged Detecting block)) (λ g.
     blocks-apart 0 (codeblockOf information) block refl (omega (arith, length-codeblock information)) lb (octets-codeblock information h) hb
     (ap₂ bitXor (total-good information h) (good-sum block hb g)) low high))
 
 pub octets-tail : Octets tailSequence
 octets-tail = (omega arith, (omega arith, (omega arith, (omega arith, (omega arith, (omega arith, (omega arith, (omega arith, tt))))))))
 
-pub tail-detected : (block : List ℕ) → length block ≡ 8 → Octets block → wrongBits tailSequence block ≤ 3 → judged block ≡ bad
+pub tail-detected : (block : List ℕ) → length block ≡ 8 → Octets block → wrongBits tailSequence block ≤ 3 → judged Detecting block ≡ bad
 unfolding noChoice total
 tail-detected block l h high = go (wrongBits tailSequence block) refl
   where
-    go : (n : ℕ) → wrongBits tailSequence block ≡ n → judged block ≡ bad
-    go zero e = ap judged (sym (none-wrong tailSequence block (sym l) octets-tail h e)) ∙ detects .tail
+    go : (n : ℕ) → wrongBits tailSequence block ≡ n → judged Detecting block ≡ bad
+    go zero e = ap (judged Detecting) (sym (none-wrong tailSequence block (sym l) octets-tail h e)) ∙ detects .tail
     go (suc n) e =
-        bad-judged block (not-so (isGood (judged block)) (λ g.
+        bad-judged block (not-so (isGood (judged Detecting block)) (λ g.
         blocks-apart 0x87 tailSequence block refl refl l octets-tail h (ap (bitXor (total tailSequence)) (good-sum block h g)) (omega arith) high))

@@ -15,7 +15,9 @@ use Rattle.base.specs.Register.{shiftBit, shiftBits, register}
 use Rattle.base.proofs.Computed.{all, below, is-true}
 use Rattle.base.proofs.Lists.{octets-at, below-set}
 use Rattle.base.proofs.Tests.{apart}
-use Rattle.codeblock.specs.Codeblock.{parity, errorControl, codeblockOf, bad, judged, isGood}
+use Rattle.base.specs.Distance.{differing, wrongBits}
+use Rattle.codeblock.specs.Codeblock.{parity, errorControl, codeblockOf, bad, isEncoding, otherwise, judged, isGood}
+use Rattle.codeblock.specs.declared.Mode.the-variants.{Detecting}
 use Rattle.randomizer.specs.Randomizer.{nextBit, later, octet, randomized}
 use Rattle.start_sequence.specs.StartSequence.{recognized, starts, startOf, Received}
 use Rattle.start_sequence.proofs.Search.{sequence-received}
@@ -23,7 +25,6 @@ use Rattle.encoded_data.specs.EncodedData.{goodRun, informationIn, correctedIn}
 use Rattle.cltu.specs.Cltu.{filled, encoded, informationFor, cltuOf, tailSequence, readingRun, readingBy, reading}
 use Rattle.cltu.proofs.Examples.{frame}
 use Rattle.cltu.proofs.Places.{length-cltu}
-use Rattle.base.specs.Distance.{differing, wrongBits}
 use Rattle.damage.specs.Damage.{eightAt, Damaged}
 use Rattle.damage.proofs.Reading.{octets-cltu}
 
@@ -31,16 +32,16 @@ use Rattle.damage.proofs.Reading.{octets-cltu}
 abbrev passing : List ℕ
 passing = 0xE0 ∷ 0 ∷ 0 ∷ 0 ∷ 0x01 ∷ 0 ∷ 0 ∷ 0xFE ∷ []
 
-pub four-pass : (wrongBits (codeblockOf (replicate 7 0)) passing ≡ 4) × (isGood (judged passing) ≡ true)
-unfolding wrongBits differing octetBits bitsOf judged codeblockOf errorControl parity register shiftBits shiftBit
+pub four-pass : (wrongBits (codeblockOf (replicate 7 0)) passing ≡ 4) × (isGood (judged Detecting passing) ≡ true)
+unfolding wrongBits differing octetBits bitsOf judged otherwise isEncoding codeblockOf errorControl parity register shiftBits shiftBit
 four-pass = (refl, refl)
 
 -- so four wrong bits are not always found
 pub four-refuted : ((information block : List ℕ) → length information ≡ 7 → Octets information → length block ≡ 8 → Octets block
-    → 1 ≤ wrongBits (codeblockOf information) block → wrongBits (codeblockOf information) block ≤ 4 → judged block ≡ bad) → ⊥
+    → 1 ≤ wrongBits (codeblockOf information) block → wrongBits (codeblockOf information) block ≤ 4 → judged Detecting block ≡ bad) → ⊥
 four-refuted found =
     let w : wrongBits (codeblockOf (replicate 7 0)) passing ≡ 4 = four-pass .0 in
-    let b : judged passing ≡ bad =
+    let b : judged Detecting passing ≡ bad =
     found (replicate 7 0) passing refl (zeros 7) refl (omega arith, (omega arith, (omega arith, (omega arith, (omega arith, (omega arith, (omega arith, (omega arith, tt)))))))) (omega arith) (omega arith) in
     apart (sym (ap isGood b) ∙ four-pass .1)
   where
@@ -52,8 +53,8 @@ four-refuted found =
 abbrev passingTail : List ℕ
 passingTail = 0x05 ∷ 0xC5 ∷ 0xC5 ∷ 0xC5 ∷ 0xC5 ∷ 0xC5 ∷ 0xC5 ∷ 0x58 ∷ []
 
-pub four-tail : (wrongBits tailSequence passingTail ≡ 4) × (isGood (judged passingTail) ≡ true)
-unfolding wrongBits differing octetBits bitsOf judged codeblockOf errorControl parity register shiftBits shiftBit
+pub four-tail : (wrongBits tailSequence passingTail ≡ 4) × (isGood (judged Detecting passingTail) ≡ true)
+unfolding wrongBits differing octetBits bitsOf judged otherwise isEncoding codeblockOf errorControl parity register shiftBits shiftBit
 four-tail = (refl, refl)
 
 -- a CLTU of two codeblocks with bits of one octet wrong
@@ -105,5 +106,5 @@ pub readings :
     (numberOf (answer (reading (changed 5 0b0010_0101) 14)) ≡ 2)
     × (countOf (answer (reading (changed 17 0b1100_0001) 14)) ≡ 7)
     × (reading (changed 20 0b0111_0000) 14 ≡ reading sent 14) × (reading (changed 0 0b0000_0001) 14 ≡ reading sent 14)
-unfolding readingBy readingRun correctedIn informationIn goodRun startOf starts recognized differing octetBits bitsOf cltuOf informationFor encoded filled randomized octet later nextBit judged codeblockOf errorControl parity register shiftBits shiftBit
+unfolding readingBy readingRun correctedIn informationIn goodRun startOf starts recognized differing octetBits bitsOf cltuOf informationFor encoded filled randomized octet later nextBit judged otherwise isEncoding codeblockOf errorControl parity register shiftBits shiftBit
 readings = (refl, refl, refl, refl)

@@ -1,5 +1,3 @@
-pub mod Bits
-pub mod Columns
 pub mod Detected
 pub mod Reading
 pub mod Refused

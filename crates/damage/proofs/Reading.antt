@@ -17,9 +17,12 @@ use Rattle.base.specs.Octets.{Octets}
 use Rattle.base.specs.Outcome.{Outcome.refused}
 use Rattle.base.proofs.Lists.{below-append, below-take, below-drop, rest}
 use Rattle.base.proofs.Tests.{apart}
+use Rattle.base.specs.Distance.{wrongBits}
 use Rattle.codeblock.specs.Codeblock.{codeblockOf, judged, isGood}
+use Rattle.codeblock.specs.declared.Mode.the-variants.{Detecting}
 use Rattle.codeblock.specs.declared.Judged.{Judged}
 use Rattle.codeblock.proofs.Codeblock.{judged-codeblock, length-codeblock}
+use Rattle.codeblock.proofs.Bits.{none-wrong, self-wrong}
 use Rattle.randomizer.specs.Randomizer.{octet, randomized}
 use Rattle.randomizer.proofs.Randomized.{randomized-twice, octets-randomized}
 use Rattle.start_sequence.specs.StartSequence.{startOf}
@@ -31,9 +34,7 @@ use Rattle.cltu.proofs.Judge.{corrected-none}
 use Rattle.cltu.proofs.Places.{length-information, length-encoded, length-seven, length-cltu, octets-filled}
 use Rattle.cltu.proofs.RoundTrip.{first-block, other-blocks}
 use Rattle.cltu.proofs.Outcomes.{reading-found}
-use Rattle.base.specs.Distance.{wrongBits}
 use Rattle.damage.specs.Damage.{eightAt, Damaged, readingFront, ReadToDamage}
-use Rattle.damage.proofs.Bits.{none-wrong, self-wrong}
 use Rattle.damage.proofs.Detected.{octets-codeblock, octets-tail, codeblock-detected, tail-detected}
 
 -- octets from place n on, k octets further on
@@ -53,13 +54,13 @@ sent-at (suc n) (suc b) information t h l =
 
 -- m codeblocks that are as sent hold the front of the information
 information-front : (m : ℕ) (information s : List ℕ) → 7 * m ≤ length information
-    → ((b : ℕ) → b < m → take 8 (drop (8 * b) s) ≡ codeblockOf (take 7 (drop (7 * b) information))) → informationIn judged m s ≡ take (7 * m) information
+    → ((b : ℕ) → b < m → take 8 (drop (8 * b) s) ≡ codeblockOf (take 7 (drop (7 * b) information))) → informationIn (judged Detecting) m s ≡ take (7 * m) information
 unfolding informationIn
 information-front zero information s l h = refl
 information-front (suc m) information s l h =
     let e : 7 + 7 * m ≡ 7 * suc m = omega (arith, mul-suc 7 m) in
     ap₂ (λ (j : Judged) (x : List ℕ). j .information ++ x)
-    (ap judged (h 0 (omega arith)) ∙ judged-codeblock (take 7 information) (simp length-take (omega arith)))
+    (ap (judged Detecting) (h 0 (omega arith)) ∙ judged-codeblock Detecting (take 7 information) (simp length-take (omega arith)))
     (information-front m (drop 7 information) (drop 8 s) (simp length-drop (omega arith)) (λ b k.
     later (8 * b) 8 (8 * suc b) s (omega (arith, mul-suc 8 b))
     ∙ h (suc b) (omega arith)
@@ -127,7 +128,7 @@ module _ (frame : List ℕ) (h : Octets frame) (high : length frame ≤ largestF
     body = drop 2 received
 
     abbrev run : ℕ
-    run = goodRun judged (suc n) body
+    run = goodRun (judged Detecting) (suc n) body
 
     body-length : length body ≡ 8 * n + 8
     body-length = simp length-drop (omega (arith, damaged .same-length, length-cltu frame))
@@ -139,7 +140,7 @@ module _ (frame : List ℕ) (h : Octets frame) (high : length frame ≤ largestF
     eight-octets b = below-take 256 8 (drop (8 * b) body) (below-drop 256 (8 * b) body (below-drop 256 2 received (damaged .octets)))
 
     -- a codeblock that is good is as sent
-    good-intact : (b : ℕ) → b < n → isGood (judged (eightAt b received)) ≡ true → eightAt b received ≡ codeblockOf (information b)
+    good-intact : (b : ℕ) → b < n → isGood (judged Detecting (eightAt b received)) ≡ true → eightAt b received ≡ codeblockOf (information b)
     good-intact b l g = go (wrongBits (codeblockOf (information b)) (eightAt b received)) refl
       where
         few : wrongBits (codeblockOf (information b)) (eightAt b received) ≤ 3
@@ -154,7 +155,7 @@ module _ (frame : List ℕ) (h : Octets frame) (high : length frame ≤ largestF
             absurd (apart (sym (ap isGood bad) ∙ g))
 
     -- the tail is bad
-    tail-ends : isGood (judged (eightAt n received)) ≡ false
+    tail-ends : isGood (judged Detecting (eightAt n received)) ≡ false
     tail-ends =
         ap isGood (tail-detected (eightAt n received) (eight-length n (omega arith)) (eight-octets n)
         (subst (λ (s : List ℕ). wrongBits s (eightAt n received) ≤ 3) tail-sent (damaged .few n)))
@@ -163,18 +164,18 @@ module _ (frame : List ℕ) (h : Octets frame) (high : length frame ≤ largestF
     run-within = go (ltb n run) refl
       where
         go : (b : Bool) → ltb n run ≡ b → run ≤ n
-        go true e = absurd (apart (sym tail-ends ∙ run-good judged (suc n) body n (ltb-true n run e)))
+        go true e = absurd (apart (sym tail-ends ∙ run-good (judged Detecting) (suc n) body n (ltb-true n run e)))
         go false e = ltb-false n run e
 
     run-intact : (b : ℕ) → b < run → eightAt b received ≡ codeblockOf (information b)
-    run-intact b l = good-intact b (omega (arith, run-within)) (run-good judged (suc n) body b l)
+    run-intact b l = good-intact b (omega (arith, run-within)) (run-good (judged Detecting) (suc n) body b l)
 
     run-damaged : run < n → eightAt run received ≡ eightAt run (cltuOf frame) → ⊥
     run-damaged l e =
-        apart (sym (run-ends judged (suc n) body (omega arith))
-        ∙ ap isGood (ap judged (e ∙ codeblock-sent run l) ∙ judged-codeblock (information run) (length-seven frame run l)))
+        apart (sym (run-ends (judged Detecting) (suc n) body (omega arith))
+        ∙ ap isGood (ap (judged Detecting) (e ∙ codeblock-sent run l) ∙ judged-codeblock Detecting (information run) (length-seven frame run l)))
 
-    handed : randomized 0 (informationIn judged run body) ≡ take (7 * run) (filled frame)
+    handed : randomized 0 (informationIn (judged Detecting) run body) ≡ take (7 * run) (filled frame)
     unfolding informationFor
     handed =
         ap (randomized 0) (information-front run (informationFor frame) body (omega (arith, run-within, length-information frame)) run-intact)
@@ -187,9 +188,9 @@ module _ (frame : List ℕ) (h : Octets frame) (high : length frame ≤ largestF
         let l : run < length body / 8 = omega (arith, body-length, run-within) in
         let w : suc n ≡ length body / 8 = omega (arith, body-length) in
         let s : startOf received ≡ 0 = ap startOf (sym (take-append-drop 2 received)) ∙ first-near [] (take 2 received) body (damaged .start) refl in
-        reading-found judged received room 0 (omega (arith, damaged .same-length, length-cltu frame)) (omega (arith, damaged .same-length, length-cltu frame)) (sym s)
-        ∙ ap (λ (t : List ℕ). readingAfter judged 2 t room) (rest received 2)
-        ∙ ap (λ (j : ℕ). readingRun judged 2 body room (goodRun judged j body)) (sym w)
+        reading-found (judged Detecting) received room 0 (omega (arith, damaged .same-length, length-cltu frame)) (omega (arith, damaged .same-length, length-cltu frame)) (sym s)
+        ∙ ap (λ (t : List ℕ). readingAfter (judged Detecting) 2 t room) (rest received 2)
+        ∙ ap (λ (j : ℕ). readingRun (judged Detecting) 2 body room (goodRun (judged Detecting) j body)) (sym w)
         ∙ rw (lt-ltb run (length body / 8) l, handed, corrected-none run body)
 
     pub damaged-reading : ReadToDamage frame received

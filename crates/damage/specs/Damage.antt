@@ -1,7 +1,7 @@
 -- Clauses 8.2 to 8.7: wrong bits in a CLTU on its way, and what its reading is then.
 use Prim.Native.Nat.{ℕ, _+_, _*_, _<_, _≤_}
 use mathlib.Core.Path.{_≡_}
-use mathlib.Core.List.{List, [], _∷_}
+use mathlib.Core.List.{List}
 use lib.Dec.{ltb, leb}
 use lib.ListN.{length, take, drop}
 use Rattle.base.specs.Choice.{must}

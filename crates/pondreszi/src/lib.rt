@@ -14,6 +14,7 @@ ghost use lib.ListN.{length};
 ghost use Rattle.base.specs.Outcome.{answer, after, numberOf, countOf};
 ghost use Rattle.base.specs.Flags.{bitOf};
 ghost use Rattle.codeblock.specs.Codeblock.{errorControl, judged, isGood};
+ghost use Rattle.codeblock.specs.declared.Mode.the-variants.{Detecting};
 ghost use Rattle.randomizer.specs.Randomizer.{octet};
 ghost use Rattle.cltu.specs.Cltu.{writing, reading};
 ghost use Rattle.pondreszi_numbers.specs.Numbers.{placeOf, correctedOf};
@@ -27,7 +28,7 @@ pub extern "C" fn pondreszi_codeblock_error_control(information: &[u8]) -> u8
 
 #[no_mangle]
 pub extern "C" fn pondreszi_codeblock_is_good(block: &[u8]) -> u8
-    ensures { λ r. ⌜ r ≡ bitOf (isGood (judged (now (block .entry)))) ⌝ }
+    ensures { λ r. ⌜ r ≡ bitOf (isGood (judged Detecting (now (block .entry)))) ⌝ }
 {
     flag(codeblock::is_good(block))
 }

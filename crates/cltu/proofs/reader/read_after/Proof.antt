@@ -8,6 +8,7 @@ use denote.Ref.{now}
 use lib.ListN.{length}
 use Rattle.base.proofs.Tests.{told}
 use Rattle.codeblock.specs.Codeblock.{judged}
+use Rattle.codeblock.specs.declared.Mode.the-variants.{Detecting}
 use Rattle.codeblock.proofs.Codeblock.{good-seven}
 use Rattle.memory.specs.Placed.{placed}
 use Rattle.randomizer.specs.Randomizer.{randomized}
@@ -29,24 +30,24 @@ take-good-requires c κs = search needs
 mul-t13 : tie.Need-mul-t13
 mul-t13 c =
     let s = now (c .before .before .before .before .before .before .args .input) in
-    omega (arith, run-whole judged (now (c .before .before .before .before .before .before .args .input)) (c .before .before .take-good .ensures .0 .0) (search needs), run-le judged (length s / 8) s)
+    omega (arith, run-whole (judged Detecting) (now (c .before .before .before .before .before .before .args .input)) (c .before .before .take-good .ensures .0 .0) (search needs), run-le (judged Detecting) (length s / 8) s)
 
 add-t14 : tie.Need-add-t14
 add-t14 c =
     let s = now (c .before .before .before .before .before .before .args .input) in
-    omega (arith, run-whole judged (now (c .before .before .before .before .before .before .args .input)) (c .before .before .take-good .ensures .0 .0) (search needs), run-le judged (length s / 8) s)
+    omega (arith, run-whole (judged Detecting) (now (c .before .before .before .before .before .before .args .input)) (c .before .before .take-good .ensures .0 .0) (search needs), run-le (judged Detecting) (length s / 8) s)
 
 returns : tie.Need-returns
 returns c =
     let a = c .before .before .before .before .before .before .args in
-    let g = run-whole judged (now (c .before .before .before .before .before .before .args .input)) (c .before .before .take-good .ensures .0 .0) (search needs) in
-    told (after-end judged (a .offset) (now (a .input)) (length (now (a .out))) (c .before .before .take-good .result .blocks) g (search needs)) (now (a .out))
+    let g = run-whole (judged Detecting) (now (c .before .before .before .before .before .before .args .input)) (c .before .before .take-good .ensures .0 .0) (search needs) in
+    told (after-end (judged Detecting) (a .offset) (now (a .input)) (length (now (a .out))) (c .before .before .take-good .result .blocks) g (search needs)) (now (a .out))
 
 returns-2 : tie.Need-returns-2
 returns-2 c =
     let a = c .before .before .before .before .before .before .before .args in
-    let g = run-whole judged (now (c .before .before .before .before .before .before .before .args .input)) (c .before .before .before .take-good .ensures .0 .0) (search needs) in
-    told (after-none judged (a .offset) (now (a .input)) (length (now (a .out))) (c .before .before .before .take-good .result .blocks) g (search needs) (search needs)) (now (a .out))
+    let g = run-whole (judged Detecting) (now (c .before .before .before .before .before .before .before .args .input)) (c .before .before .before .take-good .ensures .0 .0) (search needs) in
+    told (after-none (judged Detecting) (a .offset) (now (a .input)) (length (now (a .out))) (c .before .before .before .take-good .result .blocks) g (search needs) (search needs)) (now (a .out))
 
 mul-if3 : tie.Need-mul-if3
 mul-if3 c = search needs
@@ -54,8 +55,8 @@ mul-if3 c = search needs
 returns-3 : tie.Need-returns-3
 returns-3 c =
     let a = c .before .before .before .before .before .before .before .before .args in
-    let g = run-whole judged (now (c .before .before .before .before .before .before .before .before .args .input)) (c .before .before .before .before .take-good .ensures .0 .0) (search needs) in
-    told (after-room judged (a .offset) (now (a .input)) (length (now (a .out))) (c .before .before .before .before .take-good .result .blocks) g (search needs) (search needs) (search needs)) (now (a .out))
+    let g = run-whole (judged Detecting) (now (c .before .before .before .before .before .before .before .before .args .input)) (c .before .before .before .before .take-good .ensures .0 .0) (search needs) in
+    told (after-room (judged Detecting) (a .offset) (now (a .input)) (length (now (a .out))) (c .before .before .before .before .take-good .result .blocks) g (search needs) (search needs) (search needs)) (now (a .out))
 
 mul-count : tie.Need-mul-count
 mul-count c = search needs
@@ -87,14 +88,14 @@ returns-4 c =
     let t = c .before .before .before .before .before .before .before .before .before .before .take-good in
     let s = now (a .input) in
     let n = t .result .blocks in
-    let g : n ≡ goodRun judged (length s / 8) s = run-whole judged (now (c .before .before .before .before .before .before .before .before .before .before .before .before .before .before .args .input)) (c .before .before .before .before .before .before .before .before .before .before .take-good .ensures .0 .0) (search needs) in
-    let o = told (after-done judged (a .offset) s (length (now (a .out))) n g (search needs) (search needs) (search needs)) (now (a .out)) in
-    let i = length-information-in judged good-seven (length s / 8) n s (omega (arith, g)) in
-    let z : length (randomized 0 (informationIn judged n s)) ≡ 7 * n = length-randomized 0 (informationIn judged n s) ∙ i in (
+    let g : n ≡ goodRun (judged Detecting) (length s / 8) s = run-whole (judged Detecting) (now (c .before .before .before .before .before .before .before .before .before .before .before .before .before .before .args .input)) (c .before .before .before .before .before .before .before .before .before .before .take-good .ensures .0 .0) (search needs) in
+    let o = told (after-done (judged Detecting) (a .offset) s (length (now (a .out))) n g (search needs) (search needs) (search needs)) (now (a .out)) in
+    let i = length-information-in (judged Detecting) (good-seven Detecting) (length s / 8) n s (omega (arith, g)) in
+    let z : length (randomized 0 (informationIn (judged Detecting) n s)) ≡ 7 * n = length-randomized 0 (informationIn (judged Detecting) n s) ∙ i in (
       ap₂ (λ (k j : ℕ). readAnswer (Done k (a .offset + 8 * n) j)) (sym z) (t .ensures .0 .1) ∙ o .0,
       c .before .before .unpack .ensures
-          ∙ ap (λ (l : List ℕ). placed (now (a .out)) 0 (randomized 0 l)) (part-front (informationIn judged n s) _ _ (7 * n) (t .ensures .1) (sym i))
-          ∙ placed-front (now (a .out)) (randomized 0 (informationIn judged n s)) (omega (arith, z))
+          ∙ ap (λ (l : List ℕ). placed (now (a .out)) 0 (randomized 0 l)) (part-front (informationIn (judged Detecting) n s) _ _ (7 * n) (t .ensures .1) (sym i))
+          ∙ placed-front (now (a .out)) (randomized 0 (informationIn (judged Detecting) n s)) (omega (arith, z))
           ∙ o .1,
     )
 

@@ -3,34 +3,34 @@
 -- that of the columns of the bits that are one (`total-columns`).
 use mathlib.Core.Path.{_≡_, refl, sym, ap, ap₂, _∙_}
 use mathlib.Core.List.{List, [], _∷_, _++_}
-use Prim.Native.Nat.{ℕ, zero, suc, _+_, _*_, _<_}
+use Prim.Native.Nat.{ℕ, zero, suc, _+_, _-_, _*_, _<_}
 use native.Mathlib.Nat.{add-zero, mul-one, zero-mul, one-mul}
 use native.Mathlib.Omega.{arith}
 use borrow.Author.Tests.{ltb-true}
 use lib.Bits.{bitXor, xor-lt, xor-comm, xor-zero-r}
 use lib.Dec.{eqb, eqb→eq, ltb}
-use lib.ListN.{length, length-append}
+use lib.ListN.{length, getD, set, length-append, length-set}
 use Rattle.base.specs.Octets.{Bits, Octets, bitsOf, octetBits}
 use Rattle.base.specs.Register.{shiftBits, register}
 use Rattle.base.proofs.Computed.{below, is-true}
 use Rattle.base.proofs.Register.{leaves, shiftBits-lt}
-use Rattle.base.proofs.Xor.{xor-assoc, xor-undo, double}
+use Rattle.base.proofs.Xor.{xor-assoc, xor-undo, swap, double}
 use Rattle.base.proofs.Table.{shifts, shifts-xor, eight}
 use Rattle.codeblock.specs.Codeblock.{generator, parity, errorControl, codeblockOf}
-use Rattle.damage.proofs.Bits.{bits-octet}
+use Rattle.codeblock.proofs.Bits.{bits-octet}
 
 -- the register, a place up, moved on by eight bits, and by n octets
-abbrev moved : ℕ → ℕ
+abbrev pub moved : ℕ → ℕ
 moved = shifts 7 (generator * 2) 8
 
-abbrev movedBy : ℕ → ℕ → ℕ
+abbrev pub movedBy : ℕ → ℕ → ℕ
 movedBy zero v = v
 movedBy (suc n) v = movedBy n (moved v)
 
 moved-lt : (v : ℕ) → v < 256 → moved v < 256
 moved-lt v h = ltb-true (moved v) 256 (is-true (ltb (moved v) 256) (below (λ y. ltb (moved y) 256) 256 tt v h))
 
-movedBy-xor : (n u v : ℕ) → u < 256 → v < 256 → movedBy n (bitXor u v) ≡ bitXor (movedBy n u) (movedBy n v)
+pub movedBy-xor : (n u v : ℕ) → u < 256 → v < 256 → movedBy n (bitXor u v) ≡ bitXor (movedBy n u) (movedBy n v)
 movedBy-xor zero u v hu hv = refl
 movedBy-xor (suc n) u v hu hv =
     ap (movedBy n) (shifts-xor 7 (generator * 2) (omega arith) 8 u v hu hv) ∙ movedBy-xor n (moved u) (moved v) (moved-lt u hu) (moved-lt v hv)
@@ -41,7 +41,7 @@ total [] = 0
 total (o ∷ s) = bitXor (movedBy (length s) o) (total s)
 
 -- the register over octets, a place up, and an octet e behind them
-register-total : (s : List ℕ) (r e : ℕ) → r < 128 → Octets s
+pub register-total : (s : List ℕ) (r e : ℕ) → r < 128 → Octets s
     → bitXor (register 6 generator r s * 2) e ≡ bitXor (movedBy (length s) (r * 2)) (total (s ++ (e ∷ [])))
 unfolding register total
 register-total [] r e hr h = ap (bitXor (r * 2)) (sym (xor-zero-r e))
@@ -55,22 +55,49 @@ register-total (o ∷ s) r e hr h =
     ∙ xor-assoc (movedBy (suc (length s)) (r * 2)) (movedBy (suc (length s)) o) t
     ∙ ap (λ (n : ℕ). bitXor (movedBy (suc (length s)) (r * 2)) (bitXor (movedBy n o) t)) l
 
-zero-moved : (n : ℕ) → movedBy n 0 ≡ 0
+pub zero-moved : (n : ℕ) → movedBy n 0 ≡ 0
 zero-moved zero = refl
 zero-moved (suc n) = zero-moved n
 
+-- the error control octet: the complemented bits and the parity bits added
+pub control-is : (information : List ℕ) → errorControl information ≡ bitXor 0b1111_1110 (parity information * 2)
+unfolding errorControl
+control-is information =
+    add-zero (bitXor (parity information) 0b111_1111 * 2)
+    ∙ double (parity information) 0b111_1111
+    ∙ xor-comm (parity information * 2) 0b1111_1110
+
+-- the sum over information and an octet behind it
+pub total-control : (information : List ℕ) (e : ℕ) → Octets information → bitXor (parity information * 2) e ≡ total (information ++ (e ∷ []))
+unfolding parity
+total-control information e h =
+    register-total information 0 e (omega arith) h ∙ ap (λ (x : ℕ). bitXor x (total (information ++ (e ∷ [])))) (zero-moved (length information))
+
 -- the sum over an encoding: the complements of the parity bits
 pub total-good : (information : List ℕ) → Octets information → total (codeblockOf information) ≡ 0b1111_1110
-unfolding codeblockOf errorControl parity
+unfolding codeblockOf
 total-good information h =
     let p = parity information * 2 in
-    let e : errorControl information ≡ bitXor 0b1111_1110 p =
-    add-zero (bitXor (parity information) 0b111_1111 * 2) ∙ double (parity information) 0b111_1111 ∙ xor-comm p 0b1111_1110 in
-    sym (ap (λ (x : ℕ). bitXor x (total (codeblockOf information))) (zero-moved (length information)))
-    ∙ sym (register-total information 0 (errorControl information) (omega arith) h)
-    ∙ ap (bitXor p) e
+    sym (total-control information (errorControl information) h)
+    ∙ ap (bitXor p) (control-is information)
     ∙ xor-comm p (bitXor 0b1111_1110 p)
     ∙ xor-undo 0b1111_1110 p
+
+-- bits inverted in one octet add that octet's bits, moved on
+pub total-flip : (s : List ℕ) (k m : ℕ) → k < length s → Octets s → m < 256
+    → total (set s k (bitXor (getD s k 0) m)) ≡ bitXor (total s) (movedBy (length s - 1 - k) m)
+unfolding total
+total-flip [] k m l h hm = absurd (omega arith)
+total-flip (o ∷ s) zero m l h hm =
+    let e : length s ≡ suc (length s) - 1 - 0 = omega arith in
+    ap (λ (x : ℕ). bitXor x (total s)) (movedBy-xor (length s) o m (h .0) hm)
+    ∙ swap (movedBy (length s) o) (movedBy (length s) m) (total s)
+    ∙ ap (λ (n : ℕ). bitXor (bitXor (movedBy (length s) o) (total s)) (movedBy n m)) e
+total-flip (o ∷ s) (suc k) m l h hm =
+    let e : length s - 1 - k ≡ suc (length s) - 1 - suc k = omega arith in
+    ap₂ (λ (n t : ℕ). bitXor (movedBy n o) t) (length-set s k (bitXor (getD s k 0) m)) (total-flip s k m (omega arith) (h .1) hm)
+    ∙ sym (xor-assoc (movedBy (length s) o) (total s) (movedBy (length s - 1 - k) m))
+    ∙ ap (λ (n : ℕ). bitXor (bitXor (movedBy (length s) o) (total s)) (movedBy n m)) e
 
 -- the sum of the columns of the bits that are one
 unfoldable pub sum : List ℕ → List ℕ → ℕ
