@@ -30,7 +30,7 @@ refuses-all reader never agrees = never (cltuOf frame) 14 (ap (λ o. numberOf (a
 abbrev searching : (List ℕ → ℕ) → List ℕ → ℕ → Outcome Found
 searching search input room =
     must (leb (length input) largestInput) (refused 10 0)
-    (must (ltb (search input) (length input)) (refused 1 (length input)) (readingAfter judged (search input + 2) (drop (search input + 2) input) room))
+    (must (ltb (search input) (length input)) (refused 1 (length input)) (readingAfter (judged Detecting) (search input + 2) (drop (search input + 2) input) room))
 
 -- with ours it is the definition
 searching-ours : (input : List ℕ) (room : ℕ) → searching startOf input room ≡ reading input room
@@ -52,7 +52,7 @@ pub start-exact :
     × (reading (0xEA ∷ 0x90 ∷ cltuOf frame) 14 ≡ refused 2 2)
     × (searching exact (0xEA ∷ drop 1 (cltuOf frame)) 14 ≡ refused 1 26)
     × (reading (0xEA ∷ drop 1 (cltuOf frame)) 14 ≡ done (filled frame) (record { place = 18; corrected = 0 }))
-unfolding readingBy readingRun correctedIn informationIn goodRun startOf starts recognized differing octetBits bitsOf cltuOf informationFor encoded filled randomized octet later nextBit judged codeblockOf errorControl parity register shiftBits shiftBit
+unfolding readingBy readingRun correctedIn informationIn goodRun startOf starts recognized differing octetBits bitsOf cltuOf informationFor encoded filled randomized octet later nextBit judged otherwise isEncoding codeblockOf errorControl parity register shiftBits shiftBit
 start-exact = (refl, refl, refl, refl)
 
 -- a reader that takes two wrong bits: E8 90 hides a CLTU from it
@@ -62,7 +62,7 @@ twoWrong = firstBy (λ s. both (leb 2 (length s)) (leb (wrongBits startSequence 
 pub start-two-wrong :
     (searching twoWrong (0xE8 ∷ 0x90 ∷ cltuOf frame) 14 ≡ refused 2 2)
     × (reading (0xE8 ∷ 0x90 ∷ cltuOf frame) 14 ≡ done (filled frame) (record { place = 20; corrected = 0 }))
-unfolding readingBy readingRun correctedIn informationIn goodRun startOf starts recognized wrongBits differing octetBits bitsOf cltuOf informationFor encoded filled randomized octet later nextBit judged codeblockOf errorControl parity register shiftBits shiftBit
+unfolding readingBy readingRun correctedIn informationIn goodRun startOf starts recognized wrongBits differing octetBits bitsOf cltuOf informationFor encoded filled randomized octet later nextBit judged otherwise isEncoding codeblockOf errorControl parity register shiftBits shiftBit
 start-two-wrong = (refl, refl)
 
 -- a reader that takes the last place: it reads the second of two CLTUs
@@ -73,7 +73,7 @@ lastFrom found i (x ∷ xs) = lastFrom (pick (starts (x ∷ xs)) i found) (suc i
 pub start-last :
     (searching (λ s. lastFrom (length s) 0 s) (cltuOf frame ++ cltuOf frame) 14 ≡ done (filled frame) (record { place = 44; corrected = 0 }))
     × (reading (cltuOf frame ++ cltuOf frame) 14 ≡ done (filled frame) (record { place = 18; corrected = 0 }))
-unfolding readingBy readingRun correctedIn informationIn goodRun startOf starts recognized differing octetBits bitsOf cltuOf informationFor encoded filled randomized octet later nextBit judged codeblockOf errorControl parity register shiftBits shiftBit
+unfolding readingBy readingRun correctedIn informationIn goodRun startOf starts recognized differing octetBits bitsOf cltuOf informationFor encoded filled randomized octet later nextBit judged otherwise isEncoding codeblockOf errorControl parity register shiftBits shiftBit
 start-last = (refl, refl)
 
 -- a reader whose test of a codeblock does not look at the filler bit
