@@ -1,4 +1,5 @@
 pub mod Places
+pub mod Tail
 pub mod Judge
 pub mod Outcomes
 pub mod RoundTrip

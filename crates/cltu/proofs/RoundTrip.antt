@@ -12,8 +12,7 @@ use Rattle.base.specs.Choice.{pick}
 use Rattle.base.specs.Outcome.{Outcome.done}
 use Rattle.base.specs.Limits.{largestInput}
 use Rattle.base.proofs.Lists.{rest}
-use Rattle.codeblock.specs.Codeblock.{codeblockOf, good, bad, judged, isGood}
-use Rattle.codeblock.specs.declared.Mode.the-variants.{Detecting}
+use Rattle.codeblock.specs.Codeblock.{codeblockOf, good, isGood}
 use Rattle.codeblock.specs.declared.Judged.{Judged}
 use Rattle.randomizer.specs.Randomizer.{randomized}
 use Rattle.randomizer.proofs.Randomized.{randomized-twice}
@@ -24,10 +23,6 @@ use Rattle.cltu.specs.Cltu.{codeblocks, filled, encoded, informationFor,
 use Rattle.cltu.proofs.Judge.{Judge, detects}
 use Rattle.cltu.proofs.Places.{length-block, length-information, length-encoded}
 use Rattle.cltu.proofs.Outcomes.{reading-found, after-done}
-
--- the tail sequence is bad
-pub tail-bad : judged Detecting tailSequence ≡ bad
-tail-bad = detects .tail
 
 -- the first of the codeblocks, and the rest
 module _ (n : ℕ) (information t : List ℕ) (h : 7 * suc n ≤ length information) where

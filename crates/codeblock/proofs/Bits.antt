@@ -1,24 +1,15 @@
--- The bits of octets: they are bits, they tell the octets, and where none is wrong the octets are the same (`none-wrong`).
-use mathlib.Core.Path.{_≡_, refl, sym, ap, ap₂, _∙_, subst}
+-- The bits of octets: they tell the octets, and where none is wrong the octets are the same (`none-wrong`).
+use mathlib.Core.Path.{_≡_, refl, sym, ap, ap₂, _∙_}
 use mathlib.Core.List.{List, [], _∷_}
 use Prim.Native.Nat.{ℕ, _+_, _<_}
 use native.Mathlib.Omega.{arith}
 use lib.Bits.{xor-self}
 use lib.ListN.{length, take, drop}
 use Rattle.base.specs.Fields.{valueOf}
-use Rattle.base.specs.Octets.{Bits, Octets, bitsOf, octetBits}
-use Rattle.base.proofs.Fields.{octet-digits, bits-digits, value-field, length-bits}
-use Rattle.base.proofs.Lists.{below-append}
+use Rattle.base.specs.Octets.{Octets, bitsOf, octetBits}
+use Rattle.base.proofs.Fields.{octet-digits, value-field, length-bits}
 use Rattle.base.proofs.Xor.{xor-equal}
 use Rattle.base.specs.Distance.{differing, wrongBits}
-
-pub bits-octet : (o : ℕ) → o < 256 → Bits (bitsOf 8 o)
-bits-octet o h = subst Bits (sym (octet-digits o h)) (bits-digits 8 o)
-
-pub bits-octets : (s : List ℕ) → Octets s → Bits (octetBits s)
-unfolding octetBits
-bits-octets [] h = tt
-bits-octets (o ∷ s) h = below-append 2 (bitsOf 8 o) (octetBits s) (bits-octet o (h .0)) (bits-octets s (h .1))
 
 octet-told : (o p : ℕ) → o < 256 → p < 256 → bitsOf 8 o ≡ bitsOf 8 p → o ≡ p
 octet-told o p ho hp e =
@@ -32,7 +23,7 @@ octets-told (o ∷ s) [] l h k e = absurd (omega arith)
 octets-told (o ∷ s) (p ∷ t) l h k e =
     ap₂ (λ (x : ℕ) (xs : List ℕ). x ∷ xs) (octet-told o p (h .0) (k .0) (ap (take 8) e)) (octets-told s t (omega arith) (h .1) (k .1) (ap (drop 8) e))
 
-pub none-differing : (xs ys : List ℕ) → length xs ≡ length ys → differing xs ys ≡ 0 → xs ≡ ys
+none-differing : (xs ys : List ℕ) → length xs ≡ length ys → differing xs ys ≡ 0 → xs ≡ ys
 unfolding differing
 none-differing [] [] l e = refl
 none-differing [] (y ∷ ys) l e = absurd (omega arith)

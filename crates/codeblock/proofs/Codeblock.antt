@@ -3,24 +3,37 @@
 use mathlib.Core.Path.{_≡_, refl, sym, ap, _∙_}
 use mathlib.Core.Bool.{Bool, true, false}
 use mathlib.Core.List.{List, [], _∷_, _++_}
-use Prim.Native.Nat.{ℕ, zero, suc, _+_, _-_, _/_, _%_, _^_, _≤_}
+use Prim.Native.Nat.{ℕ, zero, suc, _+_, _-_, _/_, _%_, _^_, _<_, _≤_}
 use native.Mathlib.Omega.{arith}
-use lib.Bits.{bitXor}
+use lib.Bits.{bitXor, xor-lt}
 use lib.Dec.{eqb}
 use lib.ListN.{length, take, drop, getD, set, length-append, length-take, length-set, take-append-drop, drop-of-length-le}
 use lib.Seq.{take-at, drop-cons}
 use Rattle.base.specs.Choice.{pick}
-use Rattle.base.specs.Octets.{same}
+use Rattle.base.specs.Octets.{Octets, same}
+use Rattle.base.proofs.Register.{register-lt}
 use Rattle.base.proofs.Tests.{apart, yes, no, not-so}
-use Rattle.base.proofs.Lists.{same-equal, same-self, same-last, take-next}
+use Rattle.base.proofs.Lists.{same-equal, same-self, same-last, take-next, below-append}
 use Rattle.codeblock.specs.declared.Judged.{Judged}
 use Rattle.codeblock.specs.declared.Mode.{Mode}
 use Rattle.codeblock.specs.declared.Mode.the-variants.{Detecting, Correcting}
-use Rattle.codeblock.specs.Codeblock.{errorControl, codeblockOf, good, bad, isEncoding, flipped, mended, otherwise, judged, isGood}
+use Rattle.codeblock.specs.Codeblock.{generator, parity, errorControl, codeblockOf, good, bad, isEncoding, flipped, mended, otherwise, judged, isGood}
 
 pub length-codeblock : (information : List ℕ) → length (codeblockOf information) ≡ length information + 1
 unfolding codeblockOf
 length-codeblock information = length-append information (errorControl information ∷ [])
+
+-- the filler bit is zero
+pub filler-zero : (information : List ℕ) → errorControl information % 2 ≡ 0
+unfolding errorControl
+filler-zero information = omega arith
+
+pub octets-codeblock : (information : List ℕ) → Octets information → Octets (codeblockOf information)
+unfolding codeblockOf errorControl parity
+octets-codeblock information h =
+    let l : parity information < 128 = register-lt 6 generator (omega arith) information 0 (omega arith) h in
+    let x : bitXor (parity information) 127 < 128 = xor-lt 7 (parity information) 127 l (omega arith) in
+    below-append 256 information (errorControl information ∷ []) h (omega arith, tt)
 
 pub length-flipped : (i : ℕ) (block : List ℕ) → length (flipped i block) ≡ length block
 unfolding flipped

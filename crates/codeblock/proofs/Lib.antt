@@ -1,5 +1,9 @@
 pub mod Bits
 pub mod Codeblock
-pub mod Columns
+pub mod Flipped
+pub mod Sums
+pub mod SingleBits
 pub mod Syndrome
+pub mod Modes
+pub mod Refuted
 pub mod Parity

@@ -20,7 +20,9 @@ use Rattle.codeblock.specs.declared.Judged.{Judged}
 use Rattle.codeblock.specs.declared.Mode.{Mode}
 use Rattle.codeblock.specs.Codeblock.{parity, errorControl, syndromeOf, good, bad, isEncoding, flipped, mended, otherwise, judged}
 use Rattle.codeblock.proofs.Codeblock.{length-flipped, eight-octets, encoding-last, encoding-judged, other-judged}
-use Rattle.codeblock.proofs.Columns.{movedBy, total, control-is, total-control, total-flip}
+use Rattle.codeblock.proofs.Flipped.{weight-lt, octets-flipped}
+use Rattle.codeblock.proofs.Sums.{movedBy, total, control-is, total-control, total-flip}
+use Rattle.codeblock.proofs.SingleBits.{columnOf, columns63, placeIn, single-bits}
 
 -- equal where the sum is zero, as tests
 xor-test : (a b : ℕ) → eqb (bitXor a b) 0 ≡ eqb a b
@@ -47,28 +49,18 @@ syndrome-total block l h =
     ∙ xor-comm 0b1111_1110 (bitXor p e)
     ∙ ap (λ (x : ℕ). bitXor x 0b1111_1110) (total-control t e (below-take 256 7 block h) ∙ ap total (sym (eight-octets block l)))
 
--- the column of bit i: what its inversion adds to the sum
-abbrev pub columnOf : ℕ → ℕ
-columnOf i = movedBy (7 - i / 8) (2 ^ (7 - i % 8))
-
-weight-lt : (i : ℕ) → i < 64 → 2 ^ (7 - i % 8) < 256
-weight-lt i h = ltb-true (2 ^ (7 - i % 8)) 256 (is-true _ (below (λ y. ltb (2 ^ (7 - y % 8)) 256) 64 tt i h))
-
 module _ (block : List ℕ) (l : length block ≡ 8) (h : Octets block) where
-  pub octets-flipped : (i : ℕ) → i < 64 → Octets (flipped i block)
-  unfolding flipped
-  octets-flipped i k = below-set 256 block (i / 8) _ h (xor-lt 8 (getD block (i / 8) 0) (2 ^ (7 - i % 8)) (octets-at block h (i / 8)) (weight-lt i k))
-
+  -- inverting a bit adds its column
   pub total-flipped : (i : ℕ) → i < 64 → total (flipped i block) ≡ bitXor (total block) (columnOf i)
   unfolding flipped
   total-flipped i k =
       let e : length block - 1 - i / 8 ≡ 7 - i / 8 = omega arith in
-      total-flip block (i / 8) (2 ^ (7 - i % 8)) (omega arith) h (weight-lt i k)
+      total-flip block (i / 8) (2 ^ (7 - i % 8)) (omega arith) h (weight-lt i)
       ∙ ap (λ (n : ℕ). bitXor (total block) (movedBy n (2 ^ (7 - i % 8)))) e
 
   pub syndrome-flipped : (i : ℕ) → i < 64 → syndromeOf (flipped i block) ≡ bitXor (syndromeOf block) (columnOf i)
   syndrome-flipped i k =
-      syndrome-total (flipped i block) (length-flipped i block ∙ l) (octets-flipped i k)
+      syndrome-total (flipped i block) (length-flipped i block ∙ l) (octets-flipped i block h)
       ∙ ap (λ (x : ℕ). bitXor x 0b1111_1110) (total-flipped i k)
       ∙ swap (total block) (columnOf i) 0b1111_1110
       ∙ ap (λ (x : ℕ). bitXor x (columnOf i)) (sym (syndrome-total block l h))
@@ -80,17 +72,9 @@ module _ (block : List ℕ) (l : length block ≡ 8) (h : Octets block) where
       ∙ ap (λ (x : ℕ). eqb x 0) (syndrome-flipped i k ∙ xor-comm (syndromeOf block) (columnOf i))
       ∙ xor-test (columnOf i) (syndromeOf block)
 
--- the place of a number in a list whose first place is i, 64 where it is not there
-abbrev pub placeIn : ℕ → List ℕ → ℕ → ℕ
-placeIn i [] v = 64
-placeIn i (c ∷ cs) v = pick (eqb c v) i (placeIn (suc i) cs v)
-
 -- the bit whose column is a syndrome, among these columns; a table by half the syndrome
 abbrev pub bitFor : List ℕ → ℕ → ℕ
 bitFor columns half = placeIn 0 columns (half * 2)
-
-abbrev pub columns63 : List ℕ
-columns63 = tabulate columnOf 63 0
 
 -- the judgement by the bit that was found
 abbrev pub mendedAt : ℕ → List ℕ → Judged
@@ -113,20 +97,21 @@ module _ (block : List ℕ) (l : length block ≡ 8) (h : Octets block) where
   pub mended-search : mended 63 0 block ≡ mendedAt (placeIn 0 columns63 (syndromeOf block)) block
   mended-search = search-from 63 0 (omega arith)
 
--- the columns of the first 63 bits are even
-pub column-even : (i : ℕ) → i < 63 → columnOf i % 2 ≡ 0
-column-even i h = eqb→eq _ _ (below (λ y. eqb (columnOf y % 2) 0) 63 tt i h)
-
--- so no bit is found for an odd syndrome
-pub odd-none : (v : ℕ) → v % 2 ≡ 1 → placeIn 0 columns63 v ≡ 64
-odd-none v o = go 63 0 (omega arith)
+-- where no column is the syndrome, no bit is found
+pub none-found : (v : ℕ) → ((i : ℕ) → i < 63 → columnOf i ≡ v → ⊥) → placeIn 0 columns63 v ≡ 64
+none-found v none = go 63 0 (omega arith)
   where
     go : (n i : ℕ) → i + n ≤ 63 → placeIn i (tabulate columnOf n i) v ≡ 64
     go zero i k = refl
     go (suc n) i k =
-        ap (λ (b : Bool). pick b i (placeIn (suc i) (tabulate columnOf n (suc i)) v))
-        (ne-eqb (columnOf i) v (λ e. let z : columnOf i % 2 ≡ v % 2 = ap (λ (x : ℕ). x % 2) e in omega (arith, z, column-even i (omega arith), o)))
+        ap (λ (b : Bool). pick b i (placeIn (suc i) (tabulate columnOf n (suc i)) v)) (ne-eqb (columnOf i) v (none i (omega arith)))
         ∙ go n (suc i) (omega arith)
+
+-- as for an odd one
+odd-none : (v : ℕ) → v % 2 ≡ 1 → (i : ℕ) → i < 63 → columnOf i ≡ v → ⊥
+odd-none v o i k e =
+    let z : columnOf i % 2 ≡ v % 2 = ap (λ (x : ℕ). x % 2) e in
+    omega (arith, z, o, single-bits i (omega arith) .filler)
 
 -- a table's entry
 pub entry : (f : ℕ → ℕ) (n k : ℕ) → k < n → getD (tabulate f n 0) k 0 ≡ f k
@@ -147,7 +132,7 @@ module _ (block : List ℕ) (l : length block ≡ 8) {v : ℕ} (e : v ≡ syndro
 
   -- and mended by a table of bits
   pub mended-odd : Octets block → v % 2 ≡ 1 → mended 63 0 block ≡ bad
-  mended-odd h o = mended-search block l h ∙ ap (λ (i : ℕ). mendedAt i block) (odd-none (syndromeOf block) (ap (λ (x : ℕ). x % 2) (sym e) ∙ o))
+  mended-odd h o = mended-search block l h ∙ ap (λ (i : ℕ). mendedAt i block) (none-found (syndromeOf block) (odd-none (syndromeOf block) (ap (λ (x : ℕ). x % 2) (sym e) ∙ o)))
 
   pub mended-table : Octets block → v % 2 ≡ 0 → {i : ℕ} → i ≡ bitFor columns63 (v / 2) → mended 63 0 block ≡ mendedAt i block
   mended-table h o {i} t =

@@ -21,7 +21,7 @@ use Rattle.base.specs.Distance.{wrongBits}
 use Rattle.codeblock.specs.Codeblock.{codeblockOf, judged, isGood}
 use Rattle.codeblock.specs.declared.Mode.the-variants.{Detecting}
 use Rattle.codeblock.specs.declared.Judged.{Judged}
-use Rattle.codeblock.proofs.Codeblock.{judged-codeblock, length-codeblock}
+use Rattle.codeblock.proofs.Codeblock.{judged-codeblock, length-codeblock, octets-codeblock}
 use Rattle.codeblock.proofs.Bits.{none-wrong, self-wrong}
 use Rattle.randomizer.specs.Randomizer.{octet, randomized}
 use Rattle.randomizer.proofs.Randomized.{randomized-twice, octets-randomized}
@@ -30,12 +30,13 @@ use Rattle.start_sequence.proofs.Search.{first-near, sequence-received}
 use Rattle.encoded_data.specs.EncodedData.{goodRun, informationIn}
 use Rattle.encoded_data.proofs.Scan.{run-good, run-ends}
 use Rattle.cltu.specs.Cltu.{codeblocks, filled, encoded, informationFor, cltuOf, tailSequence, readingRun, readingAfter, reading}
+use Rattle.cltu.proofs.Tail.{octets-tail}
 use Rattle.cltu.proofs.Judge.{corrected-none}
 use Rattle.cltu.proofs.Places.{length-information, length-encoded, length-seven, length-cltu, octets-filled}
 use Rattle.cltu.proofs.RoundTrip.{first-block, other-blocks}
 use Rattle.cltu.proofs.Outcomes.{reading-found}
 use Rattle.damage.specs.Damage.{eightAt, Damaged, readingFront, ReadToDamage}
-use Rattle.damage.proofs.Detected.{octets-codeblock, octets-tail, codeblock-detected, tail-detected}
+use Rattle.damage.proofs.Detected.{codeblock-detected, tail-detected}
 
 -- octets from place n on, k octets further on
 later : (n k j : ℕ) (s : List ℕ) → k + n ≡ j → take k (drop n (drop k s)) ≡ take k (drop j s)

@@ -9,7 +9,8 @@ use denote.Ref.{now}
 use Rattle.base.proofs.Tests.{yes, no}
 use Rattle.codeblock.specs.Codeblock.{good, flipped}
 use Rattle.codeblock.proofs.Codeblock.{take-flipped}
-use Rattle.codeblock.proofs.Syndrome.{bitFor, columns63, entry, mended-odd, mended-table}
+use Rattle.codeblock.proofs.SingleBits.{columns63}
+use Rattle.codeblock.proofs.Syndrome.{bitFor, entry, mended-odd, mended-table}
 use Rattle.codeblock.proofs.mend.Statement.{statement}
 use Rattle.codeblock.proofs.mend.Tie as tie
 

@@ -1,26 +1,25 @@
 -- Clauses 8.2 and 8.5: the sum of a block of octets is its octets added up, each moved on through the shift register by the octets
--- behind it. Over every good codeblock it is the complemented bits alone (`total-good`). Octets move on by exclusive or, so the sum is
--- that of the columns of the bits that are one (`total-columns`).
+-- behind it. It is the register over all but the last, a place up, and the last added (`total-control`). Octets move on by exclusive or, so
+-- bits inverted in one octet add themselves, moved on (`total-flip`).
 use mathlib.Core.Path.{_≡_, refl, sym, ap, ap₂, _∙_}
 use mathlib.Core.List.{List, [], _∷_, _++_}
 use Prim.Native.Nat.{ℕ, zero, suc, _+_, _-_, _*_, _<_}
-use native.Mathlib.Nat.{add-zero, mul-one, zero-mul, one-mul}
+use native.Mathlib.Nat.{add-zero, mul-one}
 use native.Mathlib.Omega.{arith}
 use borrow.Author.Tests.{ltb-true}
-use lib.Bits.{bitXor, xor-lt, xor-comm, xor-zero-r}
-use lib.Dec.{eqb, eqb→eq, ltb}
+use lib.Bits.{bitXor, xor-comm, xor-zero-r}
+use lib.Dec.{ltb}
 use lib.ListN.{length, getD, set, length-append, length-set}
-use Rattle.base.specs.Octets.{Bits, Octets, bitsOf, octetBits}
+use Rattle.base.specs.Octets.{Octets}
 use Rattle.base.specs.Register.{shiftBits, register}
 use Rattle.base.proofs.Computed.{below, is-true}
-use Rattle.base.proofs.Register.{leaves, shiftBits-lt}
-use Rattle.base.proofs.Xor.{xor-assoc, xor-undo, swap, double}
+use Rattle.base.proofs.Register.{shiftBits-lt}
+use Rattle.base.proofs.Xor.{xor-assoc, swap, double}
 use Rattle.base.proofs.Table.{shifts, shifts-xor, eight}
-use Rattle.codeblock.specs.Codeblock.{generator, parity, errorControl, codeblockOf}
-use Rattle.codeblock.proofs.Bits.{bits-octet}
+use Rattle.codeblock.specs.Codeblock.{generator, parity, errorControl}
 
 -- the register, a place up, moved on by eight bits, and by n octets
-abbrev pub moved : ℕ → ℕ
+abbrev moved : ℕ → ℕ
 moved = shifts 7 (generator * 2) 8
 
 abbrev pub movedBy : ℕ → ℕ → ℕ
@@ -30,7 +29,7 @@ movedBy (suc n) v = movedBy n (moved v)
 moved-lt : (v : ℕ) → v < 256 → moved v < 256
 moved-lt v h = ltb-true (moved v) 256 (is-true (ltb (moved v) 256) (below (λ y. ltb (moved y) 256) 256 tt v h))
 
-pub movedBy-xor : (n u v : ℕ) → u < 256 → v < 256 → movedBy n (bitXor u v) ≡ bitXor (movedBy n u) (movedBy n v)
+movedBy-xor : (n u v : ℕ) → u < 256 → v < 256 → movedBy n (bitXor u v) ≡ bitXor (movedBy n u) (movedBy n v)
 movedBy-xor zero u v hu hv = refl
 movedBy-xor (suc n) u v hu hv =
     ap (movedBy n) (shifts-xor 7 (generator * 2) (omega arith) 8 u v hu hv) ∙ movedBy-xor n (moved u) (moved v) (moved-lt u hu) (moved-lt v hv)
@@ -41,7 +40,7 @@ total [] = 0
 total (o ∷ s) = bitXor (movedBy (length s) o) (total s)
 
 -- the register over octets, a place up, and an octet e behind them
-pub register-total : (s : List ℕ) (r e : ℕ) → r < 128 → Octets s
+register-total : (s : List ℕ) (r e : ℕ) → r < 128 → Octets s
     → bitXor (register 6 generator r s * 2) e ≡ bitXor (movedBy (length s) (r * 2)) (total (s ++ (e ∷ [])))
 unfolding register total
 register-total [] r e hr h = ap (bitXor (r * 2)) (sym (xor-zero-r e))
@@ -55,7 +54,7 @@ register-total (o ∷ s) r e hr h =
     ∙ xor-assoc (movedBy (suc (length s)) (r * 2)) (movedBy (suc (length s)) o) t
     ∙ ap (λ (n : ℕ). bitXor (movedBy (suc (length s)) (r * 2)) (bitXor (movedBy n o) t)) l
 
-pub zero-moved : (n : ℕ) → movedBy n 0 ≡ 0
+zero-moved : (n : ℕ) → movedBy n 0 ≡ 0
 zero-moved zero = refl
 zero-moved (suc n) = zero-moved n
 
@@ -73,16 +72,6 @@ unfolding parity
 total-control information e h =
     register-total information 0 e (omega arith) h ∙ ap (λ (x : ℕ). bitXor x (total (information ++ (e ∷ [])))) (zero-moved (length information))
 
--- the sum over an encoding: the complements of the parity bits
-pub total-good : (information : List ℕ) → Octets information → total (codeblockOf information) ≡ 0b1111_1110
-unfolding codeblockOf
-total-good information h =
-    let p = parity information * 2 in
-    sym (total-control information (errorControl information) h)
-    ∙ ap (bitXor p) (control-is information)
-    ∙ xor-comm p (bitXor 0b1111_1110 p)
-    ∙ xor-undo 0b1111_1110 p
-
 -- bits inverted in one octet add that octet's bits, moved on
 pub total-flip : (s : List ℕ) (k m : ℕ) → k < length s → Octets s → m < 256
     → total (set s k (bitXor (getD s k 0) m)) ≡ bitXor (total s) (movedBy (length s - 1 - k) m)
@@ -98,61 +87,3 @@ total-flip (o ∷ s) (suc k) m l h hm =
     ap₂ (λ (n t : ℕ). bitXor (movedBy n o) t) (length-set s k (bitXor (getD s k 0) m)) (total-flip s k m (omega arith) (h .1) hm)
     ∙ sym (xor-assoc (movedBy (length s) o) (total s) (movedBy (length s - 1 - k) m))
     ∙ ap (λ (n : ℕ). bitXor (bitXor (movedBy (length s) o) (total s)) (movedBy n m)) e
-
--- the sum of the columns of the bits that are one
-unfoldable pub sum : List ℕ → List ℕ → ℕ
-sum [] bits = 0
-sum (c ∷ cs) [] = 0
-sum (c ∷ cs) (b ∷ bs) = bitXor (b * c) (sum cs bs)
-
--- each moved on by n octets
-abbrev movedAll : ℕ → List ℕ → List ℕ
-movedAll n [] = []
-movedAll n (c ∷ cs) = movedBy n c ∷ movedAll n cs
-
-bit-moved : (n b c : ℕ) → b < 2 → movedBy n (b * c) ≡ b * movedBy n c
-bit-moved n zero c h = ap (movedBy n) (zero-mul c) ∙ zero-moved n ∙ sym (zero-mul (movedBy n c))
-bit-moved n (suc zero) c h = ap (movedBy n) (one-mul c) ∙ sym (one-mul (movedBy n c))
-bit-moved n (suc (suc b)) c h = absurd (omega arith)
-
-sum-lt : (cs bs : List ℕ) → Octets cs → Bits bs → sum cs bs < 256
-unfolding sum
-sum-lt [] bs h k = omega arith
-sum-lt (c ∷ cs) [] h k = omega arith
-sum-lt (c ∷ cs) (b ∷ bs) h k = xor-lt 8 (b * c) (sum cs bs) (leaves 7 c (h .0) b (k .0)) (sum-lt cs bs (h .1) (k .1))
-
-sum-moved : (n : ℕ) (cs bs : List ℕ) → Octets cs → Bits bs → movedBy n (sum cs bs) ≡ sum (movedAll n cs) bs
-unfolding sum
-sum-moved n [] bs h k = zero-moved n
-sum-moved n (c ∷ cs) [] h k = zero-moved n
-sum-moved n (c ∷ cs) (b ∷ bs) h k =
-    movedBy-xor n (b * c) (sum cs bs) (leaves 7 c (h .0) b (k .0)) (sum-lt cs bs (h .1) (k .1))
-    ∙ ap₂ bitXor (bit-moved n b c (k .0)) (sum-moved n cs bs (h .1) (k .1))
-
--- the columns of an octet with n octets behind it, and of a block of n octets
-abbrev weights : List ℕ
-weights = 128 ∷ 64 ∷ 32 ∷ 16 ∷ 8 ∷ 4 ∷ 2 ∷ 1 ∷ []
-
-abbrev pub columns : ℕ → List ℕ
-columns zero = []
-columns (suc n) = movedAll n weights ++ columns n
-
-octet-columns : (n o : ℕ) → o < 256 → movedBy n o ≡ sum (movedAll n weights) (bitsOf 8 o)
-unfolding sum bitsOf
-octet-columns n o h =
-    ap (movedBy n) (eqb→eq _ _ (below (λ y. eqb y (sum weights (bitsOf 8 y))) 256 tt o h))
-    ∙ sum-moved n weights (bitsOf 8 o) (omega arith, (omega arith, (omega arith, (omega arith, (omega arith, (omega arith, (omega arith, (omega arith, tt)))))))) (bits-octet o h)
-
-sum-append : (cs ds bs es : List ℕ) → length cs ≡ length bs → sum (cs ++ ds) (bs ++ es) ≡ bitXor (sum cs bs) (sum ds es)
-unfolding sum
-sum-append [] ds [] es l = refl
-sum-append [] ds (b ∷ bs) es l = absurd (omega arith)
-sum-append (c ∷ cs) ds [] es l = absurd (omega arith)
-sum-append (c ∷ cs) ds (b ∷ bs) es l = ap (bitXor (b * c)) (sum-append cs ds bs es (omega arith)) ∙ sym (xor-assoc (b * c) (sum cs bs) (sum ds es))
-
-pub total-columns : (s : List ℕ) → Octets s → total s ≡ sum (columns (length s)) (octetBits s)
-unfolding total sum octetBits bitsOf
-total-columns [] h = refl
-total-columns (o ∷ s) h =
-    ap₂ bitXor (octet-columns (length s) o (h .0)) (total-columns s (h .1))
-    ∙ sym (sum-append (movedAll (length s) weights) (columns (length s)) (bitsOf 8 o) (octetBits s) refl)
