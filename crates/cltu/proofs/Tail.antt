@@ -7,7 +7,7 @@ use lib.ListN.{length}
 use Rattle.base.specs.Octets.{Octets, bitsOf, octetBits}
 use Rattle.base.specs.Register.{shiftBit, shiftBits, register}
 use Rattle.codeblock.specs.declared.Mode.{Mode}
-use Rattle.codeblock.specs.Distance.{differing, wrongBits}
+use Rattle.base.specs.Distance.{differing, wrongBits}
 use Rattle.codeblock.specs.Codeblock.{parity, errorControl, syndromeOf, bad, flipped, judged}
 use Rattle.codeblock.proofs.Flipped.{octets-flipped}
 use Rattle.codeblock.proofs.SingleBits.{tailSyndrome}

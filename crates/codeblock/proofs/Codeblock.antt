@@ -79,21 +79,21 @@ judged-codeblock mode information h =
     encoding-judged mode (codeblockOf information) (is-encoding information h)
     ∙ ap (λ (l : List ℕ). good l 0) (take-at information (errorControl information ∷ []) 7 h)
 
--- what holds of a bad block, of an encoding, and of a block that is an encoding with one bit inverted, holds of every judgement
-module _ (block : List ℕ) (P : Judged → Type 0) (of-bad : P bad) (of-one : (i : ℕ) → isEncoding (flipped i block) ≡ true → P (good (take 7 (flipped i block)) 1)) where
-  pub of-mended : (n i : ℕ) → P (mended n i block)
+-- what holds of a bad block, of an encoding, and of a block that one of its first 63 bits, inverted, makes an encoding, holds of every judgement
+module _ (block : List ℕ) (P : Judged → Type 0) (of-bad : P bad) (of-one : (i : ℕ) → i < 63 → isEncoding (flipped i block) ≡ true → P (good (take 7 (flipped i block)) 1)) where
+  of-mended : (n i : ℕ) → i + n ≤ 63 → P (mended n i block)
   unfolding mended
-  of-mended zero i = of-bad
-  of-mended (suc n) i = go (isEncoding (flipped i block)) refl (of-mended n (suc i))
+  of-mended zero i k = of-bad
+  of-mended (suc n) i k = go (isEncoding (flipped i block)) refl (of-mended n (suc i) (omega arith))
     where
       go : (b : Bool) → isEncoding (flipped i block) ≡ b → P (mended n (suc i) block) → P (pick b (good (take 7 (flipped i block)) 1) (mended n (suc i) block))
-      go true e later = of-one i e
+      go true e later = of-one i (omega arith) e
       go false e later = later
 
   of-otherwise : (mode : Mode) → P (otherwise mode block)
   unfolding otherwise
   of-otherwise Detecting = of-bad
-  of-otherwise Correcting = of-mended 63 0
+  of-otherwise Correcting = of-mended 63 0 (omega arith)
 
   pub of-judged : (isEncoding block ≡ true → P (good (take 7 block) 0)) → (mode : Mode) → P (judged mode block)
   unfolding judged
@@ -113,16 +113,16 @@ flipped-eight block i e = sym (length-flipped i block) ∙ encoding-length (flip
 pub good-seven : (mode : Mode) (block : List ℕ) → isGood (judged mode block) ≡ true → length (judged mode block .information) ≡ 7
 good-seven mode block =
     of-judged block (λ (j : Judged). isGood j ≡ true → length (j .information) ≡ 7) (λ e. absurd (apart e))
-    (λ i e g. seven-first (flipped i block) (encoding-length (flipped i block) e)) (λ e g. seven-first block (encoding-length block e)) mode
+    (λ i k e g. seven-first (flipped i block) (encoding-length (flipped i block) e)) (λ e g. seven-first block (encoding-length block e)) mode
 
 -- at most one bit is corrected
 pub corrects-few : (mode : Mode) (block : List ℕ) → judged mode block .corrected ≤ 1
-corrects-few mode block = of-judged block (λ (j : Judged). j .corrected ≤ 1) (omega arith) (λ i e. omega arith) (λ e. omega arith) mode
+corrects-few mode block = of-judged block (λ (j : Judged). j .corrected ≤ 1) (omega arith) (λ i k e. omega arith) (λ e. omega arith) mode
 
 -- other lengths than eight are bad
 pub judged-length : (mode : Mode) (block : List ℕ) → (length block ≡ 8 → ⊥) → judged mode block ≡ bad
 judged-length mode block h =
-    of-judged block (λ (j : Judged). j ≡ bad) refl (λ i e. absurd (h (flipped-eight block i e))) (λ e. absurd (h (encoding-length block e))) mode
+    of-judged block (λ (j : Judged). j ≡ bad) refl (λ i k e. absurd (h (flipped-eight block i e))) (λ e. absurd (h (encoding-length block e))) mode
 
 -- the detecting mode: an encoding, or bad
 good-by : (b : Bool) (information : List ℕ) → isGood (pick b (good information 0) bad) ≡ b

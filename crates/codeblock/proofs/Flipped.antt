@@ -1,13 +1,13 @@
 -- Wrong bits as bits inverted: where n + 1 bits are wrong, one of them can be inverted and n are left (`one-less`). So a block with one wrong
 -- bit is the block sent with that bit inverted (`one-flip`), and one with two is the block sent with two bits inverted, two different ones
--- (`two-flips`).
+-- (`two-flips`). The other way round, one inverted bit is one wrong bit (`flipped-wrong`).
 use mathlib.Core.Path.{_≡_, refl, sym, ap, ap₂, _∙_}
 use mathlib.Core.Bool.{Bool, true, false}
 use mathlib.Core.List.{List, [], _∷_, _++_}
 use Prim.Native.Nat.{ℕ, zero, suc, _+_, _-_, _*_, _/_, _%_, _^_, _<_}
 use native.Mathlib.Omega.{arith}
 use borrow.Author.Tests.{eqb-true, ltb-true, ne-eqb}
-use lib.Bits.{bitXor, xor-lt, xor-shr, xor-mod}
+use lib.Bits.{bitXor, xor-lt, xor-self, xor-shr, xor-mod}
 use lib.Dec.{eqb, ltb}
 use lib.ListN.{length, getD, set}
 use Rattle.base.specs.Choice.{pick, both}
@@ -16,7 +16,7 @@ use Rattle.base.proofs.Computed.{below, is-true}
 use Rattle.base.proofs.Lists.{octets-at, below-set}
 use Rattle.base.proofs.Tests.{both-left, both-right}
 use Rattle.base.proofs.Xor.{xor-undo, swap, double}
-use Rattle.codeblock.specs.Distance.{differing, wrongBits}
+use Rattle.base.specs.Distance.{differing, wrongBits}
 use Rattle.codeblock.specs.Codeblock.{flipped}
 use Rattle.codeblock.proofs.Bits.{none-wrong, self-wrong}
 use Rattle.codeblock.proofs.Codeblock.{length-flipped}
@@ -95,6 +95,25 @@ inverted-less (o ∷ s) (p ∷ t) n l hs ht e = go (ones 8 (bitXor o p)) refl (i
     go : (m : ℕ) → ones 8 (bitXor o p) ≡ m → (wrongBits s t ≡ suc n → Less s t n) → Less (o ∷ s) (p ∷ t) n
     go zero f later = less-others o p n s t f (later (omega (arith, f, e, wrong-more o p s t)))
     go (suc m) f later = less-first o p m n s t (hs .0) (ht .0) f e
+
+-- one inverted bit is one wrong bit
+inverted-wrong : (s : List ℕ) (k m : ℕ) → k < length s → ones 8 m ≡ 1 → wrongBits (set s k (bitXor (getD s k 0) m)) s ≡ 1
+unfolding ones
+inverted-wrong [] k m l e = absurd (omega arith)
+inverted-wrong (x ∷ s) zero m l e =
+    let y : ones 8 (bitXor (bitXor x m) x) ≡ 1 = ap (ones 8) (swap x m x ∙ ap (λ (z : ℕ). bitXor z m) (xor-self x)) ∙ e in
+    wrong-more (bitXor x m) x s s ∙ ap₂ _+_ y (self-wrong s)
+inverted-wrong (x ∷ s) (suc k) m l e =
+    let y : ones 8 (bitXor x x) ≡ 0 = ap (ones 8) (xor-self x) in
+    wrong-more x x (set s k (bitXor (getD s k 0) m)) s ∙ ap₂ _+_ y (inverted-wrong s k m (omega arith) e)
+
+weight-one : (i : ℕ) → ones 8 (2 ^ (7 - i % 8)) ≡ 1
+unfolding ones
+weight-one i = eqb-true _ 1 (is-true _ (below (λ y. eqb (ones 8 (2 ^ (7 - y))) 1) 8 tt (i % 8) (omega arith)))
+
+pub flipped-wrong : (i : ℕ) (block : List ℕ) → i < 64 → length block ≡ 8 → wrongBits (flipped i block) block ≡ 1
+unfolding flipped
+flipped-wrong i block k l = inverted-wrong block (i / 8) (2 ^ (7 - i % 8)) (omega arith) (weight-one i)
 
 -- a bit inverted twice
 inverted-twice : (s : List ℕ) (k m : ℕ) → set (set s k (bitXor (getD s k 0) m)) k (bitXor (getD (set s k (bitXor (getD s k 0) m)) k 0) m) ≡ s

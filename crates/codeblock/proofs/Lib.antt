@@ -5,5 +5,6 @@ pub mod Sums
 pub mod SingleBits
 pub mod Syndrome
 pub mod Modes
+pub mod Received
 pub mod Refuted
 pub mod Parity

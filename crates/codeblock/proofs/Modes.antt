@@ -18,7 +18,7 @@ use Rattle.base.proofs.Tests.{no}
 use Rattle.base.proofs.Xor.{xor-undo, xor-equal}
 use Rattle.codeblock.specs.declared.Mode.{Mode}
 use Rattle.codeblock.specs.declared.Mode.the-variants.{Detecting, Correcting}
-use Rattle.codeblock.specs.Distance.{wrongBits}
+use Rattle.base.specs.Distance.{wrongBits}
 use Rattle.codeblock.specs.Codeblock.{errorControl, syndromeOf, good, bad, isEncoding, flipped, mended, otherwise, judged}
 use Rattle.codeblock.proofs.Codeblock.{length-flipped, encoding-length, filler-zero, judged-length}
 use Rattle.codeblock.proofs.Flipped.{ones, flipped-twice, octets-flipped, one-less, none-flipped, one-flip, two-flips}

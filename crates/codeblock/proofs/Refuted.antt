@@ -12,7 +12,7 @@ use Rattle.base.proofs.Lists.{same-not}
 use Rattle.base.proofs.Tests.{apart}
 use Rattle.codeblock.specs.declared.Judged.{Judged}
 use Rattle.codeblock.specs.declared.Mode.the-variants.{Correcting}
-use Rattle.codeblock.specs.Distance.{differing, wrongBits}
+use Rattle.base.specs.Distance.{differing, wrongBits}
 use Rattle.codeblock.specs.Codeblock.{parity, errorControl, codeblockOf, syndromeOf, good, bad, flipped, judged, isGood}
 use Rattle.codeblock.proofs.Codeblock.{judged-codeblock, is-encoding}
 use Rattle.codeblock.proofs.SingleBits.{tailSyndrome}

@@ -1,4 +1,5 @@
--- Clauses 8.2 and 8.5: the BCH codeblock. 56 information bits, 7 parity bits, each complemented, and a filler bit zero.
+-- Clauses 8.2, 8.5 and 8.8: the BCH codeblock. 56 information bits, 7 parity bits, each complemented, and a filler bit zero; and the
+-- judgement of a received one, in the detecting mode or in the correcting one.
 use Prim.Native.Nat.{ℕ, zero, suc, _+_, _-_, _*_, _/_, _%_, _^_}
 use mathlib.Core.Bool.{Bool, true, false}
 use mathlib.Core.List.{List, [], _∷_, _++_}
@@ -44,7 +45,7 @@ good information corrected = record { good = true; information = information; co
 abbrev pub bad : Judged
 bad = record { good = false; information = replicate 7 0; corrected = 0 }
 
--- document 01, "Codeblock and CLTU": "all 64 bits equal the encoding of the first 56"
+-- document 01, "Codeblock and CLTU": "all 64 bits equal the encoding of its first 56"
 unfoldable pub isEncoding : List ℕ → Bool
 isEncoding block = same block (codeblockOf (take 7 block))
 
@@ -53,14 +54,16 @@ unfoldable pub flipped : ℕ → List ℕ → List ℕ
 flipped i block = set block (i / 8) (bitXor (getD block (i / 8) 0) (2 ^ (7 - i % 8)))
 
 -- document 02, order 3: "One bit away: that bit is corrected and counted, including a parity bit. Neither: the block is bad." Of the n bits
--- from bit i on, the first whose inversion makes the block an encoding is corrected; where there is none, the block is bad.
+-- from bit i on, the first whose inversion makes the block an encoding is corrected; where there is none, the block is bad. No two bits would
+-- do: proofs/Modes, `one-correction`.
 unfoldable pub mended : ℕ → ℕ → List ℕ → Judged
 mended zero i block = bad
 mended (suc n) i block = pick (isEncoding (flipped i block)) (good (take 7 (flipped i block)) 1) (mended n (suc i) block)
 
--- document 02, order 3: "The first 63 bits, parity complemented back, are good, or one bit away from a good word, or neither." So a block that
--- is no encoding is bad in the detecting mode; in the correcting mode it is mended at one of its first 63 bits. "A filler bit of one is bad in both modes":
--- bit 63 is not among them (proofs/Modes, `filler-bad`).
+-- a block that is no encoding, by the mode. Clause 8.8: the error-detecting mode, and the error-correcting mode, in which "one bit in error is
+-- corrected and two bits in error are detected". Document 02, order 3: "The first 63 bits, parity complemented back, are good, or one bit away
+-- from a good word, or neither"; so one of these 63 is mended. "A filler bit of one is bad in both modes": bit 63 is not among them (proofs/Modes,
+-- `filler-bad`).
 unfoldable pub otherwise : Mode → List ℕ → Judged
 otherwise Detecting block = bad
 otherwise Correcting block = mended 63 0 block
