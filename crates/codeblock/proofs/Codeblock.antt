@@ -12,7 +12,7 @@ use lib.Seq.{take-at, drop-cons}
 use Rattle.base.specs.Choice.{pick}
 use Rattle.base.specs.Octets.{Octets, same}
 use Rattle.base.proofs.Register.{register-lt}
-use Rattle.base.proofs.Tests.{apart, yes, no, not-so}
+use Rattle.base.proofs.Tests.{apart, yes, no}
 use Rattle.base.proofs.Lists.{same-equal, same-self, same-last, take-next, below-append}
 use Rattle.codeblock.specs.declared.Judged.{Judged}
 use Rattle.codeblock.specs.declared.Mode.{Mode}

@@ -2,7 +2,7 @@
 -- bit is the block sent with that bit inverted (`one-flip`), and one with two is the block sent with two bits inverted, two different ones
 -- (`two-flips`). The other way round, one inverted bit is one wrong bit (`flipped-wrong`).
 use mathlib.Core.Path.{_≡_, refl, sym, ap, ap₂, _∙_}
-use mathlib.Core.Bool.{Bool, true, false}
+use mathlib.Core.Bool.{Bool, true}
 use mathlib.Core.List.{List, [], _∷_, _++_}
 use Prim.Native.Nat.{ℕ, zero, suc, _+_, _-_, _*_, _/_, _%_, _^_, _<_}
 use native.Mathlib.Omega.{arith}

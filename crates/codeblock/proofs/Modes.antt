@@ -3,7 +3,7 @@
 -- column, and the block is bad (`bad-syndrome`): two wrong bits (`two-flips-bad`, `two-wrong-bad`), a filler bit of one (`filler-bad`), and the
 -- tail's syndrome with up to two wrong bits (`tail-two-bad`). At most one correction exists (`one-correction`). In the detecting mode one to
 -- three wrong bits are bad (`three-wrong-bad`), and in the tail's place up to three (`tail-three-bad`).
-use mathlib.Core.Path.{_≡_, refl, sym, ap, ap₂, _∙_, subst}
+use mathlib.Core.Path.{_≡_, refl, sym, ap, _∙_}
 use mathlib.Core.Bool.{Bool, true, false}
 use mathlib.Core.Logic.{_⊎_, inl, inr}
 use mathlib.Core.List.{List}

@@ -13,7 +13,7 @@ use Rattle.base.proofs.Tests.{apart}
 use Rattle.codeblock.specs.declared.Judged.{Judged}
 use Rattle.codeblock.specs.declared.Mode.the-variants.{Correcting}
 use Rattle.base.specs.Distance.{differing, wrongBits}
-use Rattle.codeblock.specs.Codeblock.{parity, errorControl, codeblockOf, syndromeOf, good, bad, flipped, judged, isGood}
+use Rattle.codeblock.specs.Codeblock.{parity, errorControl, codeblockOf, syndromeOf, good, flipped, judged, isGood}
 use Rattle.codeblock.proofs.Codeblock.{judged-codeblock, is-encoding}
 use Rattle.codeblock.proofs.SingleBits.{tailSyndrome}
 use Rattle.codeblock.proofs.Modes.{one-flip-mended, filler-bad, tail-syndrome-bad}

@@ -1,21 +1,21 @@
 -- The syndrome of eight octets is zero where they are an encoding (`encoding-syndrome`), and linear: inverting a bit adds that bit's column
 -- (`syndrome-flipped`). So a bit mends the block where its column is the syndrome (`flip-mends`), and mending is a search among the columns
 -- (`mended-search`), which a table can hold.
-use mathlib.Core.Path.{_≡_, refl, sym, ap, ap₂, _∙_}
+use mathlib.Core.Path.{_≡_, refl, sym, ap, _∙_}
 use mathlib.Core.Bool.{Bool, true, false}
-use mathlib.Core.List.{List, [], _∷_, _++_}
+use mathlib.Core.List.{List}
 use Prim.Native.Nat.{ℕ, zero, suc, _+_, _-_, _*_, _/_, _%_, _^_, _<_, _≤_}
 use native.Mathlib.Nat.{zero-add}
 use native.Mathlib.Omega.{arith}
-use borrow.Author.Tests.{eq-eqb, ne-eqb, eqb-true, eqb-false, ltb-true}
-use lib.Bits.{bitXor, xor-lt, xor-comm, xor-self}
-use lib.Dec.{eqb, eqb→eq, ltb}
+use borrow.Author.Tests.{eq-eqb, ne-eqb, eqb-true, eqb-false}
+use lib.Bits.{bitXor, xor-comm, xor-self}
+use lib.Dec.{eqb}
 use lib.ListN.{length, take, getD}
 use Rattle.base.specs.Choice.{pick}
 use Rattle.base.specs.Octets.{Octets}
-use Rattle.base.proofs.Computed.{below, is-true, tabulate, getD-tabulate}
-use Rattle.base.proofs.Lists.{octets-at, below-take, below-set}
-use Rattle.base.proofs.Xor.{xor-assoc, xor-equal, four, swap}
+use Rattle.base.proofs.Computed.{tabulate, getD-tabulate}
+use Rattle.base.proofs.Lists.{below-take}
+use Rattle.base.proofs.Xor.{xor-assoc, xor-equal, swap}
 use Rattle.codeblock.specs.declared.Judged.{Judged}
 use Rattle.codeblock.specs.declared.Mode.{Mode}
 use Rattle.codeblock.specs.Codeblock.{parity, errorControl, syndromeOf, good, bad, isEncoding, flipped, mended, otherwise, judged}
