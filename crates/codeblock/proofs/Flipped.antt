@@ -1,10 +1,11 @@
 -- Wrong bits as bits inverted: where n + 1 bits are wrong, one of them can be inverted and n are left (`one-less`). So a block with one wrong
 -- bit is the block sent with that bit inverted (`one-flip`), and one with two is the block sent with two bits inverted, two different ones
--- (`two-flips`). The other way round, one inverted bit is one wrong bit (`flipped-wrong`).
+-- (`two-flips`). The other way round, one inverted bit is one wrong bit (`flipped-wrong`), and
+-- one more at the most in a block with others (`flipped-more`).
 use mathlib.Core.Path.{_≡_, refl, sym, ap, ap₂, _∙_}
 use mathlib.Core.Bool.{Bool, true}
 use mathlib.Core.List.{List, [], _∷_, _++_}
-use Prim.Native.Nat.{ℕ, zero, suc, _+_, _-_, _*_, _/_, _%_, _^_, _<_}
+use Prim.Native.Nat.{ℕ, zero, suc, _+_, _-_, _*_, _/_, _%_, _^_, _<_, _≤_}
 use native.Mathlib.Omega.{arith}
 use borrow.Author.Tests.{eqb-true, ltb-true, ne-eqb}
 use lib.Bits.{bitXor, xor-lt, xor-self, xor-shr, xor-mod}
@@ -15,7 +16,7 @@ use Rattle.base.specs.Octets.{Octets, bitsOf, octetBits}
 use Rattle.base.proofs.Computed.{below, is-true}
 use Rattle.base.proofs.Lists.{octets-at, below-set}
 use Rattle.base.proofs.Tests.{both-left, both-right}
-use Rattle.base.proofs.Xor.{xor-undo, swap, double}
+use Rattle.base.proofs.Xor.{xor-assoc, xor-undo, swap, double}
 use Rattle.base.specs.Distance.{differing, wrongBits}
 use Rattle.codeblock.specs.Codeblock.{flipped}
 use Rattle.codeblock.proofs.Bits.{none-wrong, self-wrong}
@@ -115,6 +116,32 @@ pub flipped-wrong : (i : ℕ) (block : List ℕ) → i < 64 → length block ≡
 unfolding flipped
 flipped-wrong i block k l = inverted-wrong block (i / 8) (2 ^ (7 - i % 8)) (omega arith) (weight-one i)
 
+-- and adds one wrong bit at the most
+bit-le : (x y : ℕ) → x < 2 → y < 2 → bitXor x y ≤ x + y
+bit-le zero y hx hy = omega arith
+bit-le (suc zero) zero hx hy = omega arith
+bit-le (suc zero) (suc zero) hx hy = omega arith
+bit-le (suc zero) (suc (suc y)) hx hy = absurd (omega arith)
+bit-le (suc (suc x)) y hx hy = absurd (omega arith)
+
+ones-le : (n a b : ℕ) → a < 256 → b < 256 → ones n (bitXor a b) ≤ ones n a + ones n b
+unfolding ones
+ones-le zero a b ha hb = omega arith
+ones-le (suc n) a b ha hb =
+    let e : ones (suc n) (bitXor a b) ≡ bitXor (a / 128) (b / 128) + ones n (bitXor (a % 128 * 2) (b % 128 * 2)) =
+    ap₂ (λ (x y : ℕ). x + ones n y) (xor-shr a b 7) (rest-xor a b) in
+    omega (arith, e, bit-le (a / 128) (b / 128) (omega arith) (omega arith), ones-le n (a % 128 * 2) (b % 128 * 2) (omega arith) (omega arith))
+
+inverted-more : (s t : List ℕ) (k m : ℕ) → length s ≡ length t → Octets s → Octets t → m < 256 → ones 8 m ≡ 1
+    → wrongBits t (set s k (bitXor (getD s k 0) m)) ≤ suc (wrongBits t s)
+inverted-more [] t k m l hs ht hm e = omega arith
+inverted-more (x ∷ s) [] k m l hs ht hm e = absurd (omega arith)
+inverted-more (x ∷ s) (y ∷ t) zero m l hs ht hm e =
+    let c : ones 8 (bitXor y (bitXor x m)) ≡ ones 8 (bitXor (bitXor y x) m) = ap (ones 8) (sym (xor-assoc y x m)) in
+    omega (arith, c, e, wrong-more y (bitXor x m) t s, wrong-more y x t s, ones-le 8 (bitXor y x) m (xor-lt 8 y x (ht .0) (hs .0)) hm)
+inverted-more (x ∷ s) (y ∷ t) (suc k) m l hs ht hm e =
+    omega (arith, wrong-more y x t (set s k (bitXor (getD s k 0) m)), wrong-more y x t s, inverted-more s t k m (omega arith) (hs .1) (ht .1) hm e)
+
 -- a bit inverted twice
 inverted-twice : (s : List ℕ) (k m : ℕ) → set (set s k (bitXor (getD s k 0) m)) k (bitXor (getD (set s k (bitXor (getD s k 0) m)) k 0) m) ≡ s
 inverted-twice [] k m = refl
@@ -131,6 +158,10 @@ weight-lt i = ltb-true _ 256 (is-true _ (below (λ y. ltb (2 ^ (7 - y)) 256) 8 t
 pub octets-flipped : (i : ℕ) (block : List ℕ) → Octets block → Octets (flipped i block)
 unfolding flipped
 octets-flipped i block h = below-set 256 block (i / 8) _ h (xor-lt 8 (getD block (i / 8) 0) (2 ^ (7 - i % 8)) (octets-at block h (i / 8)) (weight-lt i))
+
+pub flipped-more : (i : ℕ) (sent block : List ℕ) → length block ≡ length sent → Octets block → Octets sent → wrongBits sent (flipped i block) ≤ suc (wrongBits sent block)
+unfolding flipped
+flipped-more i sent block l h hs = inverted-more block sent (i / 8) (2 ^ (7 - i % 8)) l h hs (weight-lt i) (weight-one i)
 
 -- blocks of eight octets
 module _ (sent received : List ℕ) (ls : length sent ≡ 8) (lr : length received ≡ 8) (hs : Octets sent) (hr : Octets received) where
