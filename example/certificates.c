@@ -61,7 +61,7 @@ static uint32_t frame_loss = 20;
 static uint32_t word_loss = 20;
 
 /* What is told at the end. */
-static unsigned long ad_frames, bc_frames, lost_frames, words, lost_words, ticks, alerts;
+static unsigned long ad_frames, bc_frames, lost_frames, words, lost_words, ticks, alerts, corrected_codeblocks;
 static unsigned long confirmed_by_sender, confirmed_by_report;
 
 static void fail(const char *what) {
@@ -124,7 +124,36 @@ static void release_buffers(void) {
     }
 }
 
-/* The radio: a frame goes up in a CLTU, which can be lost whole or damaged in one bit before its tail. */
+static void flip(uint8_t *octets, uint32_t bit) {
+    octets[bit / 8] ^= (uint8_t)(0x80u >> bit % 8);
+}
+
+/* At most one wrong bit in the start sequence, in the first 63 bits of each codeblock, and in the tail. */
+static void add_noise(uint8_t *cltu, uint64_t cltu_octets) {
+    uint64_t at;
+    if (random_number(10) == 0) {
+        flip(cltu, random_number(16));
+    }
+    for (at = 2; at < cltu_octets; at += PONDRESZI_CODEBLOCK_OCTETS) {
+        if (random_number(10) == 0) {
+            flip(cltu + at, random_number(63));
+        }
+    }
+}
+
+/* Two wrong bits in one codeblock. */
+static void damage(uint8_t *cltu, uint64_t cltu_octets) {
+    uint32_t codeblocks = (uint32_t)(cltu_octets - 2) / PONDRESZI_CODEBLOCK_OCTETS - 1;
+    uint8_t *codeblock = cltu + 2 + PONDRESZI_CODEBLOCK_OCTETS * random_number(codeblocks);
+    uint32_t bit = random_number(64);
+    flip(codeblock, bit);
+    flip(codeblock, (bit + 1 + random_number(63)) % 64);
+}
+
+/*
+ * The radio: a frame goes up in a CLTU. Noise flips a bit here and there: at most one in each codeblock and in the tail, which reading
+ * in the correcting mode mends. A CLTU can also be lost whole, or damaged in two bits of one codeblock, which are seen as bad.
+ */
 static void carry_up(const uint8_t *frame, size_t frame_octets) {
     uint8_t cltu[PONDRESZI_LARGEST_CLTU];
     uint8_t decoded[PONDRESZI_LARGEST_DECODED_FRAME];
@@ -135,9 +164,13 @@ static void carry_up(const uint8_t *frame, size_t frame_octets) {
         if (random_number(2) == 0) {
             return;
         }
-        cltu[random_number((uint32_t)cltu_octets - PONDRESZI_CODEBLOCK_OCTETS)] ^= (uint8_t)(1u << random_number(8));
+        damage(cltu, cltu_octets);
+    } else {
+        add_noise(cltu, cltu_octets);
     }
-    if (pondreszi_cltu_read(cltu, (size_t)cltu_octets, decoded, sizeof decoded, &count, &place, &corrected) == PONDRESZI_DONE) {
+    if (pondreszi_cltu_read(cltu, (size_t)cltu_octets, PONDRESZI_CORRECTING, decoded, sizeof decoded, &count, &place, &corrected) ==
+        PONDRESZI_DONE) {
+        corrected_codeblocks += (unsigned long)corrected;
         arrive(decoded, (size_t)count);
     }
 }
@@ -450,6 +483,7 @@ int main(int argc, char **argv) {
     printf("seed %lu, losses %u %% of frames and %u %% of control words\n", seed, (unsigned)frame_loss, (unsigned)word_loss);
     printf("%lu certificates sent, %lu sent again, in %lu AD frames; %lu BC frames; %lu frames lost\n", (unsigned long)unit_count,
            ad_frames - (unsigned long)unit_count, ad_frames, bc_frames, lost_frames);
+    printf("%lu codeblocks corrected\n", corrected_codeblocks);
     printf("%lu control words, %lu lost; %lu ticks; %lu alerts\n", words, lost_words, ticks, alerts);
     printf("%lu confirmed by the sender, %lu by the report value after an alert\n", confirmed_by_sender, confirmed_by_report);
     equal = files_equal(argv[1], argv[2]);

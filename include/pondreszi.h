@@ -21,7 +21,7 @@
  *   - Numbers cross as 32 bits, so that none is cut on the way: a value outside its limit is refused with 12, however large, and on
  *     reading an own address beyond its limits matches no frame or word (7). Only the place of pondreszi_randomizer_octet has 64 bits.
  *   - The number returned is 0 for done, otherwise a refusal (enum pondreszi_refusal). Only pondreszi_codeblock_error_control,
- *     pondreszi_codeblock_is_good, pondreszi_randomizer_octet and pondreszi_fecf refuse nothing: they return what they compute.
+ *     pondreszi_randomizer_octet and pondreszi_fecf refuse nothing: they return what they compute.
  *   - A refusal changes no octet of any buffer of data (states, frames, units, store, output). The numbers that a function tells through
  *     pointers are always written, and are 0 where they mean nothing. The answer of a sender's event is written where the event was
  *     judged, refused or not.
@@ -92,7 +92,7 @@ extern "C" {
 enum pondreszi_refusal {
     PONDRESZI_DONE = 0,
     PONDRESZI_NO_START = 1, /* no start sequence in the input, not even with one wrong bit */
-    PONDRESZI_NO_BLOCK = 2, /* the first codeblock is bad */
+    PONDRESZI_NO_BLOCK = 2, /* the first codeblock is bad, or the one that is judged */
     PONDRESZI_NO_END = 3,   /* the input ends before a bad codeblock, and no 2 */
     PONDRESZI_SHORT = 4,    /* frame below 8 octets, or fewer lent than its header says */
     PONDRESZI_FILL = 5,     /* more than 6 octets after the frame */
@@ -114,8 +114,20 @@ enum pondreszi_refusal {
  */
 uint8_t pondreszi_codeblock_error_control(const uint8_t *information, size_t information_len);
 
-/* 1 where the octets are a good codeblock: eight of them, the last the error control octet of the first seven. Otherwise 0. */
-uint8_t pondreszi_codeblock_is_good(const uint8_t *block, size_t block_len);
+/* The mode in which codeblocks are judged (clause 8.8). Any other number is refused with 12. */
+enum pondreszi_mode {
+    PONDRESZI_DETECTING = 0, /* a codeblock with a wrong bit is bad */
+    PONDRESZI_CORRECTING = 1 /* one wrong bit among its first 63 is corrected, a parity bit too; two of its 64 are bad */
+};
+
+/*
+ * Judges eight octets as a codeblock: good where the last is the error control octet of the first seven, corrected where it is so with one
+ * of the first 63 bits inverted and the mode corrects, else bad. A filler bit of one is bad in both modes. The information of a good or
+ * corrected codeblock, seven octets, goes to the front of information; corrected tells 0 for good and 1 for corrected.
+ * Refusals: 10 not eight octets, 12 mode, 2 the codeblock is bad, 11 information too short.
+ */
+uint8_t pondreszi_codeblock_judge(const uint8_t *block, size_t block_len, uint32_t mode, uint8_t *information, size_t information_len,
+                                  uint8_t *corrected);
 
 /* The octet of the random sequence at a place, 0 for the first: FF 39 9E 5A 68 ... */
 uint8_t pondreszi_randomizer_octet(uint64_t place);
@@ -133,13 +145,16 @@ uint8_t pondreszi_cltu_write(const uint8_t *frame, size_t frame_len, uint8_t *ou
  *
  * place: where reading ended. Done: the offset of the codeblock that ended it (the tail); go on behind it for the next CLTU. Refusal 1:
  * the input's length; 2: the offset of the bad codeblock; 3: the offset where the next codeblock would begin. Otherwise 0.
- * corrected: the count of corrected codeblocks, 0 for now.
+ * mode: PONDRESZI_DETECTING or PONDRESZI_CORRECTING. 2, 3, 11 and the place follow it. No mode is better in every way: a wrong bit that
+ * ends a CLTU early when detecting is mended when correcting, but so is noise behind a lost tail, and a reading that was done may become 3.
+ * corrected: the count of corrected codeblocks, 0 by a refusal.
  *
- * An earlier near match hides a later exact one: EA 90 before a whole CLTU is refusal 2 at place 2. 4,096 octets of noise hold about one
- * such match, so refusal 2 is the usual answer to noise: call again with the octets from place on.
- * Refusals: 10 input over 4,096 octets, 1, 2, 3, 11 output too short.
+ * An earlier near match hides a later exact one: when detecting, EA 90 before a whole CLTU is refusal 2 at place 2. 4,096 octets of noise
+ * hold about one such match, so refusal 2 is the usual answer to noise (three in four when
+ * correcting): call again with the octets from place on.
+ * Refusals: 10 input over 4,096 octets, 12 mode, 1, 2, 3, 11 output too short.
  */
-uint8_t pondreszi_cltu_read(const uint8_t *input, size_t input_len, uint8_t *output, size_t output_len, uint64_t *count,
+uint8_t pondreszi_cltu_read(const uint8_t *input, size_t input_len, uint32_t mode, uint8_t *output, size_t output_len, uint64_t *count,
                             uint64_t *place, uint64_t *corrected);
 
 /* Transfer frames (clauses 6.2 and 6.4 to 6.8). ---------------------------------------------------------------------------------- */

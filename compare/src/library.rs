@@ -5,6 +5,7 @@ use crate::call;
 use crate::lending::{lend, lend_number, Lent};
 use independent::clcw::{self, Report};
 use independent::cltu;
+use independent::codeblock;
 use independent::fop1;
 use independent::frame::{self, Content};
 use independent::output::Written;
@@ -37,10 +38,28 @@ pub fn codeblock_error_control(information: &mut [u8]) -> u8 {
     unsafe { c::pondreszi_codeblock_error_control(information.first(), information.len()) }
 }
 
-/// 1 or 0.
-pub fn codeblock_is_good(block: &mut [u8]) -> u8 {
-    let block = lend(block);
-    unsafe { c::pondreszi_codeblock_is_good(block.first(), block.len()) }
+pub fn codeblock_judge(block: &mut [u8], mode: u32, information: &mut [u8]) -> codeblock::Judged {
+    let (block, information) = (&lend(block), &lend(information));
+    arguments!(pondreszi_codeblock_judge: block, information);
+    arguments!(pondreszi_codeblock_judge: mode);
+    let mut judged = codeblock::Judged {
+        number: UNWRITTEN_8,
+        corrected: UNWRITTEN_8,
+    };
+    judged.number = {
+        let corrected = &lend_number(&mut judged.corrected);
+        unsafe {
+            c::pondreszi_codeblock_judge(
+                block.first(),
+                block.len(),
+                mode,
+                information.first(),
+                information.len(),
+                corrected.number(),
+            )
+        }
+    };
+    judged
 }
 
 pub fn randomizer_octet(place: u64) -> u8 {
@@ -68,9 +87,10 @@ pub fn cltu_write(frame: &mut [u8], output: &mut [u8]) -> Written {
     })
 }
 
-pub fn cltu_read(input: &mut [u8], output: &mut [u8]) -> cltu::Read {
+pub fn cltu_read(input: &mut [u8], mode: u32, output: &mut [u8]) -> cltu::Read {
     let (input, output) = (&lend(input), &lend(output));
     arguments!(pondreszi_cltu_read: input, output);
+    arguments!(pondreszi_cltu_read: mode);
     let mut read = cltu::Read {
         number: UNWRITTEN_8,
         count: UNWRITTEN,
@@ -85,6 +105,7 @@ pub fn cltu_read(input: &mut [u8], output: &mut [u8]) -> cltu::Read {
             c::pondreszi_cltu_read(
                 input.first(),
                 input.len(),
+                mode,
                 output.first(),
                 output.len(),
                 count.number(),

@@ -56,7 +56,7 @@ const USAGE: &str = "usage: compare [COUNT] [--seed N] [--fault NAME] [--lending
 const INPUTS: u64 = 200_000;
 
 /// From so many inputs on, random ones must meet each number and each kind.
-const ENOUGH_TO_MEET_ALL: u64 = 20_000;
+const ENOUGH_TO_MEET_ALL: u64 = 40_000;
 
 fn main() -> ExitCode {
     let words: Vec<String> = std::env::args().skip(1).collect();

@@ -69,6 +69,8 @@ fn limits() -> Values {
 fn refusals() -> Values {
     values! {
         "DONE" = NONE,
+        "DETECTING" = Mode::Detecting.number(),
+        "CORRECTING" = Mode::Correcting.number(),
         "NO_START" = Refusal::NoStart.number(),
         "NO_BLOCK" = Refusal::NoBlock.number(),
         "NO_END" = Refusal::NoEnd.number(),

@@ -3,7 +3,7 @@
 use crate::library;
 use crate::refusal::judged;
 use crate::{
-    Refusal, Refused, CODEBLOCK_INFORMATION_OCTETS, CODEBLOCK_OCTETS, LARGEST_CLTU,
+    Mode, Refusal, Refused, CODEBLOCK_INFORMATION_OCTETS, CODEBLOCK_OCTETS, LARGEST_CLTU,
     LARGEST_CLTU_INPUT, LARGEST_DECODED,
 };
 
@@ -60,7 +60,7 @@ pub struct Decoded {
     pub octets: Vec<u8>,
     /// The offset of the codeblock that ended reading, the tail.
     pub place: usize,
-    /// The corrected codeblocks, 0 for now.
+    /// The count of corrected codeblocks.
     pub corrected: u64,
 }
 
@@ -71,43 +71,46 @@ pub struct DecodedInto {
     pub count: usize,
     /// The offset of the codeblock that ended reading, the tail.
     pub place: usize,
-    /// The corrected codeblocks, 0 for now.
+    /// The count of corrected codeblocks.
     pub corrected: u64,
 }
 
-/// Reads the first CLTU in up to 4,096 octets. The first place at an octet boundary that
+/// Reads the first CLTU in up to 4,096 octets, its codeblocks judged in the mode. The first place at an octet boundary that
 /// differs from EB 90 in at most one bit counts.
 ///
 /// An earlier near match hides a later exact one. 4,096 octets of noise hold about one
 /// such match, so `NoBlock` is the usual answer to noise: read again from the place on.
 ///
 /// ```
-/// use pondreszi::{cltu, Refusal};
+/// use pondreszi::{cltu, Mode, Refusal};
 ///
 /// let mut octets = vec![0; 3];
 /// octets.extend(cltu::write(&[7; 8])?);
-/// let decoded = cltu::read(&octets)?;
+/// let decoded = cltu::read(&octets, Mode::Detecting)?;
 /// assert_eq!(decoded.octets[..8], [7; 8]);
 /// assert_eq!(decoded.octets.len(), 14);
 /// assert_eq!(decoded.place, 3 + 2 + 16);
 ///
 /// octets[3] ^= 1;
-/// assert_eq!(cltu::read(&octets)?, decoded);
+/// assert_eq!(cltu::read(&octets, Mode::Detecting)?, decoded);
 ///
 /// octets[5] ^= 1;
-/// let refused = cltu::read(&octets).unwrap_err();
+/// let refused = cltu::read(&octets, Mode::Detecting).unwrap_err();
 /// assert_eq!(refused.refusal, Refusal::NoBlock);
 /// assert_eq!(refused.place, Some(5));
+///
+/// let mended = cltu::read(&octets, Mode::Correcting)?;
+/// assert_eq!((mended.octets, mended.corrected), (decoded.octets, 1));
 /// # Ok::<(), pondreszi::Refused>(())
 /// ```
-pub fn read(input: &[u8]) -> Result<Decoded, Refused> {
+pub fn read(input: &[u8], mode: Mode) -> Result<Decoded, Refused> {
     // A longer input is refused whatever the room.
     let room = match input.len() {
         0..=LARGEST_CLTU_INPUT => input.len().min(LARGEST_DECODED),
         _ => 0,
     };
     let mut octets = vec![0; room];
-    let decoded = read_into(input, &mut octets)?;
+    let decoded = read_into(input, mode, &mut octets)?;
     octets.truncate(decoded.count);
     Ok(Decoded {
         octets,
@@ -117,12 +120,13 @@ pub fn read(input: &[u8]) -> Result<Decoded, Refused> {
 }
 
 /// The same into the front of a lent output.
-pub fn read_into(input: &[u8], output: &mut [u8]) -> Result<DecodedInto, Refused> {
+pub fn read_into(input: &[u8], mode: Mode, output: &mut [u8]) -> Result<DecodedInto, Refused> {
     let (mut count, mut place, mut corrected) = (0, 0, 0);
     let number = unsafe {
         library::pondreszi_cltu_read(
             input.as_ptr(),
             input.len(),
+            mode.number().into(),
             output.as_mut_ptr(),
             output.len(),
             &mut count,

@@ -12,7 +12,7 @@
 //! One unit, there and back:
 //!
 //! ```
-//! use pondreszi::{cltu, Directive, Receiver, ReceiverSettings};
+//! use pondreszi::{cltu, Directive, Mode, Receiver, ReceiverSettings};
 //! use pondreszi::{Sender, SenderSettings, Unit};
 //!
 //! # fn main() -> Result<(), Box<dyn std::error::Error>> {
@@ -29,7 +29,7 @@
 //! let handed_down = answer.frame.expect("the window is open");
 //! sender.lower_layer(handed_down.kind.accept())?;
 //!
-//! let decoded = cltu::read(&cltu::write(&handed_down.octets)?)?;
+//! let decoded = cltu::read(&cltu::write(&handed_down.octets)?, Mode::Correcting)?;
 //! let received = receiver.frame(&decoded.octets)?;
 //! assert_eq!(received.unit, Some(Unit::Ad(b"CERT 0042 expires 2027-03-01")));
 //! receiver.release()?;
@@ -54,6 +54,7 @@ mod receiver;
 mod refusal;
 mod sender;
 
+pub use coding::Mode;
 pub use limits::*;
 pub use receiver::{Received, Receiver, ReceiverEvent, ReceiverSettings, ReceiverState, Unit};
 pub use refusal::{Refusal, Refused};

@@ -17,7 +17,14 @@ pub type SenderEventWithOctets = unsafe extern "C" fn(
 #[link(name = "pondreszi", kind = "static")]
 extern "C" {
     pub fn pondreszi_codeblock_error_control(information: *const u8, information_len: usize) -> u8;
-    pub fn pondreszi_codeblock_is_good(block: *const u8, block_len: usize) -> u8;
+    pub fn pondreszi_codeblock_judge(
+        block: *const u8,
+        block_len: usize,
+        mode: u32,
+        information: *mut u8,
+        information_len: usize,
+        corrected: *mut u8,
+    ) -> u8;
     pub fn pondreszi_randomizer_octet(place: u64) -> u8;
     pub fn pondreszi_cltu_write(
         frame: *const u8,
@@ -29,6 +36,7 @@ extern "C" {
     pub fn pondreszi_cltu_read(
         input: *const u8,
         input_len: usize,
+        mode: u32,
         output: *mut u8,
         output_len: usize,
         count: *mut u64,

@@ -1,6 +1,6 @@
 //! Refusals by name and number, and the places of the CLTU reader.
 
-use pondreszi::{clcw, cltu, frame, Refusal};
+use pondreszi::{clcw, cltu, frame, Mode, Refusal};
 
 #[test]
 fn numbers_and_names_agree() {
@@ -19,16 +19,16 @@ fn numbers_and_names_agree() {
 fn cltu_places() {
     let octets = cltu::write(&frame::write_bd(1, 0, &[9; 20]).unwrap()).unwrap();
     let refused = |input: &[u8]| {
-        let refused = cltu::read(input).unwrap_err();
+        let refused = cltu::read(input, Mode::Detecting).unwrap_err();
         (refused.refusal, refused.place)
     };
     assert_eq!(refused(&[]), (Refusal::NoStart, Some(0)));
     assert_eq!(refused(&[1, 2, 3]), (Refusal::NoStart, Some(3)));
     assert_eq!(refused(&octets[..20]), (Refusal::NoEnd, Some(18)));
     assert_eq!(refused(&[0; 4097]), (Refusal::Length, None));
-    let short = cltu::read_into(&octets, &mut [0; 27]).unwrap_err();
+    let short = cltu::read_into(&octets, Mode::Detecting, &mut [0; 27]).unwrap_err();
     assert_eq!((short.refusal, short.place), (Refusal::Room, None));
-    let decoded = cltu::read_into(&octets, &mut [0; 28]).unwrap();
+    let decoded = cltu::read_into(&octets, Mode::Detecting, &mut [0; 28]).unwrap();
     assert_eq!((decoded.count, decoded.place), (28, 34));
 }
 
@@ -41,7 +41,10 @@ fn the_longest_input_has_room() {
     }
     input.extend([0xFF; 14]);
     assert_eq!(input.len(), 4096);
-    assert_eq!(cltu::read(&input).unwrap().octets.len(), 3570);
+    assert_eq!(
+        cltu::read(&input, Mode::Detecting).unwrap().octets.len(),
+        3570
+    );
 }
 
 #[test]

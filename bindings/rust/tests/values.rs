@@ -213,7 +213,7 @@ fn limits_of_cltus() {
         let written = written.unwrap();
         assert_eq!(written.len(), cltu::octets(octets));
         assert!((SMALLEST_CLTU..=LARGEST_CLTU).contains(&written.len()));
-        let decoded = cltu::read(&written).unwrap().octets.len();
+        let decoded = cltu::read(&written, Mode::Detecting).unwrap().octets.len();
         assert!(decoded <= LARGEST_DECODED_FRAME);
         assert!(decoded <= octets + LARGEST_FILL);
         if octets == LARGEST_FRAME {
@@ -235,9 +235,15 @@ fn limits_of_cltus() {
     .concat();
     input.truncate(LARGEST_CLTU_INPUT - CODEBLOCK_OCTETS);
     input.resize(LARGEST_CLTU_INPUT, 0xFF);
-    assert_eq!(cltu::read(&input).unwrap().octets.len(), LARGEST_DECODED);
+    for mode in Mode::ALL {
+        let decoded = cltu::read(&input, mode).unwrap();
+        assert_eq!(decoded.octets.len(), LARGEST_DECODED);
+    }
     input.push(0xFF);
-    assert_eq!(refusal(cltu::read(&input)), Some(Refusal::Length));
+    assert_eq!(
+        refusal(cltu::read(&input, Mode::Correcting)),
+        Some(Refusal::Length)
+    );
 }
 
 #[test]
@@ -245,14 +251,52 @@ fn octets_of_codeblocks_and_control_words() {
     for octets in 0..=CODEBLOCK_OCTETS + 2 {
         let mut block = vec![0x5A; octets];
         block.push(coding::codeblock_error_control(&block));
-        let is_good = coding::codeblock_is_good(&block);
-        assert_eq!(is_good, octets == CODEBLOCK_INFORMATION_OCTETS);
-        assert_eq!(is_good, block.len() == CODEBLOCK_OCTETS);
+        let judged = coding::codeblock_judge(&block, Mode::Detecting);
+        assert_eq!(judged.is_ok(), octets == CODEBLOCK_INFORMATION_OCTETS);
+        assert_eq!(
+            judged.err(),
+            (block.len() != CODEBLOCK_OCTETS).then_some(Refusal::Length)
+        );
     }
     for octets in 0..=CLCW_OCTETS + 2 {
         let read = refusal(clcw::read(&vec![0xFF; octets], 0));
         assert_eq!(read, (octets != CLCW_OCTETS).then_some(Refusal::Length));
     }
+}
+
+/// The modes by number, and what the library answers to another number.
+#[test]
+fn modes() {
+    let mut block = [0, 0, 0, 0, 0, 0, 1, 0x74];
+    block[6] ^= 1 << 7;
+    let judge = |mode: u32, information: &mut [u8]| {
+        let mut corrected = 9;
+        let number = unsafe {
+            library::pondreszi_codeblock_judge(
+                block.as_ptr(),
+                block.len(),
+                mode,
+                information.as_mut_ptr(),
+                information.len(),
+                &mut corrected,
+            )
+        };
+        (number, corrected)
+    };
+    let mut information = [0xAA; CODEBLOCK_INFORMATION_OCTETS];
+    let detecting = Mode::Detecting.number().into();
+    let correcting = Mode::Correcting.number().into();
+    let bad = Refusal::NoBlock.number();
+    assert_eq!(judge(detecting, &mut information), (bad, 0));
+    for other in [2, 256, 65_536, u32::MAX] {
+        let setting = Refusal::Setting.number();
+        assert_eq!(judge(other, &mut information), (setting, 0));
+    }
+    let room = Refusal::Room.number();
+    assert_eq!(judge(correcting, &mut information[1..]), (room, 0));
+    assert_eq!(information, [0xAA; CODEBLOCK_INFORMATION_OCTETS]);
+    assert_eq!(judge(correcting, &mut information), (0, 1));
+    assert_eq!(information, [0, 0, 0, 0, 0, 0, 1]);
 }
 
 #[test]
@@ -867,12 +911,18 @@ fn refusals() {
     damaged[6] ^= 1;
     let mut receiver = Receiver::new(RECEIVER).unwrap();
     for (met, refusal) in [
-        (refusal(cltu::read(&[0])), Refusal::NoStart),
+        (refusal(cltu::read(&[0], Mode::Detecting)), Refusal::NoStart),
         (
-            refusal(cltu::read(&[0xEB, 0x90, 0, 0, 0, 0, 0, 0, 0, 1])),
+            refusal(cltu::read(
+                &[0xEB, 0x90, 0, 0, 0, 0, 0, 0, 0, 1],
+                Mode::Detecting,
+            )),
             Refusal::NoBlock,
         ),
-        (refusal(cltu::read(&cltu[..10])), Refusal::NoEnd),
+        (
+            refusal(cltu::read(&cltu[..10], Mode::Detecting)),
+            Refusal::NoEnd,
+        ),
         (read(&bd[..7]), Refusal::Short),
         (read(&[&bd[..], &[0; 7]].concat()), Refusal::Fill),
         (read(&changed(0, 0x40)), Refusal::Header),

@@ -57,7 +57,7 @@ use std::time::{Duration, Instant};
 use independent::bits;
 use independent::clcw::{self, Report};
 use independent::cltu::{self, START_SEQUENCE, TAIL_SEQUENCE};
-use independent::codeblock::{self, CODEBLOCK_BITS, INFORMATION_BITS};
+use independent::codeblock::{self, CODEBLOCK_BITS, DETECTING, INFORMATION_BITS};
 use independent::farm1::{Arrival, Farm1};
 use independent::fault::Fault;
 use independent::fop1::{self, Sender, STORE, UNIT_MOST};
@@ -278,14 +278,14 @@ fn without_start(seed: usize) -> Vec<u8> {
 fn cltu_hunt() -> Row {
     let inputs = samples(without_start);
     for input in &inputs {
-        assert!(cltu::read(input, &mut [], Fault::None).number == NO_START);
+        assert!(cltu::read(input, DETECTING, &mut [], Fault::None).number == NO_START);
     }
     stateless(
         "CLTU read, 4,096 octets without a start sequence",
         inputs,
         0,
-        |input, output| library::cltu_read(input, output),
-        |input, output| cltu::read(input, output, Fault::None),
+        |input, output| library::cltu_read(input, DETECTING, output),
+        |input, output| cltu::read(input, DETECTING, output, Fault::None),
     )
 }
 
@@ -302,15 +302,15 @@ fn cltu_write() -> Row {
 fn cltu_read(name: &str, inputs: Vec<Vec<u8>>, codeblocks: usize) -> Row {
     let room = codeblocks * INFORMATION_BITS / 8;
     for input in &inputs {
-        let read = cltu::read(input, &mut vec![0; room], Fault::None);
+        let read = cltu::read(input, DETECTING, &mut vec![0; room], Fault::None);
         assert!(read.number == DONE && read.count == room as u64);
     }
     stateless(
         name,
         inputs,
         room,
-        |input, output| library::cltu_read(input, output),
-        |input, output| cltu::read(input, output, Fault::None),
+        |input, output| library::cltu_read(input, DETECTING, output),
+        |input, output| cltu::read(input, DETECTING, output, Fault::None),
     )
 }
 

@@ -6,8 +6,9 @@ use crate::inputs;
 use crate::library;
 use crate::random::Random;
 use independent::cltu::{self, Read, START_SEQUENCE, TAIL_SEQUENCE};
+use independent::codeblock::{CORRECTING, DETECTING};
 use independent::fault::Fault;
-use independent::refusal::{DONE, LENGTH, NO_BLOCK, NO_END, NO_START, ROOM};
+use independent::refusal::{DONE, LENGTH, NO_BLOCK, NO_END, NO_START, ROOM, SETTING};
 
 pub const READ: Operation = Operation {
     name: "cltu_read",
@@ -19,13 +20,14 @@ pub const READ: Operation = Operation {
         (NO_END, "no end"),
         (LENGTH, "length"),
         (ROOM, "room"),
+        (SETTING, "setting"),
     ],
     kinds: &[],
     fixed: read_fixed,
     random: read_random,
 };
 
-/// Document 01, Limits, Refusals and Codeblock and CLTU, as document 02, order 2, amends them.
+/// Document 01, Limits, Refusals and Codeblock and CLTU, as document 02, orders 2 and 3, amend them.
 fn read_fixed(tally: &mut Tally, fault: Fault) {
     let codeblock = inputs::cltu::with_error_control(&[0; 7]);
     let start_and_tail = [&START_SEQUENCE[..], &TAIL_SEQUENCE].concat();
@@ -64,10 +66,25 @@ fn read_fixed(tally: &mut Tally, fault: Fault) {
             place,
             corrected: 0,
         };
-        read(input, buffer, Some(paper), tally, fault);
+        read(input, DETECTING, buffer.clone(), Some(paper), tally, fault);
+        // What the near place hides is one bit away from a codeblock.
+        let paper = (input != hidden).then_some(paper);
+        read(input, CORRECTING, buffer.clone(), paper, tally, fault);
+        // Another mode is judged after the length.
+        for mode in [2, 256, 257, 65_536, 65_537, u32::MAX] {
+            let paper = Read {
+                number: if number == LENGTH { LENGTH } else { SETTING },
+                count: 0,
+                place: 0,
+                corrected: 0,
+            };
+            read(input, mode, buffer.clone(), Some(paper), tally, fault);
+        }
     }
     near_starts(&whole, tally, fault);
     near_everywhere(&whole, tally, fault);
+    each_flip(&whole, tally, fault);
+    runs_on(&one_codeblock, tally, fault);
 }
 
 /// At every offset of 4,096 octets a start sequence with one or two bits in error, before a
@@ -90,7 +107,49 @@ fn near_everywhere(whole: &[u8], tally: &mut Tally, fault: Fault) {
         input[offset] ^= first;
         input[offset + 1] ^= second;
         input.truncate(4096);
-        read(&input, vec![0xA5; 7], None, tally, fault);
+        let mode = [DETECTING, CORRECTING][offset / 4 % 2];
+        read(&input, mode, vec![0xA5; 7], None, tally, fault);
+    }
+}
+
+/// Each bit of a CLTU of one codeblock in error, in both modes (document 02, orders 2 and 3).
+fn each_flip(whole: &[u8], tally: &mut Tally, fault: Fault) {
+    for bit in 0..8 * whole.len() {
+        let mut flipped = whole.to_vec();
+        flipped[bit / 8] ^= 0x80 >> (bit % 8);
+        let in_codeblock = (16..80).contains(&bit);
+        for mode in [DETECTING, CORRECTING] {
+            let mended = in_codeblock && bit != 79 && mode == CORRECTING;
+            let (number, count, place) = if in_codeblock && !mended {
+                (NO_BLOCK, 0, 2)
+            } else {
+                (DONE, 7, 10)
+            };
+            let paper = Read {
+                number,
+                count,
+                place,
+                corrected: mended.into(),
+            };
+            read(&flipped, mode, vec![0xA5; 7], Some(paper), tally, fault);
+        }
+    }
+}
+
+/// No mode is better in every way: a codeblock with one bit in error that ends the CLTU in the
+/// detecting mode is mended in the correcting mode, and reading runs on to the input's end.
+fn runs_on(one_codeblock: &[u8], tally: &mut Tally, fault: Fault) {
+    let mut near = inputs::cltu::with_error_control(&[0; 7]);
+    near[0] ^= 1;
+    let input = [one_codeblock, &near].concat();
+    for (mode, number, count, place) in [(DETECTING, DONE, 7, 10), (CORRECTING, NO_END, 0, 18)] {
+        let paper = Read {
+            number,
+            count,
+            place,
+            corrected: 0,
+        };
+        read(&input, mode, vec![0xA5; 14], Some(paper), tally, fault);
     }
 }
 
@@ -127,7 +186,8 @@ fn near_starts(whole: &[u8], tally: &mut Tally, fault: Fault) {
                     place,
                     corrected: 0,
                 };
-                read(&flipped, vec![0xA5; 7], Some(paper), tally, fault);
+                let mode = if bit % 2 == 0 { DETECTING } else { CORRECTING };
+                read(&flipped, mode, vec![0xA5; 7], Some(paper), tally, fault);
             }
         }
     }
@@ -135,9 +195,13 @@ fn near_starts(whole: &[u8], tally: &mut Tally, fault: Fault) {
 
 fn read_random(random: &mut Random, tally: &mut Tally, fault: Fault) {
     let input = inputs::cltu::for_the_reader(random);
+    let mode = match random.below(16) {
+        0 => *random.pick(&[2, 256, 65_536, u32::MAX]),
+        number => (number % 2) as u32,
+    };
 
     // The exact need, and where the input is refused more than could be decoded.
-    let answer = cltu::read(&input, &mut vec![0; input.len()], Fault::None);
+    let answer = cltu::read(&input, mode, &mut vec![0; input.len()], Fault::None);
     let need = if answer.number == DONE {
         answer.count as usize
     } else {
@@ -150,17 +214,24 @@ fn read_random(random: &mut Random, tally: &mut Tally, fault: Fault) {
     };
     let lent = room.octets(need, random);
     let buffer = random.octets(lent);
-    read(&input, buffer, None, tally, fault);
+    read(&input, mode, buffer, None, tally, fault);
 }
 
-fn read(input: &[u8], buffer: Vec<u8>, paper: Option<Read>, tally: &mut Tally, fault: Fault) {
+fn read(
+    input: &[u8],
+    mode: u32,
+    buffer: Vec<u8>,
+    paper: Option<Read>,
+    tally: &mut Tally,
+    fault: Fault,
+) {
     let lent = buffer.len();
     let mut library_input = input.to_vec();
     let mut library_buffer = buffer.clone();
-    let library = library::cltu_read(&mut library_input, &mut library_buffer);
+    let library = library::cltu_read(&mut library_input, mode, &mut library_buffer);
 
     let mut independent_buffer = buffer;
-    let independent = cltu::read(input, &mut independent_buffer, fault);
+    let independent = cltu::read(input, mode, &mut independent_buffer, fault);
 
     tally.meet(library.number);
     let same = agree(&library, &independent, &paper)
@@ -168,7 +239,7 @@ fn read(input: &[u8], buffer: Vec<u8>, paper: Option<Read>, tally: &mut Tally, f
         && library_input == input;
     tally.compared(same, || {
         show_octets("input", input)
-            + &format!("  lent output: {lent} octets\n")
+            + &format!("  mode {mode}, lent output: {lent} octets\n")
             + &show_answers(&library, &independent, &paper)
             + &show_first_difference("output", &library_buffer, &independent_buffer)
             + &show_first_difference("input", &library_input, input)

@@ -32,7 +32,7 @@ pub struct Operation {
 
 pub const OPERATIONS: [Operation; 13] = [
     codeblock::ERROR_CONTROL,
-    codeblock::IS_GOOD,
+    codeblock::JUDGE,
     randomizer::OCTET,
     cltu_write::WRITE,
     cltu_read::READ,

@@ -2,11 +2,11 @@
 //! written and read by the rules of document 01, as document 02 amends them.
 
 use crate::bits;
-use crate::codeblock::{self, CODEBLOCK_BITS, INFORMATION_BITS};
+use crate::codeblock::{self, CODEBLOCK_BITS, CORRECTING, DETECTING, INFORMATION_BITS};
 use crate::fault::Fault;
 use crate::output::{self, Written};
 use crate::randomizer;
-use crate::refusal::{DONE, LENGTH, NO_BLOCK, NO_END, NO_START, ROOM};
+use crate::refusal::{DONE, LENGTH, NO_BLOCK, NO_END, NO_START, ROOM, SETTING};
 
 /// Clause 8.3.2.
 pub const START_SEQUENCE: [u8; 2] = [0xEB, 0x90];
@@ -31,7 +31,7 @@ pub struct Read {
     pub count: u64,
     /// The place in the input, in octets.
     pub place: u64,
-    /// The codeblocks corrected: none, since error correction is out (document 01, Extent).
+    /// The codeblocks corrected (document 02, order 3).
     pub corrected: u64,
 }
 
@@ -64,10 +64,18 @@ pub fn write(frame: &[u8], output: &mut [u8], fault: Fault) -> Written {
     output::write(&encode(frame, fault), output, fault)
 }
 
-/// Reads a CLTU (document 01, Refusals: 10, 1, then 2 or 3, then 11).
-pub fn read(input: &[u8], output: &mut [u8], fault: Fault) -> Read {
+/// Reads a CLTU in the mode of that number (document 01, Refusals: 10, 1, then 2 or 3, then
+/// 11; another mode is 12, after 10 and before 1).
+pub fn read(input: &[u8], mode: u32, output: &mut [u8], fault: Fault) -> Read {
+    let known = mode == DETECTING || mode == CORRECTING;
+    if fault == Fault::ModeBeforeLength && !known {
+        return refuse(SETTING, 0);
+    }
     if input.len() > INPUT_MOST {
         return refuse(LENGTH, 0);
+    }
+    if !known {
+        return refuse(SETTING, 0);
     }
 
     // Search (clause 8.7, state S2).
@@ -79,15 +87,17 @@ pub fn read(input: &[u8], output: &mut [u8], fault: Fault) -> Read {
     // Decode (clause 8.7, state S3), until a codeblock is rejected (event E4).
     let mut next = start + 8 * START_SEQUENCE.len();
     let mut data = Vec::new();
+    let mut corrected = 0;
     loop {
         if received.len() - next < CODEBLOCK_BITS {
             return refuse(NO_END, next);
         }
         let block = &received[next..next + CODEBLOCK_BITS];
-        if !codeblock::is_good(block, fault) {
+        let Some(accepted) = codeblock::judge(block, mode, fault) else {
             break;
-        }
-        data.extend(&block[..INFORMATION_BITS]);
+        };
+        data.extend(accepted.information);
+        corrected += accepted.corrected;
         next += CODEBLOCK_BITS;
     }
     if data.is_empty() {
@@ -107,7 +117,7 @@ pub fn read(input: &[u8], output: &mut [u8], fault: Fault) -> Read {
         number: DONE,
         count: decoded.len() as u64,
         place: next as u64 / 8,
-        corrected: 0,
+        corrected,
     }
 }
 
@@ -165,8 +175,33 @@ mod tests {
 
     fn read_into(input: &[u8], room: usize) -> (Read, Vec<u8>) {
         let mut output = vec![0xAA; room];
-        let answer = read(input, &mut output, Fault::None);
+        let answer = read(input, DETECTING, &mut output, Fault::None);
         (answer, output)
+    }
+
+    // Document 02, order 3: a bit in error in the start sequence, in each codeblock and in the
+    // tail; each codeblock counts.
+    #[test]
+    fn one_wrong_bit_in_each_part() {
+        let whole = written(20);
+        let (as_written, octets) = read_into(&whole, 30);
+        let mut input = whole.clone();
+        input[1] ^= 0x10;
+        for codeblock in 0..4 {
+            input[2 + 8 * codeblock + 2 * codeblock] ^= 0x80 >> codeblock;
+        }
+        let mut output = vec![0xAA; 30];
+        let answer = read(&input, CORRECTING, &mut output, Fault::None);
+        assert_eq!(
+            answer,
+            Read {
+                corrected: 3,
+                ..as_written
+            }
+        );
+        assert_eq!(output, octets);
+        let (answer, _) = read_into(&input, 30);
+        assert_eq!(answer, refuse(NO_BLOCK, 8 * 2));
     }
 
     // Document 01, Codeblock and CLTU: 26 for n = 8, 306 for n = 256.

@@ -14,6 +14,18 @@ pub enum Fault {
     ParityPlain,
     /// A codeblock with a wrong filler bit is good (clause 8.2.3).
     FillerIgnored,
+    /// The correcting mode corrects nothing (clause 8.8).
+    CorrectsNever,
+    /// The detecting mode corrects too.
+    CorrectsWhenDetecting,
+    /// A wrong filler bit is corrected: document 02, order 3, has it bad in both modes.
+    CorrectsFiller,
+    /// The bit behind the one in error is inverted.
+    CorrectsOnePlaceOff,
+    /// A corrected parity bit is not counted.
+    CorrectedParityUncounted,
+    /// The mode is judged before the length of the input.
+    ModeBeforeLength,
     /// The reader finds no start sequence in any input.
     RefusesAll,
     /// A start sequence has no bit in error: document 01 before order 2 of document 02.
@@ -99,12 +111,21 @@ pub enum Fault {
 }
 
 /// The faults of the operations, by name.
-pub const FAULTS: [(&str, Fault); 18] = [
+pub const FAULTS: [(&str, Fault); 24] = [
     ("fill_zero", Fault::FillZero),
     ("randomizer_through", Fault::RandomizerThrough),
     ("randomizer_late", Fault::RandomizerLate),
     ("parity_plain", Fault::ParityPlain),
     ("filler_ignored", Fault::FillerIgnored),
+    ("corrects_never", Fault::CorrectsNever),
+    ("corrects_when_detecting", Fault::CorrectsWhenDetecting),
+    ("corrects_filler", Fault::CorrectsFiller),
+    ("corrects_one_place_off", Fault::CorrectsOnePlaceOff),
+    (
+        "corrected_parity_uncounted",
+        Fault::CorrectedParityUncounted,
+    ),
+    ("mode_before_length", Fault::ModeBeforeLength),
     ("refuses_all", Fault::RefusesAll),
     ("start_exact", Fault::StartExact),
     ("start_two_errors", Fault::StartTwoErrors),

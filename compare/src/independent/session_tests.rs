@@ -5,6 +5,7 @@ use std::collections::BTreeMap;
 use std::time::Instant;
 
 use crate::cltu;
+use crate::codeblock::DETECTING;
 use crate::farm1;
 use crate::fault::{Fault, FOP_FAULTS, PASS_FAULTS, SESSION_FAULTS};
 use crate::fop1;
@@ -292,6 +293,7 @@ fn fill_behind_a_frame() {
             let mut handed_out = vec![0; 14];
             let read = cltu::read(
                 &cltu::encode(frame, Fault::None),
+                DETECTING,
                 &mut handed_out,
                 Fault::None,
             );

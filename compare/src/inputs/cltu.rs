@@ -6,6 +6,7 @@ use independent::bits;
 use independent::cltu::{self, START_SEQUENCE, TAIL_SEQUENCE};
 use independent::codeblock;
 use independent::fault::Fault;
+use std::iter;
 
 /// The octets with their error control octet: a good codeblock where there are seven.
 pub fn with_error_control(information: &[u8]) -> Vec<u8> {
@@ -55,8 +56,9 @@ fn wrong_start(random: &mut Random, errors: usize) -> [u8; 2] {
     bits::to_octets(&bits).try_into().unwrap()
 }
 
-const KINDS: [Kind<Vec<u8>>; 15] = [
+const KINDS: [Kind<Vec<u8>>; 16] = [
     (14, surrounded),
+    (16, damaged_parts),
     (14, damaged),
     (10, cut_short),
     (6, joined),
@@ -92,6 +94,27 @@ fn damaged(random: &mut Random) -> Vec<u8> {
     let flips = *random.pick(&[1, 1, 1, 2, 2, 3, 4, 8]);
     for _ in 0..flips {
         random.flip_a_bit(&mut input);
+    }
+    input
+}
+
+/// A CLTU with up to three bits in error in each of its parts: the start sequence, each
+/// codeblock and the tail; mostly none or one.
+fn damaged_parts(random: &mut Random) -> Vec<u8> {
+    let mut input = whole_cltu(random);
+    let flips: &[usize] = if random.once_in(2) {
+        &[0, 1]
+    } else {
+        &[0, 0, 0, 0, 1, 1, 1, 2, 3]
+    };
+    let (start, rest) = input.split_at_mut(START_SEQUENCE.len());
+    for part in iter::once(start).chain(rest.chunks_mut(8)) {
+        for _ in 0..*random.pick(flips) {
+            random.flip_a_bit(part);
+        }
+    }
+    if random.once_in(2) {
+        input.extend(noise(random, 30));
     }
     input
 }

@@ -18,8 +18,8 @@ pub record Unchanged (call : Called) (oldState oldStore oldOutput : List ℕ) : 
 
 -- by exported function
 pub record RefusedKeeps : Type 1 where
-  -- `pondreszi_cltu_write`, `_cltu_read`, `_frame_write_ad`, `_frame_write_bd`, `_frame_write_unlock`, `_frame_write_set_vr`, `_clcw_write`,
-  -- `_receiver_word`: their contracts give the output as what an `Outcome` leaves, and the number by its answer; so it is a law of outcomes
+  -- `pondreszi_codeblock_judge`, `_cltu_write`, `_cltu_read`, `_frame_write_ad`, `_frame_write_bd`, `_frame_write_unlock`, `_frame_write_set_vr`,
+  -- `_clcw_write`, `_receiver_word`: their contracts give the output as what an `Outcome` leaves, and the number by its answer; so it is a law of outcomes
   pub writers : {A : Type 0} (w : Outcome A) (output : List ℕ) → numberOf (answer w) ≢ 0 → after w output ≡ output
   -- `pondreszi_receiver_new`, `_receiver_frame`, `_receiver_release`
   pub receiverNew : (spacecraft channel window vr buffers : ℕ) (state : List ℕ)

@@ -8,6 +8,7 @@ use Rattle.base.specs.Register.{shiftBit, shiftBits, register}
 use Rattle.base.specs.Limits.{largestFrame, largestInput}
 use Rattle.base.specs.Octets.{bitsOf, octetBits}
 use Rattle.base.specs.Distance.{differing}
+use Rattle.codeblock.specs.declared.Mode.the-variants.{Detecting}
 use Rattle.codeblock.specs.Codeblock.{parity, errorControl, codeblockOf, isEncoding, otherwise, judged}
 use Rattle.randomizer.specs.Randomizer.{nextBit, later, octet, randomized}
 use Rattle.start_sequence.specs.StartSequence.{startSequence, recognized, starts, startOf}
@@ -19,7 +20,7 @@ abbrev pub frame : List ℕ
 frame = 0x30 ∷ 0x01 ∷ 0x00 ∷ 0x07 ∷ 0x00 ∷ 0x00 ∷ 0x12 ∷ 0x34 ∷ []
 
 abbrev readNumber : List ℕ → ℕ → ℕ
-readNumber input room = numberOf (answer (reading input room))
+readNumber input room = numberOf (answer (reading Detecting input room))
 
 -- done; no start; no block: eight octets 00 are no codeblock; no end; length; room
 pub readings :

@@ -23,11 +23,7 @@ pub record Judge (judge : List ℕ → Judged) : Type 0 where
 pub judges : (mode : Mode) → Judge (judged mode)
 judges mode = record { encoding = judged-codeblock mode; tail = tail-bad mode; seven = good-seven mode }
 
--- the one that only detects
-pub detects : Judge (judged Detecting)
-detects = judges Detecting
-
--- which corrects nothing
+-- detecting alone corrects nothing
 pub corrected-none : (n : ℕ) (s : List ℕ) → correctedIn (judged Detecting) n s ≡ 0
 unfolding correctedIn
 corrected-none zero s = refl

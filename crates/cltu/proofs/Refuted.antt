@@ -23,7 +23,7 @@ use Rattle.cltu.proofs.Examples.{frame, readings}
 
 -- a reader that refuses all
 pub refuses-all : (reader : List ℕ → ℕ → Outcome Found) → ((input : List ℕ) (room : ℕ) → numberOf (answer (reader input room)) ≡ 0 → ⊥)
-    → ((input : List ℕ) (room : ℕ) → reader input room ≡ reading input room) → ⊥
+    → ((input : List ℕ) (room : ℕ) → reader input room ≡ reading Detecting input room) → ⊥
 refuses-all reader never agrees = never (cltuOf frame) 14 (ap (λ o. numberOf (answer o)) (agrees (cltuOf frame) 14) ∙ readings .0)
 
 -- readers with another search for the start sequence
@@ -33,7 +33,7 @@ searching search input room =
     (must (ltb (search input) (length input)) (refused 1 (length input)) (readingAfter (judged Detecting) (search input + 2) (drop (search input + 2) input) room))
 
 -- with ours it is the definition
-searching-ours : (input : List ℕ) (room : ℕ) → searching startOf input room ≡ reading input room
+searching-ours : (input : List ℕ) (room : ℕ) → searching startOf input room ≡ reading Detecting input room
 unfolding readingBy
 searching-ours input room = refl
 
@@ -49,9 +49,9 @@ exact = firstBy (λ s. same (take 2 s) startSequence)
 
 pub start-exact :
     (searching exact (0xEA ∷ 0x90 ∷ cltuOf frame) 14 ≡ done (filled frame) (record { place = 20; corrected = 0 }))
-    × (reading (0xEA ∷ 0x90 ∷ cltuOf frame) 14 ≡ refused 2 2)
+    × (reading Detecting (0xEA ∷ 0x90 ∷ cltuOf frame) 14 ≡ refused 2 2)
     × (searching exact (0xEA ∷ drop 1 (cltuOf frame)) 14 ≡ refused 1 26)
-    × (reading (0xEA ∷ drop 1 (cltuOf frame)) 14 ≡ done (filled frame) (record { place = 18; corrected = 0 }))
+    × (reading Detecting (0xEA ∷ drop 1 (cltuOf frame)) 14 ≡ done (filled frame) (record { place = 18; corrected = 0 }))
 unfolding readingBy readingRun correctedIn informationIn goodRun startOf starts recognized differing octetBits bitsOf cltuOf informationFor encoded filled randomized octet later nextBit judged otherwise isEncoding codeblockOf errorControl parity register shiftBits shiftBit
 start-exact = (refl, refl, refl, refl)
 
@@ -61,7 +61,7 @@ twoWrong = firstBy (λ s. both (leb 2 (length s)) (leb (wrongBits startSequence 
 
 pub start-two-wrong :
     (searching twoWrong (0xE8 ∷ 0x90 ∷ cltuOf frame) 14 ≡ refused 2 2)
-    × (reading (0xE8 ∷ 0x90 ∷ cltuOf frame) 14 ≡ done (filled frame) (record { place = 20; corrected = 0 }))
+    × (reading Detecting (0xE8 ∷ 0x90 ∷ cltuOf frame) 14 ≡ done (filled frame) (record { place = 20; corrected = 0 }))
 unfolding readingBy readingRun correctedIn informationIn goodRun startOf starts recognized wrongBits differing octetBits bitsOf cltuOf informationFor encoded filled randomized octet later nextBit judged otherwise isEncoding codeblockOf errorControl parity register shiftBits shiftBit
 start-two-wrong = (refl, refl)
 
@@ -72,7 +72,7 @@ lastFrom found i (x ∷ xs) = lastFrom (pick (starts (x ∷ xs)) i found) (suc i
 
 pub start-last :
     (searching (λ s. lastFrom (length s) 0 s) (cltuOf frame ++ cltuOf frame) 14 ≡ done (filled frame) (record { place = 44; corrected = 0 }))
-    × (reading (cltuOf frame ++ cltuOf frame) 14 ≡ done (filled frame) (record { place = 18; corrected = 0 }))
+    × (reading Detecting (cltuOf frame ++ cltuOf frame) 14 ≡ done (filled frame) (record { place = 18; corrected = 0 }))
 unfolding readingBy readingRun correctedIn informationIn goodRun startOf starts recognized differing octetBits bitsOf cltuOf informationFor encoded filled randomized octet later nextBit judged otherwise isEncoding codeblockOf errorControl parity register shiftBits shiftBit
 start-last = (refl, refl)
 

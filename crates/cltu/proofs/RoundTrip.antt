@@ -9,10 +9,11 @@ use native.Mathlib.Omega.{arith}
 use lib.ListN.{length, take, drop, length-append, length-take, length-drop, take-append-drop}
 use lib.Seq.{take-at, drop-at, drop-append-add}
 use Rattle.base.specs.Choice.{pick}
-use Rattle.base.specs.Outcome.{Outcome.done}
+use Rattle.base.specs.Outcome.{Outcome.done, Outcome.refused}
 use Rattle.base.specs.Limits.{largestInput}
 use Rattle.base.proofs.Lists.{rest}
 use Rattle.codeblock.specs.Codeblock.{codeblockOf, good, isGood}
+use Rattle.codeblock.specs.declared.Mode.{Mode}
 use Rattle.codeblock.specs.declared.Judged.{Judged}
 use Rattle.randomizer.specs.Randomizer.{randomized}
 use Rattle.randomizer.proofs.Randomized.{randomized-twice}
@@ -20,9 +21,9 @@ use Rattle.start_sequence.specs.StartSequence.{startSequence, startOf}
 use Rattle.start_sequence.proofs.Search.{first-start}
 use Rattle.encoded_data.specs.EncodedData.{goodRun, informationIn, correctedIn}
 use Rattle.cltu.specs.Cltu.{codeblocks, filled, encoded, informationFor, cltuOf, tailSequence, readingAfter, readingBy, reading}
-use Rattle.cltu.proofs.Judge.{Judge, detects}
+use Rattle.cltu.proofs.Judge.{Judge, judges}
 use Rattle.cltu.proofs.Places.{length-block, length-information, length-encoded}
-use Rattle.cltu.proofs.Outcomes.{reading-found, after-done}
+use Rattle.cltu.proofs.Outcomes.{reading-found, after-room, after-done}
 
 -- the first of the codeblocks, and the rest
 module _ (n : ℕ) (information t : List ℕ) (h : 7 * suc n ≤ length information) where
@@ -98,6 +99,18 @@ module _ (before frame behind : List ℕ) (room : ℕ) where
       ∙ ap₂ _+_ (length-encoded (codeblocks (length frame)) (informationFor frame) enough) (length-append tailSequence behind)
       ∙ (omega arith)
 
+  -- reading goes on at the codeblocks, and as many are good as the frame takes
+  at-body : (judge : List ℕ → Judged) → startOf before ≡ length before → length input ≤ largestInput
+      → readingBy judge input room ≡ readingAfter judge (length before + 2) body room
+  at-body judge none h =
+      let s : startOf input ≡ length before = ap startOf input-is ∙ first-start before body none in
+      let c : length input ≡ length before + suc (suc (length body)) = ap length input-is ∙ length-append before (startSequence ++ body) in
+      reading-found judge input room (length before) h (omega (arith, length-body)) (sym s)
+      ∙ ap (λ (t : List ℕ). readingAfter judge (length before + 2) t room) (rest input (length before + 2) ∙ after-start)
+
+  run-body : {judge : List ℕ → Judged} → Judge judge → codeblocks (length frame) ≡ goodRun judge (length body / 8) body
+  run-body laws = sym (run-encoded laws (codeblocks (length frame)) (length body / 8) (informationFor frame) behind enough (omega (arith, length-body)))
+
   pub round-trip-by : {judge : List ℕ → Judged} → Judge judge
       → startOf before ≡ length before → 1 ≤ length frame → length (before ++ (cltuOf frame ++ behind)) ≤ largestInput
       → 7 * codeblocks (length frame) ≤ room
@@ -105,21 +118,24 @@ module _ (before frame behind : List ℕ) (room : ℕ) where
       ≡ done (filled frame) (record { place = length before + 2 + 8 * codeblocks (length frame); corrected = 0 })
   unfolding informationFor
   round-trip-by {judge} laws none l h r =
-      let s : startOf input ≡ length before = ap startOf input-is ∙ first-start before body none in
-      let c : length input ≡ length before + suc (suc (length body)) = ap length input-is ∙ length-append before (startSequence ++ body) in
-      reading-found judge input room (length before) h (omega (arith, length-body)) (sym s)
-      ∙ ap (λ (t : List ℕ). readingAfter judge (length before + 2) t room) (rest input (length before + 2) ∙ after-start)
-      ∙ after-done judge (length before + 2) body room (codeblocks (length frame))
-      (sym (run-encoded laws (codeblocks (length frame)) (length body / 8) (informationFor frame) behind enough (omega (arith, length-body))))
-      (omega (arith, length-body)) (omega arith) r
+      at-body judge none h
+      ∙ after-done judge (length before + 2) body room (codeblocks (length frame)) (run-body laws) (omega (arith, length-body)) (omega arith) r
       ∙ ap₂ (λ (o : List ℕ) (k : ℕ). done o (record { place = length before + 2 + 8 * codeblocks (length frame); corrected = k }))
       (ap (randomized 0) (information-encoded laws (codeblocks (length frame)) (informationFor frame) (tailSequence ++ behind) (length-information frame))
       ∙ randomized-twice 0 (filled frame))
       (corrected-encoded laws (codeblocks (length frame)) (informationFor frame) (tailSequence ++ behind) (length-information frame))
 
-  -- and so by the judge that only detects
-  pub round-trip : startOf before ≡ length before → 1 ≤ length frame → length (before ++ (cltuOf frame ++ behind)) ≤ largestInput
+  -- in too short a room it is refused with 11
+  pub no-room-by : {judge : List ℕ → Judged} → Judge judge
+      → startOf before ≡ length before → 1 ≤ length frame → length (before ++ (cltuOf frame ++ behind)) ≤ largestInput
+      → room < 7 * codeblocks (length frame) → readingBy judge (before ++ (cltuOf frame ++ behind)) room ≡ refused 11 0
+  no-room-by {judge} laws none l h r =
+      at-body judge none h
+      ∙ after-room judge (length before + 2) body room (codeblocks (length frame)) (run-body laws) (omega (arith, length-body)) (omega arith) r
+
+  -- and so in either mode
+  pub round-trip : (mode : Mode) → startOf before ≡ length before → 1 ≤ length frame → length (before ++ (cltuOf frame ++ behind)) ≤ largestInput
       → 7 * codeblocks (length frame) ≤ room
-      → reading (before ++ (cltuOf frame ++ behind)) room
+      → reading mode (before ++ (cltuOf frame ++ behind)) room
       ≡ done (filled frame) (record { place = length before + 2 + 8 * codeblocks (length frame); corrected = 0 })
-  round-trip = round-trip-by detects
+  round-trip mode = round-trip-by (judges mode)

@@ -1,7 +1,7 @@
 -- Every input gets one of the outcomes 0, 1, 2, 3, 10 and 11, each by its own condition (`cases`). And what is handed out was
 -- there (`sound`): where reading is done with octets D from a start at offset a up to place p, the input between is exactly the
 -- codeblocks of D randomized, and the block at p is bad. By any judge: `cases-by`, and `sound-by`, in which the codeblocks between are
--- good and D is their information.
+-- good and D is their information; in either mode each is an encoding but for the bits corrected (`sound-in`).
 use mathlib.Core.Path.{_≡_, refl, sym, ap, ap₂, _∙_, subst}
 use mathlib.Core.Bool.{Bool, true, false}
 use mathlib.Core.List.{List, _++_}
@@ -14,18 +14,21 @@ use lib.ListN.{length, take, drop, length-take, length-drop}
 use lib.Seq.{take-add, take-take, take-at, drop-at, drop-drop}
 use Rattle.base.specs.Outcome.{Outcome, Outcome.done, Outcome.refused}
 use Rattle.base.specs.Limits.{largestInput}
-use Rattle.base.proofs.Lists.{rest}
+use Rattle.base.specs.Octets.{Octets}
+use Rattle.base.proofs.Lists.{below-take, below-drop, rest}
 use Rattle.codeblock.specs.Codeblock.{codeblockOf, judged, isGood}
+use Rattle.codeblock.specs.declared.Mode.{Mode}
 use Rattle.codeblock.specs.declared.Mode.the-variants.{Detecting}
 use Rattle.codeblock.specs.declared.Judged.{Judged}
 use Rattle.codeblock.proofs.Codeblock.{good-is, good-judged}
+use Rattle.codeblock.proofs.Received.{NearEncoding, good-near}
 use Rattle.randomizer.specs.Randomizer.{randomized}
 use Rattle.randomizer.proofs.Randomized.{randomized-twice, length-randomized}
 use Rattle.start_sequence.specs.StartSequence.{starts, startOf}
 use Rattle.start_sequence.proofs.Search.{found-starts}
 use Rattle.encoded_data.specs.EncodedData.{goodRun, informationIn, correctedIn}
 use Rattle.cltu.specs.Cltu.{encoded, Found, readingAfter, readingBy, reading}
-use Rattle.cltu.proofs.Judge.{Judge, detects, corrected-none}
+use Rattle.cltu.proofs.Judge.{Judge, judges, corrected-none}
 use Rattle.encoded_data.proofs.Scan.{length-information-in, block-next, run-good, run-ends}
 use Rattle.cltu.proofs.Outcomes.{reading-long, reading-none, reading-found, after-end, after-none, after-room, after-done}
 
@@ -175,6 +178,15 @@ module _ {judge : List ℕ → Judged} (laws : Judge judge) (input : List ℕ) w
           let q : told ≡ f = cc in
           subst (λ (x : Found). SoundBy judge input octets x) q (subst (λ (o : List ℕ). SoundBy judge input o told) p (sound-read b c d))
 
+-- in either mode also: each codeblock is an encoding but for the bits corrected, which is one at the most, and its information is the encoding's
+pub sound-in : (mode : Mode) (input : List ℕ) → Octets input → (room : ℕ) (octets : List ℕ) (f : Found) → reading mode input room ≡ done octets f
+    → (s : SoundBy (judged mode) input octets f)
+    × ((b : ℕ) → b < s .blocks → NearEncoding (take 8 (drop (8 * b) (drop (s .start + 2) input))) (judged mode (take 8 (drop (8 * b) (drop (s .start + 2) input)))))
+sound-in mode input h room octets f e =
+    let s = sound-by (judges mode) input room octets f e in
+    let rest = drop (s .start + 2) input in
+    (s, λ b l. good-near mode (take 8 (drop (8 * b) rest)) (below-take 256 8 (drop (8 * b) rest) (below-drop 256 (8 * b) rest (below-drop 256 (s .start + 2) input h))) (s .good b l))
+
 -- codeblocks that are judged good by detecting alone are the encodings of their information
 encodings : (n : ℕ) (s : List ℕ) → 8 * n ≤ length s → ((b : ℕ) → b < n → isGood (judged Detecting (take 8 (drop (8 * b) s))) ≡ true)
     → take (8 * n) s ≡ encoded n (informationIn (judged Detecting) n s)
@@ -193,9 +205,9 @@ encodings (suc n) s l h =
     ∙ sym (ap (λ (a : List ℕ). encoded (suc n) (a ++ r)) i ∙ ap₂ (λ (a b : List ℕ). codeblockOf a ++ encoded n b) (take-at (take 7 s) r 7 t) (drop-at (take 7 s) r 7 t))
 
 module _ (input : List ℕ) where
-  pub sound : (room : ℕ) (octets : List ℕ) (f : Found) → reading input room ≡ done octets f → Sound input octets f
+  pub sound : (room : ℕ) (octets : List ℕ) (f : Found) → reading Detecting input room ≡ done octets f → Sound input octets f
   sound room octets f e =
-      let s = sound-by detects input room octets f e in
+      let s = sound-by (judges Detecting) input room octets f e in
       let rest = drop (s .start + 2) input in
       record {
         read = s;

@@ -19,7 +19,7 @@ use Rattle.base.specs.Distance.{differing, wrongBits}
 use Rattle.base.specs.Outcome.{Outcome, Outcome.done, Outcome.refused}
 use Rattle.base.proofs.Computed.{below, is-true}
 use Rattle.codeblock.specs.Codeblock.{judged}
-use Rattle.codeblock.specs.declared.Mode.the-variants.{Detecting}
+use Rattle.codeblock.specs.declared.Mode.{Mode}
 use Rattle.codeblock.specs.declared.Judged.{Judged}
 use Rattle.start_sequence.specs.StartSequence.{startSequence, starts, startOf, Received}
 use Rattle.start_sequence.proofs.Search.{first-near, sequence-received, none-earlier, none-found}
@@ -72,11 +72,11 @@ flipped-received k h = record {
   near = leb-true (wrongBits startSequence (flipped k)) 1 (is-true _ (below (λ (j : ℕ). leb (wrongBits startSequence (flipped j)) 1) 16 tt k h));
 }
 
-pub flipped-start : (before frame behind : List ℕ) (room k : ℕ) → k < 16 → startOf before ≡ length before
-    → reading (before ++ (flipped k ++ (drop 2 (cltuOf frame) ++ behind))) room ≡ reading (before ++ (cltuOf frame ++ behind)) room
+pub flipped-start : (mode : Mode) (before frame behind : List ℕ) (room k : ℕ) → k < 16 → startOf before ≡ length before
+    → reading mode (before ++ (flipped k ++ (drop 2 (cltuOf frame) ++ behind))) room ≡ reading mode (before ++ (cltuOf frame ++ behind)) room
 unfolding cltuOf
-flipped-start before frame behind room k h none =
-    received-start (judged Detecting) before (flipped k) (drop 2 (cltuOf frame) ++ behind) room (flipped-received k h) none
+flipped-start mode before frame behind room k h none =
+    received-start (judged mode) before (flipped k) (drop 2 (cltuOf frame) ++ behind) room (flipped-received k h) none
 
 -- a CLTU whose start sequence was received with at most one wrong bit reads back
 pub round-trip-received : (judge : List ℕ → Judged) → Judge judge → (before octets frame behind : List ℕ) (room : ℕ) → Received octets

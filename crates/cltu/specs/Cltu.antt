@@ -7,7 +7,7 @@ use Rattle.base.specs.Choice.{must}
 use Rattle.base.specs.Limits.{smallestFrame, largestFrame, largestInput}
 use Rattle.base.specs.Outcome.{Outcome, Outcome.done, Outcome.refused}
 use Rattle.codeblock.specs.Codeblock.{codeblockOf, judged}
-use Rattle.codeblock.specs.declared.Mode.the-variants.{Detecting}
+use Rattle.codeblock.specs.declared.Mode.{Mode}
 use Rattle.codeblock.specs.declared.Judged.{Judged}
 use Rattle.encoded_data.specs.EncodedData.{goodRun, informationIn, correctedIn}
 use Rattle.randomizer.specs.Randomizer.{randomized}
@@ -81,6 +81,6 @@ module _ (judge : List ℕ → Judged) where
       (must (ltb (startOf input) (length input)) (refused 1 (length input))
       (readingAfter (startOf input + 2) (drop (startOf input + 2) input) room))
 
--- document 01: reading by the judge that detects errors and corrects none
-abbrev pub reading : List ℕ → ℕ → Outcome Found
-reading = readingBy (judged Detecting)
+-- document 02, order 3: reading in the chosen mode; "Refusals 2 and 3 and everything that calls the reader follow the chosen mode"
+abbrev pub reading : Mode → List ℕ → ℕ → Outcome Found
+reading mode = readingBy (judged mode)

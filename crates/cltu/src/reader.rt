@@ -1,12 +1,12 @@
 // A CLTU read out of lent input (clause 8.7, document 01).
 use base::LARGEST_INPUT;
+use codeblock::Mode;
 ghost use mathlib.Core.Path.{_≡_};
 ghost use Prim.Native.Nat.{_+_, _≤_};
 ghost use lib.ListN.{length};
 ghost use Rattle.base.specs.Limits.{largestInput};
 ghost use Rattle.base.specs.Outcome.{answer, after};
 ghost use Rattle.codeblock.specs.Codeblock.{judged};
-ghost use Rattle.codeblock.specs.declared.Mode.the-variants.{Detecting};
 ghost use Rattle.cltu.specs.Cltu.{readingAfter, reading};
 ghost use Rattle.cltu.specs.Answers.{readAnswer};
 
@@ -28,14 +28,14 @@ pub enum CltuReading {
 // The information of as many codeblocks as the largest input has.
 const LARGEST_INFORMATION: usize = LARGEST_INPUT / 8 * 7;
 
-// Reads the codeblocks after a start sequence; the rest of the input stands at an offset.
-fn read_after(input: &[u8], offset: usize, out: &mut [u8]) -> CltuReading
+// Reads the codeblocks after a start sequence, judged in the mode; the rest of the input stands at an offset.
+fn read_after(input: &[u8], mode: Mode, offset: usize, out: &mut [u8]) -> CltuReading
     requires { ⌜ offset + length (now input) ≤ largestInput ⌝ }
-    ensures answer { λ r. ⌜ readAnswer r ≡ answer (readingAfter (judged Detecting) offset (now (input .entry)) (length (now (out .entry)))) ⌝ }
-    ensures memory { λ r. ⌜ now (out .exit) ≡ after (readingAfter (judged Detecting) offset (now (input .entry)) (length (now (out .entry)))) (now (out .entry)) ⌝ }
+    ensures answer { λ r. ⌜ readAnswer r ≡ answer (readingAfter (judged mode) offset (now (input .entry)) (length (now (out .entry)))) ⌝ }
+    ensures memory { λ r. ⌜ now (out .exit) ≡ after (readingAfter (judged mode) offset (now (input .entry)) (length (now (out .entry)))) (now (out .entry)) ⌝ }
 {
     let mut information = [0u8; LARGEST_INFORMATION];
-    let run = encoded_data::take_good(input, &mut information);
+    let run = encoded_data::take_good(input, mode, &mut information);
     let n = run.blocks;
     if input.len() / 8 <= n {
         return CltuReading::NoEnd(offset + 8 * n);
@@ -55,10 +55,10 @@ fn read_after(input: &[u8], offset: usize, out: &mut [u8]) -> CltuReading
     }
 }
 
-// Reads the first CLTU of the input. A refusal changes nothing.
-pub fn read(input: &[u8], out: &mut [u8]) -> CltuReading
-    ensures answer { λ r. ⌜ readAnswer r ≡ answer (reading (now (input .entry)) (length (now (out .entry)))) ⌝ }
-    ensures memory { λ r. ⌜ now (out .exit) ≡ after (reading (now (input .entry)) (length (now (out .entry)))) (now (out .entry)) ⌝ }
+// Reads the first CLTU of the input in the mode. A refusal changes nothing.
+pub fn read(input: &[u8], mode: Mode, out: &mut [u8]) -> CltuReading
+    ensures answer { λ r. ⌜ readAnswer r ≡ answer (reading mode (now (input .entry)) (length (now (out .entry)))) ⌝ }
+    ensures memory { λ r. ⌜ now (out .exit) ≡ after (reading mode (now (input .entry)) (length (now (out .entry)))) (now (out .entry)) ⌝ }
 {
     let len = input.len();
     if LARGEST_INPUT < len {
@@ -69,5 +69,5 @@ pub fn read(input: &[u8], out: &mut [u8]) -> CltuReading
         return CltuReading::NoStart(len);
     }
     let offset = first + 2;
-    read_after(&input[offset..], offset, out)
+    read_after(&input[offset..], mode, offset, out)
 }

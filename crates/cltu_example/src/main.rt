@@ -1,6 +1,7 @@
 // Writes the CLTU of a small frame, reads it back, damages it and reads it again, and prints what each reading found.
 use cltu::reader::CltuReading;
 use cltu::writer::CltuWritten;
+use codeblock::Mode;
 
 fn main() {
     // Unlock, to spacecraft 1 on virtual channel 0, with its FECF.
@@ -10,26 +11,54 @@ fn main() {
     write(b"written             ", &frame, &mut sent);
     octets(b"CLTU                ", &sent);
     let mut back = [0u8; 14];
-    read(b"read back           ", &sent, &mut back);
+    read(b"read back           ", &sent, Mode::Detecting, &mut back);
     octets(b"octets              ", &back);
     damage(sent);
+    others(sent);
 }
 
-// The same CLTU with one bit of its first codeblock flipped, cut before its tail sequence, and with one and then two wrong bits in its
-// start sequence; then whole, but read into too short an output.
+// The same CLTU with one bit of its first codeblock flipped, read in both modes, and with two.
 fn damage(sent: [u8; 26]) {
     let mut back = [0u8; 14];
     let mut flipped = sent;
     flipped[2] ^= 0x01;
-    read(b"one bit flipped     ", &flipped, &mut back);
-    read(b"cut before the tail ", &sent[0..18], &mut back);
+    read(
+        b"one bit flipped     ",
+        &flipped,
+        Mode::Detecting,
+        &mut back,
+    );
+    read(
+        b"the same, corrected ",
+        &flipped,
+        Mode::Correcting,
+        &mut back,
+    );
+    flipped[3] ^= 0x01;
+    read(
+        b"two bits, correcting",
+        &flipped,
+        Mode::Correcting,
+        &mut back,
+    );
+}
+
+// Cut before its tail sequence, and with one and then two wrong bits in its start sequence; then whole, but read into too short an output.
+fn others(sent: [u8; 26]) {
+    let mut back = [0u8; 14];
+    read(
+        b"cut before the tail ",
+        &sent[0..18],
+        Mode::Detecting,
+        &mut back,
+    );
     let mut wrong = sent;
     wrong[0] ^= 0x01;
-    read(b"start, 1 wrong bit  ", &wrong, &mut back);
+    read(b"start, 1 wrong bit  ", &wrong, Mode::Detecting, &mut back);
     wrong[1] ^= 0x01;
-    read(b"start, 2 wrong bits ", &wrong, &mut back);
+    read(b"start, 2 wrong bits ", &wrong, Mode::Detecting, &mut back);
     let mut short = [0u8; 13];
-    read(b"room for 13 octets  ", &sent, &mut short);
+    read(b"room for 13 octets  ", &sent, Mode::Detecting, &mut short);
 }
 
 // Writes the CLTU of the frame and prints the answer.
@@ -45,14 +74,20 @@ fn write(label: &[u8], frame: &[u8], output: &mut [u8]) {
 }
 
 // Reads the first CLTU of the input and prints the answer.
-fn read(label: &[u8], input: &[u8], output: &mut [u8]) {
+fn read(label: &[u8], input: &[u8], mode: Mode, output: &mut [u8]) {
     io::write_all(1, label);
-    let found = cltu::reader::read(input, output);
+    let found = cltu::reader::read(input, mode, output);
     match found {
-        CltuReading::Done { count, place, .. } => {
+        CltuReading::Done {
+            count,
+            place,
+            corrected,
+        } => {
             done(count);
             io::write_all(1, b", bad codeblock (the tail) at ");
             io::print_decimal(1, place as u64);
+            io::write_all(1, b", corrected ");
+            io::print_decimal(1, corrected as u64);
         }
         CltuReading::NoStart(place) => refusal_at(1, b"no start", place),
         CltuReading::NoBlock(place) => refusal_at(2, b"no block", place),

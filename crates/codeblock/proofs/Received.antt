@@ -57,13 +57,14 @@ module _ (sent received : List ℕ) (g : isEncoding sent ≡ true) (l : length r
       go (suc (suc zero)) w = inl (two-wrong-bad sent g h received l hr mode w)
       go (suc (suc (suc n))) w = absurd (omega arith)
 
--- an encoding of which so many bits were corrected
+-- an encoding of which so many bits were corrected, one at the most
 abbrev pub NearEncoding : List ℕ → Judged → Type 0
 NearEncoding block j =
-    (sent : List ℕ) × (isEncoding sent ≡ true) × Octets sent × (wrongBits sent block ≡ j .corrected) × (j ≡ good (take 7 sent) (j .corrected))
+    (sent : List ℕ) × (isEncoding sent ≡ true) × Octets sent × (wrongBits sent block ≡ j .corrected) × (j .corrected ≤ 1)
+    × (j ≡ good (take 7 sent) (j .corrected))
 
 pub good-near : (mode : Mode) (block : List ℕ) → Octets block → isGood (judged mode block) ≡ true → NearEncoding block (judged mode block)
 good-near mode block h =
     of-judged block (λ (j : Judged). isGood j ≡ true → NearEncoding block j) (λ e. absurd (apart e))
-    (λ i k e t. (flipped i block, e, octets-flipped i block h, flipped-wrong i block (omega arith) (sym (length-flipped i block) ∙ encoding-length (flipped i block) e), refl))
-    (λ e t. (block, e, h, self-wrong block, refl)) mode
+    (λ i k e t. (flipped i block, e, octets-flipped i block h, flipped-wrong i block (omega arith) (sym (length-flipped i block) ∙ encoding-length (flipped i block) e), omega arith, refl))
+    (λ e t. (block, e, h, self-wrong block, omega arith, refl)) mode

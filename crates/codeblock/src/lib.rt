@@ -8,8 +8,7 @@ ghost use Prim.Native.Nat.{_<_};
 ghost use lib.ListN.{length, take};
 ghost use Rattle.base.specs.Octets.{Octets};
 ghost use Rattle.base.specs.Register.{shiftBit, shiftBits};
-ghost use Rattle.codeblock.specs.Codeblock.{generator, errorControl, syndromeOf, flipped, mended, judged, isGood};
-ghost use Rattle.codeblock.specs.declared.Mode.the-variants.{Detecting};
+ghost use Rattle.codeblock.specs.Codeblock.{generator, errorControl, syndromeOf, flipped, mended, judged};
 
 // The generator x^7 + x^6 + x^2 + 1, less its highest term.
 const GENERATOR: u8 = 0x45;
@@ -144,12 +143,4 @@ pub fn judge(block: &[u8], mode: Mode) -> Judged
         Mode::Detecting => BAD,
         Mode::Correcting => mend(block, syndrome),
     }
-}
-
-// Whether the octets are a good codeblock, in the detecting mode.
-pub fn is_good(block: &[u8]) -> bool
-    ensures { λ r. ⌜ r ≡ isGood (judged Detecting (now (block .entry))) ⌝ }
-{
-    let j = judge(block, Mode::Detecting);
-    j.good
 }

@@ -1,15 +1,18 @@
--- What the session sees of a damaged CLTU (`arrival`): where its reading hands octets out and these arrive at the receiver in the frame's place, that is
+-- What the session sees of a damaged CLTU (`arrival`; in either mode `arrival-in-mode`): where its reading hands octets out and these arrive at the receiver in the frame's place, that is
 -- the frame with its fill, or noise and the frame's loss; both are events of session/specs/Channels, so all that holds beyond demand 3 holds. Where
 -- the reading is refused nothing arrives: the frame is lost.
 use mathlib.Core.Path.{_≡_, refl, ap, _∙_}
 use mathlib.Core.Logic.{_⊎_, inl, inr, ⊎-elim}
 use mathlib.Core.Bool.{true}
-use mathlib.Core.List.{List, [], _∷_}
+use mathlib.Core.List.{List, [], _∷_, _++_}
 use Prim.Native.Nat.{ℕ, zero, suc, _-_, _*_, _≤_}
 use native.Mathlib.Omega.{arith}
 use borrow.Author.Tests.{le-leb}
 use lib.ListN.{length, replicate, length-replicate}
 use Rattle.base.specs.Outcome.{Outcome.done}
+use Rattle.codeblock.specs.declared.Mode.{Mode}
+use Rattle.codeblock.specs.declared.Mode.the-variants.{Detecting}
+use Rattle.start_sequence.specs.StartSequence.{startOf, Received}
 use Rattle.cltu.specs.Cltu.{codeblocks, fillOctet, filled, cltuOf, Found, reading}
 use Rattle.fop.specs.Units.{Frame, areOctets, written}
 use Rattle.session.specs.Frames.{read}
@@ -17,8 +20,10 @@ use Rattle.session.specs.Ends.{Settings, Within, Ends}
 use Rattle.session.specs.Session.{Linked, frameLost, frameCome}
 use Rattle.session.specs.Channels.{demanded, frameFilled, noise, isFill, largestFill, isRefused, linkStep, linkRun}
 use Rattle.session.proofs.Harmless.{damaged-frame}
-use Rattle.damage.specs.Damage.{Damaged, Sendable, TooShort}
+use Rattle.damage.specs.Damage.{Damaged, WholeFrame, Sendable, TooShort}
+use Rattle.damage.specs.Few.{FewWrong}
 use Rattle.damage.proofs.Refused.{damage-refused-or-sent}
+use Rattle.damage.proofs.Mended.{two-refused-or-sent}
 use Rattle.damage.proofs.Written.{written-whole}
 
 -- the fill of the last codeblock
@@ -46,10 +51,26 @@ module _ (set : Settings) (vw : Within set) (kept : ℕ) (m : Ends) (σ : Linked
       let c : ℕ = 7 * codeblocks (length frame) - length frame in
       (replicate c fillOctet, rw (under-way, is-fill c (omega arith)))
 
-  pub arrival : (received octets : List ℕ) (room : ℕ) (found : Found) → Damaged (cltuOf frame) received → reading received room ≡ done octets found
-      → ((fill : List ℕ) × (frameCome set m (octets ∷ fs) σ ≡ linkStep set kept m (frameFilled fill) σ))
+  -- as the frame with its fill, or as noise and the frame's loss
+  abbrev pub Arrives : List ℕ → Type 0
+  Arrives octets =
+      ((fill : List ℕ) × (frameCome set m (octets ∷ fs) σ ≡ linkStep set kept m (frameFilled fill) σ))
       ⊎ (frameCome set m (octets ∷ fs) σ ≡ linkRun set kept m (noise octets ∷ demanded frameLost ∷ []) σ)
-  arrival received octets room found d e =
+
+  handed : (octets : List ℕ) → (octets ≡ filled frame) ⊎ TooShort octets → Arrives octets
+  handed octets =
       ⊎-elim (λ z. inl (sent .0, ap (λ (o : List ℕ). frameCome set m (o ∷ fs) σ) z ∙ sent .1))
       (λ z. inr (damaged-frame set kept m σ octets frame fs (short-refused set octets z) under-way))
-      (damage-refused-or-sent (written-whole (set .own) (vw .spacecraft) (vw .channel) x h .0) received d room octets found e)
+
+  whole : WholeFrame frame
+  whole = written-whole (set .own) (vw .spacecraft) (vw .channel) x h .0
+
+  pub arrival : (received octets : List ℕ) (room : ℕ) (found : Found) → Damaged (cltuOf frame) received → reading Detecting received room ≡ done octets found
+      → Arrives octets
+  arrival received octets room found d e = handed octets (damage-refused-or-sent whole received d room octets found e)
+
+  -- in either mode, with at most two wrong bits in each codeblock and in the tail, behind octets that hold no near place
+  pub arrival-in-mode : (before start body octets : List ℕ) → Received start → startOf before ≡ length before → FewWrong 2 frame body
+      → (mode : Mode) (room : ℕ) (found : Found) → reading mode (before ++ (start ++ body)) room ≡ done octets found → Arrives octets
+  arrival-in-mode before start body octets r none few mode room found e =
+      handed octets (two-refused-or-sent frame body (whole .octets) (whole .high) before start r none whole few mode room octets found e)

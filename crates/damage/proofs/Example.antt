@@ -103,8 +103,8 @@ met = (
 
 -- the first is refused with 2, the second hands out seven octets, too few for the frame, and the others the frame with its fill
 pub readings :
-    (numberOf (answer (reading (changed 5 0b0010_0101) 14)) ≡ 2)
-    × (countOf (answer (reading (changed 17 0b1100_0001) 14)) ≡ 7)
-    × (reading (changed 20 0b0111_0000) 14 ≡ reading sent 14) × (reading (changed 0 0b0000_0001) 14 ≡ reading sent 14)
+    (numberOf (answer (reading Detecting (changed 5 0b0010_0101) 14)) ≡ 2)
+    × (countOf (answer (reading Detecting (changed 17 0b1100_0001) 14)) ≡ 7)
+    × (reading Detecting (changed 20 0b0111_0000) 14 ≡ reading Detecting sent 14) × (reading Detecting (changed 0 0b0000_0001) 14 ≡ reading Detecting sent 14)
 unfolding readingBy readingRun correctedIn informationIn goodRun startOf starts recognized differing octetBits bitsOf cltuOf informationFor encoded filled randomized octet later nextBit judged otherwise isEncoding codeblockOf errorControl parity register shiftBits shiftBit
 readings = (refl, refl, refl, refl)

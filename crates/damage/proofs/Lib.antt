@@ -1,6 +1,9 @@
+pub mod Blocks
 pub mod Detected
 pub mod Reading
 pub mod Refused
+pub mod Mended
 pub mod Written
+pub mod MendedExample
 pub mod Example
 pub mod Arrival

@@ -1,7 +1,7 @@
 -- Clause 8.7: what reading a damaged CLTU comes to, detecting mode. A damaged codeblock is bad, and the tail is bad whatever its up to
 -- three wrong bits are, so reading ends at the first damaged codeblock or at the tail (`damaged-reading`). Damage in the tail alone changes
 -- nothing (`tail-damaged`), and damage in the first codeblock is refused with 2 (`first-damaged`).
-use mathlib.Core.Path.{_≡_, refl, sym, ap, ap₂, _∙_, subst}
+use mathlib.Core.Path.{_≡_, refl, sym, ap, _∙_, subst}
 use mathlib.Core.Bool.{Bool, true, false}
 use mathlib.Core.List.{List, [], _∷_, _++_}
 use Prim.Native.Nat.{ℕ, zero, suc, _+_, _*_, _/_, _<_, _≤_}
@@ -11,7 +11,7 @@ use borrow.Author.Tests.{lt-ltb, ltb-true, ltb-false}
 use lib.Bits.{bitXor}
 use lib.Dec.{ltb}
 use lib.ListN.{length, take, drop, length-take, length-drop, take-append-drop}
-use lib.Seq.{take-add, drop-at, drop-drop}
+use lib.Seq.{drop-at}
 use Rattle.base.specs.Limits.{largestFrame}
 use Rattle.base.specs.Octets.{Octets}
 use Rattle.base.specs.Outcome.{Outcome.refused}
@@ -36,11 +36,8 @@ use Rattle.cltu.proofs.Places.{length-information, length-encoded, length-seven
 use Rattle.cltu.proofs.RoundTrip.{first-block, other-blocks}
 use Rattle.cltu.proofs.Outcomes.{reading-found}
 use Rattle.damage.specs.Damage.{eightAt, Damaged, readingFront, ReadToDamage}
+use Rattle.damage.proofs.Blocks.{later, information-sent}
 use Rattle.damage.proofs.Detected.{codeblock-detected, tail-detected}
-
--- octets from place n on, k octets further on
-later : (n k j : ℕ) (s : List ℕ) → k + n ≡ j → take k (drop n (drop k s)) ≡ take k (drop j s)
-later n k j s e = ap (take k) (drop-drop n k s ∙ ap (λ (i : ℕ). drop i s) e)
 
 -- codeblock b of those sent
 sent-at : (n b : ℕ) (information t : List ℕ) → 7 * n ≤ length information → b < n
@@ -53,23 +50,7 @@ sent-at (suc n) (suc b) information t h l =
     ∙ sent-at n b (drop 7 information) t (simp length-drop (omega (arith, mul-suc 7 n))) (omega arith)
     ∙ ap codeblockOf (later (7 * b) 7 (7 * suc b) information (omega (arith, mul-suc 7 b)))
 
--- m codeblocks that are as sent hold the front of the information
-information-front : (m : ℕ) (information s : List ℕ) → 7 * m ≤ length information
-    → ((b : ℕ) → b < m → take 8 (drop (8 * b) s) ≡ codeblockOf (take 7 (drop (7 * b) information))) → informationIn (judged Detecting) m s ≡ take (7 * m) information
-unfolding informationIn
-information-front zero information s l h = refl
-information-front (suc m) information s l h =
-    let e : 7 + 7 * m ≡ 7 * suc m = omega (arith, mul-suc 7 m) in
-    ap₂ (λ (j : Judged) (x : List ℕ). j .information ++ x)
-    (ap (judged Detecting) (h 0 (omega arith)) ∙ judged-codeblock Detecting (take 7 information) (simp length-take (omega arith)))
-    (information-front m (drop 7 information) (drop 8 s) (simp length-drop (omega arith)) (λ b k.
-    later (8 * b) 8 (8 * suc b) s (omega (arith, mul-suc 8 b))
-    ∙ h (suc b) (omega arith)
-    ∙ ap codeblockOf (sym (later (7 * b) 7 (7 * suc b) information (omega (arith, mul-suc 7 b))))))
-    ∙ sym (take-add 7 (7 * m) information)
-    ∙ ap (λ (j : ℕ). take j information) e
-
-randomized-take : (k n : ℕ) (xs : List ℕ) → randomized k (take n xs) ≡ take n (randomized k xs)
+pub randomized-take : (k n : ℕ) (xs : List ℕ) → randomized k (take n xs) ≡ take n (randomized k xs)
 unfolding randomized
 randomized-take k zero xs = refl
 randomized-take k (suc n) [] = refl
@@ -110,17 +91,17 @@ module _ (frame : List ℕ) (h : Octets frame) (high : length frame ≤ largestF
   unfolding informationFor
   octets-information = octets-randomized 0 (filled frame) (octets-filled frame h)
 
-  octets-seven : (b : ℕ) → Octets (information b)
+  pub octets-seven : (b : ℕ) → Octets (information b)
   octets-seven b = below-take 256 7 (drop (7 * b) (informationFor frame)) (below-drop 256 (7 * b) (informationFor frame) octets-information)
 
   length-body : length (encoded n (informationFor frame)) ≡ 8 * n
   length-body = length-encoded n (informationFor frame) (omega (arith, length-information frame))
 
-  codeblock-sent : (b : ℕ) → b < n → eightAt b (cltuOf frame) ≡ codeblockOf (information b)
+  pub codeblock-sent : (b : ℕ) → b < n → eightAt b (cltuOf frame) ≡ codeblockOf (information b)
   unfolding cltuOf
   codeblock-sent b l = sent-at n b (informationFor frame) tailSequence (omega (arith, length-information frame)) l
 
-  tail-sent : eightAt n (cltuOf frame) ≡ tailSequence
+  pub tail-sent : eightAt n (cltuOf frame) ≡ tailSequence
   unfolding cltuOf
   tail-sent = ap (take 8) (drop-at (encoded n (informationFor frame)) tailSequence (8 * n) length-body)
 
@@ -179,11 +160,13 @@ module _ (frame : List ℕ) (h : Octets frame) (high : length frame ≤ largestF
     handed : randomized 0 (informationIn (judged Detecting) run body) ≡ take (7 * run) (filled frame)
     unfolding informationFor
     handed =
-        ap (randomized 0) (information-front run (informationFor frame) body (omega (arith, run-within, length-information frame)) run-intact)
+        ap (randomized 0) (information-sent (judged Detecting) run (informationFor frame) body (omega (arith, run-within, length-information frame)) (λ b l.
+        ap (λ (x : List ℕ). judged Detecting x .information) (run-intact b l)
+        ∙ ap (λ (j : Judged). j .information) (judged-codeblock Detecting (information b) (length-seven frame b (omega (arith, run-within))))))
         ∙ randomized-take 0 (7 * run) (informationFor frame)
         ∙ ap (take (7 * run)) (randomized-twice 0 (filled frame))
 
-    reads : (room : ℕ) → reading received room ≡ readingFront frame run room
+    reads : (room : ℕ) → reading Detecting received room ≡ readingFront frame run room
     unfolding readingRun readingFront startOf
     reads room =
         let l : run < length body / 8 = omega (arith, body-length, run-within) in
@@ -204,7 +187,7 @@ module _ (frame : List ℕ) (h : Octets frame) (high : length frame ≤ largestF
     }
 
     -- where the first codeblock is damaged, reading is refused with 2
-    pub first-damaged : (room : ℕ) → (eightAt 0 received ≡ eightAt 0 (cltuOf frame) → ⊥) → reading received room ≡ refused 2 2
+    pub first-damaged : (room : ℕ) → (eightAt 0 received ≡ eightAt 0 (cltuOf frame) → ⊥) → reading Detecting received room ≡ refused 2 2
     unfolding readingFront
     first-damaged room d =
         let z : damaged-reading .blocks ≡ 0 = omega (arith, ends-before damaged-reading 0 d) in
@@ -221,7 +204,7 @@ module _ (frame : List ℕ) (h : Octets frame) (high : length frame ≤ largestF
 
   -- where no codeblock is damaged, the tail alone, reading is as of what was sent
   pub tail-damaged : (received : List ℕ) → Damaged (cltuOf frame) received
-      → ((b : ℕ) → b < codeblocks (length frame) → eightAt b received ≡ eightAt b (cltuOf frame)) → (room : ℕ) → reading received room ≡ reading (cltuOf frame) room
+      → ((b : ℕ) → b < codeblocks (length frame) → eightAt b received ≡ eightAt b (cltuOf frame)) → (room : ℕ) → reading Detecting received room ≡ reading Detecting (cltuOf frame) room
   tail-damaged received damaged all room =
       let r = damaged-reading received damaged in
       let s = damaged-reading (cltuOf frame) undamaged in

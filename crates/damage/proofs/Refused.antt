@@ -15,6 +15,7 @@ use Rattle.base.specs.Choice.{must}
 use Rattle.base.specs.Limits.{largestFrame}
 use Rattle.base.specs.Outcome.{Outcome.done, Outcome.refused}
 use Rattle.base.proofs.Lists.{octets-at, below-take}
+use Rattle.codeblock.specs.declared.Mode.the-variants.{Detecting}
 use Rattle.cltu.specs.Cltu.{codeblocks, filled, cltuOf, Found, reading}
 use Rattle.cltu.proofs.Places.{length-filled, filled-frame, octets-filled}
 use Rattle.frame.specs.Frame.{totalOf, refusalOf}
@@ -76,7 +77,7 @@ module _ {frame : List ℕ} (w : WholeFrame frame) where
       go false b f e = absurd (let z : _≡_ {A = ℕ} 0 1 = cc in omega arith)
 
   -- whatever is handed out of a damaged CLTU
-  module _ (received : List ℕ) (damaged : Damaged (cltuOf frame) received) (room : ℕ) (octets : List ℕ) (found : Found) (e : reading received room ≡ done octets found) where
+  module _ (received : List ℕ) (damaged : Damaged (cltuOf frame) received) (room : ℕ) (octets : List ℕ) (found : Found) (e : reading Detecting received room ≡ done octets found) where
     abbrev r : ReadToDamage frame received
     r = damaged-reading frame (w .octets) (w .high) received damaged
 

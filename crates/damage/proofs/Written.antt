@@ -1,5 +1,5 @@
 -- The frames of ours: the length field of a written frame says its length, and with its fill it is read as without (`written-whole`). So
--- whatever reading a damaged CLTU of one hands out is read as the frame sent, or refused (`written-refused-or-read`).
+-- whatever reading a damaged CLTU of one hands out is read as the frame sent, or refused (`written-refused-or-read`; in either mode `written-in-mode`).
 use mathlib.Core.Path.{_≡_, sym, ap, _∙_, subst}
 use mathlib.Core.Logic.{_⊎_, inl, inr, ⊎-elim}
 use mathlib.Core.List.{List, [], append-nil, _++_}
@@ -10,6 +10,9 @@ use Rattle.base.specs.Fields.{fieldAt}
 use Rattle.base.specs.Limits.{largestSpacecraft, largestChannel}
 use Rattle.base.specs.Octets.{Octets}
 use Rattle.base.specs.Outcome.{Outcome.done}
+use Rattle.codeblock.specs.declared.Mode.{Mode}
+use Rattle.codeblock.specs.declared.Mode.the-variants.{Detecting}
+use Rattle.start_sequence.specs.StartSequence.{startOf, Received}
 use Rattle.cltu.specs.Cltu.{codeblocks, fillOctet, filled, cltuOf, Found, reading}
 use Rattle.cltu.proofs.Places.{octets-fill}
 use Rattle.frame_header.specs.Header.{spacecraftIdentifier, virtualChannelIdentifier}
@@ -22,7 +25,9 @@ use Rattle.frame.proofs.Written.{Fits, octets-frame, total-back, field-back, sp
 use Rattle.frame.proofs.Back.{Legal, legal-fits}
 use Rattle.fop.specs.Units.{Frame, AD, BD, Unlock, SetVR, Refused, Own, written}
 use Rattle.damage.specs.Damage.{Damaged, WholeFrame, Sendable, TooShort, ReadsAs}
+use Rattle.damage.specs.Few.{FewWrong}
 use Rattle.damage.proofs.Refused.{damage-refused-or-sent}
+use Rattle.damage.proofs.Mended.{two-refused-or-sent}
 
 module _ (bypass control number spacecraft channel : ℕ) (field : List ℕ) (fits : Fits bypass control number spacecraft channel field) where
   abbrev frame : List ℕ
@@ -81,9 +86,20 @@ module _ (own : Own) (hs : own .spacecraft ≤ largestSpacecraft) (hv : own .cha
   written-whole (SetVR v) l = of-kind (kind.SetVr v) [] l
   written-whole (Refused r) l = absurd l
 
+  -- what is handed out as sent, or too short for the frame reader
+  handed-read : (x : Frame) → Sendable x → (octets : List ℕ) → (octets ≡ filled (written own x)) ⊎ TooShort octets → ReadsAs (written own x) octets ⊎ TooShort octets
+  handed-read x l octets = ⊎-elim (λ z. inl (subst (ReadsAs (written own x)) (sym z) (written-whole x l .1))) inr
+
   pub written-refused-or-read : (x : Frame) → Sendable x → (received : List ℕ) → Damaged (cltuOf (written own x)) received
-      → (room : ℕ) (octets : List ℕ) (found : Found) → reading received room ≡ done octets found
+      → (room : ℕ) (octets : List ℕ) (found : Found) → reading Detecting received room ≡ done octets found
       → ReadsAs (written own x) octets ⊎ TooShort octets
   written-refused-or-read x l received damaged room octets found e =
-      let w = written-whole x l in
-      ⊎-elim (λ z. inl (subst (ReadsAs (written own x)) (sym z) (w .1))) inr (damage-refused-or-sent (w .0) received damaged room octets found e)
+      handed-read x l octets (damage-refused-or-sent (written-whole x l .0) received damaged room octets found e)
+
+  -- in either mode, with at most two wrong bits in each codeblock and in the tail, behind octets that hold no near place
+  pub written-in-mode : (x : Frame) → Sendable x → (before start body : List ℕ) → Received start → startOf before ≡ length before → FewWrong 2 (written own x) body
+      → (mode : Mode) (room : ℕ) (octets : List ℕ) (found : Found) → reading mode (before ++ (start ++ body)) room ≡ done octets found
+      → ReadsAs (written own x) octets ⊎ TooShort octets
+  written-in-mode x l before start body r none few mode room octets found e =
+      let w = written-whole x l .0 in
+      handed-read x l octets (two-refused-or-sent (written own x) body (w .octets) (w .high) before start r none w few mode room octets found e)

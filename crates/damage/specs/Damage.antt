@@ -12,6 +12,7 @@ use Rattle.base.specs.Outcome.{Outcome, Outcome.done, Outcome.refused}
 use Rattle.frame.specs.Frame.{totalOf}
 use Rattle.frame.specs.Answers.{readingOf, partOf}
 use Rattle.frame.specs.declared.FrameReading.the-variants.{Refused}
+use Rattle.codeblock.specs.declared.Mode.the-variants.{Detecting}
 use Rattle.start_sequence.specs.StartSequence.{Received}
 use Rattle.cltu.specs.Cltu.{Found, codeblocks, filled, cltuOf, reading}
 use Rattle.fop.specs.Units.{Frame, AD, BD, Unlock, SetVR}
@@ -41,7 +42,7 @@ pub record ReadToDamage (frame received : List ℕ) : Type 0 where
   pub within : blocks ≤ codeblocks (length frame)
   pub intact : (b : ℕ) → b < blocks → eightAt b received ≡ eightAt b (cltuOf frame)
   pub damaged : blocks < codeblocks (length frame) → eightAt blocks received ≡ eightAt blocks (cltuOf frame) → ⊥
-  pub read : (room : ℕ) → reading received room ≡ readingFront frame blocks room
+  pub read : (room : ℕ) → reading Detecting received room ≡ readingFront frame blocks room
 
 -- a frame within document 01's limits whose header says its length
 pub record WholeFrame (frame : List ℕ) : Type 0 where

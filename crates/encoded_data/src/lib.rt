@@ -7,7 +7,6 @@ ghost use Prim.Native.Nat.{_*_, _≤_};
 ghost use mathlib.Core.List.{_++_};
 ghost use lib.ListN.{length, drop};
 ghost use Rattle.codeblock.specs.Codeblock.{judged};
-ghost use Rattle.codeblock.specs.declared.Mode.the-variants.{Detecting};
 ghost use Rattle.memory.specs.Placed.{placed};
 ghost use Rattle.randomizer.specs.Randomizer.{randomized, sequenceOf};
 ghost use Rattle.encoded_data.specs.EncodedData.{goodRun, informationIn, correctedIn, wholeIn};
@@ -18,18 +17,18 @@ pub struct Run {
     pub corrected: usize,
 }
 
-// Takes the good ones of so many codeblocks, each judged once; their information to the front of the lent memory.
-fn take(input: &[u8], whole: usize, information: &mut [u8]) -> Run
+// Takes the good ones of so many codeblocks, each judged once in the mode; their information to the front of the lent memory.
+fn take(input: &[u8], mode: Mode, whole: usize, information: &mut [u8]) -> Run
     requires { ⌜ (8 * whole ≤ length (now input)) × (7 * whole ≤ length (now information)) ⌝ }
-    ensures run { λ r. ⌜ (r .blocks ≡ goodRun (judged Detecting) whole (now (input .entry))) × (r .corrected ≡ correctedIn (judged Detecting) (r .blocks) (now (input .entry))) ⌝ }
-    ensures memory { λ r. ⌜ now (information .exit) ≡ informationIn (judged Detecting) (r .blocks) (now (input .entry)) ++ drop (length (informationIn (judged Detecting) (r .blocks) (now (input .entry)))) (now (information .entry)) ⌝ }
+    ensures run { λ r. ⌜ (r .blocks ≡ goodRun (judged mode) whole (now (input .entry))) × (r .corrected ≡ correctedIn (judged mode) (r .blocks) (now (input .entry))) ⌝ }
+    ensures memory { λ r. ⌜ now (information .exit) ≡ informationIn (judged mode) (r .blocks) (now (input .entry)) ++ drop (length (informationIn (judged mode) (r .blocks) (now (input .entry)))) (now (information .entry)) ⌝ }
 {
     let mut corrected: usize = 0;
     let mut n: usize = 0;
     while n < whole {
         let at = 8 * n;
         let end = at + 8;
-        let block = codeblock::judge(&input[at..end], Mode::Detecting);
+        let block = codeblock::judge(&input[at..end], mode);
         if !block.good {
             return Run {
                 blocks: n,
@@ -47,17 +46,17 @@ fn take(input: &[u8], whole: usize, information: &mut [u8]) -> Run
     }
 }
 
-// Takes the good codeblocks at the front of the input; their information to the front of the lent memory. Takes none where the memory
+// Takes the good codeblocks at the front of the input, judged in the mode; their information to the front of the lent memory. Takes none where the memory
 // has no room for all whole codeblocks.
-pub fn take_good(input: &[u8], information: &mut [u8]) -> Run
-    ensures run { λ r. ⌜ (r .blocks ≡ goodRun (judged Detecting) (wholeIn (length (now (input .entry))) (length (now (information .entry)))) (now (input .entry))) × (r .corrected ≡ correctedIn (judged Detecting) (r .blocks) (now (input .entry))) ⌝ }
-    ensures memory { λ r. ⌜ now (information .exit) ≡ informationIn (judged Detecting) (r .blocks) (now (input .entry)) ++ drop (length (informationIn (judged Detecting) (r .blocks) (now (input .entry)))) (now (information .entry)) ⌝ }
+pub fn take_good(input: &[u8], mode: Mode, information: &mut [u8]) -> Run
+    ensures run { λ r. ⌜ (r .blocks ≡ goodRun (judged mode) (wholeIn (length (now (input .entry))) (length (now (information .entry)))) (now (input .entry))) × (r .corrected ≡ correctedIn (judged mode) (r .blocks) (now (input .entry))) ⌝ }
+    ensures memory { λ r. ⌜ now (information .exit) ≡ informationIn (judged mode) (r .blocks) (now (input .entry)) ++ drop (length (informationIn (judged mode) (r .blocks) (now (input .entry)))) (now (information .entry)) ⌝ }
 {
     let whole = input.len() / 8;
     if information.len() < 7 * whole {
-        return take(input, 0, information);
+        return take(input, mode, 0, information);
     }
-    take(input, whole, information)
+    take(input, mode, whole, information)
 }
 
 // The information exclusive or the sequence, at the front of the output.

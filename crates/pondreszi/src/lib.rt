@@ -6,18 +6,19 @@ pub mod receivers;
 pub mod senders;
 pub mod words;
 
+use base::LARGEST_INPUT;
+use pondreszi_numbers::coding::LARGEST_MODE;
+use pondreszi_numbers::coding::mode_of;
+use pondreszi_numbers::coding::told_judged;
 use pondreszi_numbers::coding::told_reading;
 use pondreszi_numbers::coding::told_written;
-use pondreszi_numbers::flag;
 ghost use mathlib.Core.Path.{_≡_};
 ghost use lib.ListN.{length};
 ghost use Rattle.base.specs.Outcome.{answer, after, numberOf, countOf};
-ghost use Rattle.base.specs.Flags.{bitOf};
-ghost use Rattle.codeblock.specs.Codeblock.{errorControl, judged, isGood};
-ghost use Rattle.codeblock.specs.declared.Mode.the-variants.{Detecting};
+ghost use Rattle.codeblock.specs.Codeblock.{errorControl};
 ghost use Rattle.randomizer.specs.Randomizer.{octet};
-ghost use Rattle.cltu.specs.Cltu.{writing, reading};
-ghost use Rattle.pondreszi_numbers.specs.Numbers.{placeOf, correctedOf};
+ghost use Rattle.cltu.specs.Cltu.{writing};
+ghost use Rattle.pondreszi_numbers.specs.Numbers.{cltuReading, codeblockJudging, bitsCorrected, placeOf, correctedOf};
 
 #[no_mangle]
 pub extern "C" fn pondreszi_codeblock_error_control(information: &[u8]) -> u8
@@ -27,10 +28,26 @@ pub extern "C" fn pondreszi_codeblock_error_control(information: &[u8]) -> u8
 }
 
 #[no_mangle]
-pub extern "C" fn pondreszi_codeblock_is_good(block: &[u8]) -> u8
-    ensures { λ r. ⌜ r ≡ bitOf (isGood (judged Detecting (now (block .entry)))) ⌝ }
+pub extern "C" fn pondreszi_codeblock_judge(
+    block: &[u8],
+    mode: u32,
+    information: &mut [u8],
+    corrected: &mut u8,
+) -> u8
+    ensures number { λ r. ⌜ r ≡ numberOf (answer (codeblockJudging mode (now (block .entry)) (length (now (information .entry))))) ⌝ }
+    ensures memory { λ r. ⌜ now (information .exit) ≡ after (codeblockJudging mode (now (block .entry)) (length (now (information .entry)))) (now (information .entry)) ⌝ }
+    ensures mended { λ r. ⌜ now (corrected .exit) ≡ bitsCorrected (answer (codeblockJudging mode (now (block .entry)) (length (now (information .entry))))) ⌝ }
 {
-    flag(codeblock::is_good(block))
+    *corrected = 0;
+    if block.len() != 8 {
+        return 10;
+    }
+    if LARGEST_MODE < mode {
+        return 12;
+    }
+    let chosen = mode_of(mode);
+    let judged = codeblock::judge(block, chosen);
+    told_judged(judged, information, corrected)
 }
 
 #[no_mangle]
@@ -53,17 +70,28 @@ pub extern "C" fn pondreszi_cltu_write(frame: &[u8], output: &mut [u8], count: &
 #[no_mangle]
 pub extern "C" fn pondreszi_cltu_read(
     input: &[u8],
+    mode: u32,
     output: &mut [u8],
     count: &mut u64,
     place: &mut u64,
     corrected: &mut u64,
 ) -> u8
-    ensures number { λ r. ⌜ r ≡ numberOf (answer (reading (now (input .entry)) (length (now (output .entry))))) ⌝ }
-    ensures memory { λ r. ⌜ now (output .exit) ≡ after (reading (now (input .entry)) (length (now (output .entry)))) (now (output .entry)) ⌝ }
-    ensures counted { λ r. ⌜ now (count .exit) ≡ countOf (answer (reading (now (input .entry)) (length (now (output .entry))))) ⌝ }
-    ensures placed { λ r. ⌜ now (place .exit) ≡ placeOf (answer (reading (now (input .entry)) (length (now (output .entry))))) ⌝ }
-    ensures mended { λ r. ⌜ now (corrected .exit) ≡ correctedOf (answer (reading (now (input .entry)) (length (now (output .entry))))) ⌝ }
+    ensures number { λ r. ⌜ r ≡ numberOf (answer (cltuReading mode (now (input .entry)) (length (now (output .entry))))) ⌝ }
+    ensures memory { λ r. ⌜ now (output .exit) ≡ after (cltuReading mode (now (input .entry)) (length (now (output .entry)))) (now (output .entry)) ⌝ }
+    ensures counted { λ r. ⌜ now (count .exit) ≡ countOf (answer (cltuReading mode (now (input .entry)) (length (now (output .entry))))) ⌝ }
+    ensures placed { λ r. ⌜ now (place .exit) ≡ placeOf (answer (cltuReading mode (now (input .entry)) (length (now (output .entry))))) ⌝ }
+    ensures mended { λ r. ⌜ now (corrected .exit) ≡ correctedOf (answer (cltuReading mode (now (input .entry)) (length (now (output .entry))))) ⌝ }
 {
-    let reading = cltu::reader::read(input, output);
+    *count = 0;
+    *place = 0;
+    *corrected = 0;
+    if LARGEST_INPUT < input.len() {
+        return 10;
+    }
+    if LARGEST_MODE < mode {
+        return 12;
+    }
+    let chosen = mode_of(mode);
+    let reading = cltu::reader::read(input, chosen, output);
     told_reading(reading, count, place, corrected)
 }

@@ -1,2 +1,3 @@
 pub mod Told
 pub mod Narrowed
+pub mod Modes

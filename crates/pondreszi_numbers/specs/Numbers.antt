@@ -4,11 +4,17 @@ use Prim.Native.Nat.{ℕ, suc, _+_, _*_}
 use mathlib.Core.Bool.{not}
 use mathlib.Core.List.{List, []}
 use lib.Dec.{leb, eqb}
-use Rattle.base.specs.Choice.{pick}
-use Rattle.base.specs.Limits.{largestSpacecraft, largestChannel}
-use Rattle.base.specs.Outcome.{Outcome, Answer, Answer.done, Answer.refused}
+use lib.ListN.{length}
+use Rattle.base.specs.Choice.{pick, must}
+use Rattle.base.specs.Limits.{largestInput, largestSpacecraft, largestChannel}
+use Rattle.base.specs.Outcome.{Outcome, Outcome.done, Outcome.refused, Answer}
+use Rattle.base.specs.Outcome as outcome
 use Rattle.base.specs.Flags.{bitOf}
-use Rattle.cltu.specs.Cltu.{Found}
+use Rattle.codeblock.specs.Codeblock.{judged, isGood}
+use Rattle.codeblock.specs.declared.Judged.{Judged}
+use Rattle.codeblock.specs.declared.Mode.{Mode}
+use Rattle.codeblock.specs.declared.Mode.the-variants.{Detecting, Correcting}
+use Rattle.cltu.specs.Cltu.{Found, reading}
 use Rattle.fop.specs.Limits.{largestNumber}
 use Rattle.frame.specs.Frame.{writing}
 use Rattle.frame.specs.declared.Kind.{Kind}
@@ -44,15 +50,45 @@ adWriting spacecraft channel number unit room = writing (withNumber number space
 abbrev pub setVrWriting : ℕ → ℕ → ℕ → ℕ → Outcome (Unit {0})
 setVrWriting spacecraft channel value room = writing (withNumber value spacecraft (suc largestSpacecraft)) channel (SetVr value) [] room
 
+-- document 02, order 3, "chosen by a setting": 0 is the detecting mode, 1 the correcting mode
+abbrev pub largestMode : ℕ
+largestMode = 1
+
+abbrev pub modeOf : ℕ → Mode
+modeOf number = pick (eqb number 0) Detecting Correcting
+
+-- `pondreszi_cltu_read`: another mode is a value outside its limit, 12, judged after 10 and before 1
+unfoldable pub cltuReading : ℕ → List ℕ → ℕ → Outcome Found
+cltuReading mode input room =
+    must (leb (length input) largestInput) (refused 10 0)
+    (must (leb mode largestMode) (refused 12 0)
+    (reading (modeOf mode) input room))
+
+-- a judged codeblock put into a room of so many octets: 2 where it is bad, then 11; its information, and how many bits were corrected
+unfoldable pub informationPut : Judged → ℕ → Outcome ℕ
+informationPut block room = must (isGood block) (refused 2 0) (must (leb 7 room) (refused 11 0) (done (block .information) (block .corrected)))
+
+-- `pondreszi_codeblock_judge`: 10 where the octets are not eight, 12 where the mode is another
+unfoldable pub codeblockJudging : ℕ → List ℕ → ℕ → Outcome ℕ
+codeblockJudging mode block room =
+    must (eqb (length block) 8) (refused 10 0)
+    (must (leb mode largestMode) (refused 12 0)
+    (informationPut (judged (modeOf mode) block) room))
+
+-- how many bits were corrected, 0 by a refusal
+abbrev pub bitsCorrected : Answer ℕ → ℕ
+bitsCorrected (outcome.Answer.done count corrected) = corrected
+bitsCorrected (outcome.Answer.refused number place) = 0
+
 -- the place that a CLTU reading tells
 abbrev pub placeOf : Answer Found → ℕ
-placeOf (done count found) = found .place
-placeOf (refused number place) = place
+placeOf (outcome.Answer.done count found) = found .place
+placeOf (outcome.Answer.refused number place) = place
 
 -- the count of corrected codeblocks, 0 by a refusal
 abbrev pub correctedOf : Answer Found → ℕ
-correctedOf (done count found) = found .corrected
-correctedOf (refused number place) = 0
+correctedOf (outcome.Answer.done count found) = found .corrected
+correctedOf (outcome.Answer.refused number place) = 0
 
 -- table 6-3 and clause 7.8: the kind of a frame by number, as octet 17 of the sender's answer: 1 AD, 2 BD, 3 Unlock, 4 Set V(R); 0 is none
 abbrev pub kindNumber : Kind → ℕ

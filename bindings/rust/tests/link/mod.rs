@@ -1,7 +1,7 @@
 //! Two ends and a link that loses frames and control words.
 
 use pondreszi::{
-    clcw, cltu, frame, Answer, Directive, Receiver, ReceiverSettings, Response, Run, Sender,
+    clcw, cltu, frame, Answer, Directive, Mode, Receiver, ReceiverSettings, Response, Run, Sender,
     SenderSettings, SenderState, Unit,
 };
 
@@ -159,10 +159,12 @@ impl Link {
     fn carry(&mut self, frame: &[u8]) {
         self.frames += 1;
         let mut octets = cltu::write(frame).unwrap();
+        // One wrong bit is mended, two in one codeblock are bad.
+        octets[4] ^= 4;
         if self.loses() {
             octets[9] ^= 4;
         }
-        let Ok(decoded) = cltu::read(&octets) else {
+        let Ok(decoded) = cltu::read(&octets, Mode::Correcting) else {
             return;
         };
         let received = self.receiver.frame(&decoded.octets).unwrap();

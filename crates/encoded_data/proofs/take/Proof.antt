@@ -7,7 +7,6 @@ use borrow.Author.Tests.{not-true, not-false}
 use denote.Ref.{now}
 use lib.ListN.{length}
 use Rattle.codeblock.specs.Codeblock.{judged}
-use Rattle.codeblock.specs.declared.Mode.the-variants.{Detecting}
 use Rattle.codeblock.specs.declared.Judged.{Judged}
 use Rattle.codeblock.proofs.Codeblock.{corrects-few}
 use Rattle.memory.specs.Placed.{placed}
@@ -16,15 +15,15 @@ use Rattle.encoded_data.proofs.take.Statement.{statement}
 use Rattle.encoded_data.proofs.take.Tie as tie
 
 abbrev Inv-loop : tie.InvT-loop
-Inv-loop input whole information₀ corrected₀ n₀ information corrected n = Taken (judged Detecting) whole input information₀ information corrected n × (length information ≡ length information₀)
+Inv-loop input mode whole information₀ corrected₀ n₀ information corrected n = Taken (judged mode) whole input information₀ information corrected n × (length information ≡ length information₀)
 
 abbrev μ-loop : tie.MeasureT-loop
-μ-loop input whole information₀ corrected₀ n₀ information corrected n = whole - n
+μ-loop input mode whole information₀ corrected₀ n₀ information corrected n = whole - n
 
 loop-holds : tie.Need-loop-holds Inv-loop μ-loop
 loop-holds c =
     let a = c .before .before .args in
-    (taken-none (judged Detecting) (a .whole) (now (a .input)) (now (a .information)), refl)
+    (taken-none (judged (a .mode)) (a .whole) (now (a .input)) (now (a .information)), refl)
 
 mul-at : tie.Need-mul-at Inv-loop μ-loop
 mul-at c = search needs
@@ -51,7 +50,7 @@ returns : tie.Need-returns Inv-loop μ-loop
 returns c =
     let t = c .before .before .before .before .before .loop .inv .0 in
     let j = c .before .before .judge in
-    ((sym (taken-bad (judged Detecting) t (j .result) (j .ensures) (not-true _ (c .if1 .taken))), t .count), t .front)
+    ((sym (taken-bad (judged _) t (j .result) (j .ensures) (not-true _ (c .if1 .taken))), t .count), t .front)
 
 mul-put : tie.Need-mul-put Inv-loop μ-loop
 mul-put c = search needs
@@ -82,9 +81,9 @@ loop-again c =
     let p = c .before .before .before .put in
     let e : p .last .0 ≡ placed (l .information) (7 * l .n) (j .result .information) = p .ensures in
     let seven : length (j .result .information) ≡ 7 = search needs in
-    let one : j .result .corrected ≤ 1 = subst (λ (x : Judged). x .corrected ≤ 1) (sym (j .ensures)) (corrects-few Detecting _) in
-    let t = taken-more (judged Detecting) (l .inv .0) (j .result) (j .ensures) (not-false _ (c .before .before .before .before .before .before .before .if1 .left)) (search needs) seven one (c .before .before .before .before .before .before .before .before .before .before .before .before .before .before .before .pre .1) in (
-      subst (λ (m : List ℕ). Taken (judged Detecting) (a .whole) (now (a .input)) (now (a .information)) m (l .corrected + j .result .corrected) (l .n + 1)) (sym e) t,
+    let one : j .result .corrected ≤ 1 = subst (λ (x : Judged). x .corrected ≤ 1) (sym (j .ensures)) (corrects-few (a .mode) _) in
+    let t = taken-more (judged (a .mode)) (l .inv .0) (j .result) (j .ensures) (not-false _ (c .before .before .before .before .before .before .before .if1 .left)) (search needs) seven one (c .before .before .before .before .before .before .before .before .before .before .before .before .before .before .before .pre .1) in (
+      subst (λ (m : List ℕ). Taken (judged (a .mode)) (a .whole) (now (a .input)) (now (a .information)) m (l .corrected + j .result .corrected) (l .n + 1)) (sym e) t,
       search needs,
     )
 
@@ -94,7 +93,7 @@ same-length-2 c = c .before .loop .inv .1
 returns-2 : tie.Need-returns-2 Inv-loop μ-loop
 returns-2 c =
     let t = c .before .loop .inv .0 in
-    ((sym (taken-all (judged Detecting) t (c .loop-test .left)), t .count), t .front)
+    ((sym (taken-all (judged _) t (c .loop-test .left)), t .count), t .front)
 
 pub take-spec : {M : Type 1} → statement M
 take-spec =

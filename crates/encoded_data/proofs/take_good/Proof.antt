@@ -5,7 +5,6 @@ use Prim.Native.Nat.{ℕ}
 use denote.Ref.{now}
 use lib.ListN.{length}
 use Rattle.codeblock.specs.Codeblock.{judged}
-use Rattle.codeblock.specs.declared.Mode.the-variants.{Detecting}
 use Rattle.encoded_data.specs.EncodedData.{goodRun}
 use Rattle.encoded_data.proofs.Scan.{whole-room, whole-none}
 use Rattle.encoded_data.proofs.take_good.Statement.{statement}
@@ -25,7 +24,7 @@ returns c =
     let a = c .before .before .before .before .before .before .before .args in
     let s = now (a .input) in
     let e = c .before .before .take .ensures in
-    ((e .0 .0 ∙ ap (λ (k : ℕ). goodRun (judged Detecting) k s) (sym (whole-none (length s) (length (now (a .information))) (search needs))), e .0 .1), e .1)
+    ((e .0 .0 ∙ ap (λ (k : ℕ). goodRun (judged (a .mode)) k s) (sym (whole-none (length s) (length (now (a .information))) (search needs))), e .0 .1), e .1)
 
 take-requires-2 : tie.Need-take-requires-2
 take-requires-2 c κs = search needs
@@ -38,7 +37,7 @@ returns-2 c =
     let a = c .before .before .before .before .before .before .before .args in
     let s = now (a .input) in
     let e = c .before .before .take2 .ensures in
-    ((e .0 .0 ∙ ap (λ (k : ℕ). goodRun (judged Detecting) k s) (sym (whole-room (length s) (length (now (a .information))) (search needs))), e .0 .1), e .1)
+    ((e .0 .0 ∙ ap (λ (k : ℕ). goodRun (judged (a .mode)) k s) (sym (whole-room (length s) (length (now (a .information))) (search needs))), e .0 .1), e .1)
 
 pub take-good-spec : {M : Type 1} → statement M
 take-good-spec =

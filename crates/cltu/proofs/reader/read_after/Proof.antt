@@ -8,7 +8,6 @@ use denote.Ref.{now}
 use lib.ListN.{length}
 use Rattle.base.proofs.Tests.{told}
 use Rattle.codeblock.specs.Codeblock.{judged}
-use Rattle.codeblock.specs.declared.Mode.the-variants.{Detecting}
 use Rattle.codeblock.proofs.Codeblock.{good-seven}
 use Rattle.memory.specs.Placed.{placed}
 use Rattle.randomizer.specs.Randomizer.{randomized}
@@ -27,27 +26,29 @@ slice-aggregate-take-good c = search needs
 take-good-requires : tie.Need-take-good-requires
 take-good-requires c κs = search needs
 
-mul-t13 : tie.Need-mul-t13
-mul-t13 c =
-    let s = now (c .before .before .before .before .before .before .args .input) in
-    omega (arith, run-whole (judged Detecting) (now (c .before .before .before .before .before .before .args .input)) (c .before .before .take-good .ensures .0 .0) (search needs), run-le (judged Detecting) (length s / 8) s)
+mul-t14 : tie.Need-mul-t14
+mul-t14 c =
+    let a = c .before .before .before .before .before .before .args in
+    let s = now (a .input) in
+    omega (arith, run-whole (judged (a .mode)) (now (c .before .before .before .before .before .before .args .input)) (c .before .before .take-good .ensures .0 .0) (search needs), run-le (judged (a .mode)) (length s / 8) s)
 
-add-t14 : tie.Need-add-t14
-add-t14 c =
-    let s = now (c .before .before .before .before .before .before .args .input) in
-    omega (arith, run-whole (judged Detecting) (now (c .before .before .before .before .before .before .args .input)) (c .before .before .take-good .ensures .0 .0) (search needs), run-le (judged Detecting) (length s / 8) s)
+add-t15 : tie.Need-add-t15
+add-t15 c =
+    let a = c .before .before .before .before .before .before .args in
+    let s = now (a .input) in
+    omega (arith, run-whole (judged (a .mode)) (now (c .before .before .before .before .before .before .args .input)) (c .before .before .take-good .ensures .0 .0) (search needs), run-le (judged (a .mode)) (length s / 8) s)
 
 returns : tie.Need-returns
 returns c =
     let a = c .before .before .before .before .before .before .args in
-    let g = run-whole (judged Detecting) (now (c .before .before .before .before .before .before .args .input)) (c .before .before .take-good .ensures .0 .0) (search needs) in
-    told (after-end (judged Detecting) (a .offset) (now (a .input)) (length (now (a .out))) (c .before .before .take-good .result .blocks) g (search needs)) (now (a .out))
+    let g = run-whole (judged (a .mode)) (now (c .before .before .before .before .before .before .args .input)) (c .before .before .take-good .ensures .0 .0) (search needs) in
+    told (after-end (judged (a .mode)) (a .offset) (now (a .input)) (length (now (a .out))) (c .before .before .take-good .result .blocks) g (search needs)) (now (a .out))
 
 returns-2 : tie.Need-returns-2
 returns-2 c =
     let a = c .before .before .before .before .before .before .before .args in
-    let g = run-whole (judged Detecting) (now (c .before .before .before .before .before .before .before .args .input)) (c .before .before .before .take-good .ensures .0 .0) (search needs) in
-    told (after-none (judged Detecting) (a .offset) (now (a .input)) (length (now (a .out))) (c .before .before .before .take-good .result .blocks) g (search needs) (search needs)) (now (a .out))
+    let g = run-whole (judged (a .mode)) (now (c .before .before .before .before .before .before .before .args .input)) (c .before .before .before .take-good .ensures .0 .0) (search needs) in
+    told (after-none (judged (a .mode)) (a .offset) (now (a .input)) (length (now (a .out))) (c .before .before .before .take-good .result .blocks) g (search needs) (search needs)) (now (a .out))
 
 mul-if3 : tie.Need-mul-if3
 mul-if3 c = search needs
@@ -55,8 +56,8 @@ mul-if3 c = search needs
 returns-3 : tie.Need-returns-3
 returns-3 c =
     let a = c .before .before .before .before .before .before .before .before .args in
-    let g = run-whole (judged Detecting) (now (c .before .before .before .before .before .before .before .before .args .input)) (c .before .before .before .before .take-good .ensures .0 .0) (search needs) in
-    told (after-room (judged Detecting) (a .offset) (now (a .input)) (length (now (a .out))) (c .before .before .before .before .take-good .result .blocks) g (search needs) (search needs) (search needs)) (now (a .out))
+    let g = run-whole (judged (a .mode)) (now (c .before .before .before .before .before .before .before .before .args .input)) (c .before .before .before .before .take-good .ensures .0 .0) (search needs) in
+    told (after-room (judged (a .mode)) (a .offset) (now (a .input)) (length (now (a .out))) (c .before .before .before .before .take-good .result .blocks) g (search needs) (search needs) (search needs)) (now (a .out))
 
 mul-count : tie.Need-mul-count
 mul-count c = search needs
@@ -73,11 +74,11 @@ part-unpack-end c = search needs
 unpack-requires : tie.Need-unpack-requires
 unpack-requires c κs = search needs
 
-mul-t11 : tie.Need-mul-t11
-mul-t11 c = search needs
+mul-t12 : tie.Need-mul-t12
+mul-t12 c = search needs
 
-add-t10 : tie.Need-add-t10
-add-t10 c = search needs
+add-t11 : tie.Need-add-t11
+add-t11 c = search needs
 
 same-length : tie.Need-same-length
 same-length c = search needs
@@ -88,14 +89,14 @@ returns-4 c =
     let t = c .before .before .before .before .before .before .before .before .before .before .take-good in
     let s = now (a .input) in
     let n = t .result .blocks in
-    let g : n ≡ goodRun (judged Detecting) (length s / 8) s = run-whole (judged Detecting) (now (c .before .before .before .before .before .before .before .before .before .before .before .before .before .before .args .input)) (c .before .before .before .before .before .before .before .before .before .before .take-good .ensures .0 .0) (search needs) in
-    let o = told (after-done (judged Detecting) (a .offset) s (length (now (a .out))) n g (search needs) (search needs) (search needs)) (now (a .out)) in
-    let i = length-information-in (judged Detecting) (good-seven Detecting) (length s / 8) n s (omega (arith, g)) in
-    let z : length (randomized 0 (informationIn (judged Detecting) n s)) ≡ 7 * n = length-randomized 0 (informationIn (judged Detecting) n s) ∙ i in (
+    let g : n ≡ goodRun (judged (a .mode)) (length s / 8) s = run-whole (judged (a .mode)) (now (c .before .before .before .before .before .before .before .before .before .before .before .before .before .before .args .input)) (c .before .before .before .before .before .before .before .before .before .before .take-good .ensures .0 .0) (search needs) in
+    let o = told (after-done (judged (a .mode)) (a .offset) s (length (now (a .out))) n g (search needs) (search needs) (search needs)) (now (a .out)) in
+    let i = length-information-in (judged (a .mode)) (good-seven (a .mode)) (length s / 8) n s (omega (arith, g)) in
+    let z : length (randomized 0 (informationIn (judged (a .mode)) n s)) ≡ 7 * n = length-randomized 0 (informationIn (judged (a .mode)) n s) ∙ i in (
       ap₂ (λ (k j : ℕ). readAnswer (Done k (a .offset + 8 * n) j)) (sym z) (t .ensures .0 .1) ∙ o .0,
       c .before .before .unpack .ensures
-          ∙ ap (λ (l : List ℕ). placed (now (a .out)) 0 (randomized 0 l)) (part-front (informationIn (judged Detecting) n s) _ _ (7 * n) (t .ensures .1) (sym i))
-          ∙ placed-front (now (a .out)) (randomized 0 (informationIn (judged Detecting) n s)) (omega (arith, z))
+          ∙ ap (λ (l : List ℕ). placed (now (a .out)) 0 (randomized 0 l)) (part-front (informationIn (judged (a .mode)) n s) _ _ (7 * n) (t .ensures .1) (sym i))
+          ∙ placed-front (now (a .out)) (randomized 0 (informationIn (judged (a .mode)) n s)) (omega (arith, z))
           ∙ o .1,
     )
 
@@ -105,8 +106,8 @@ read-after-spec =
     (tie.spec
     slice-aggregate-take-good
     take-good-requires
-    mul-t13
-    add-t14
+    mul-t14
+    add-t15
     returns
     returns-2
     mul-if3
@@ -116,7 +117,7 @@ read-after-spec =
     part-unpack-start
     part-unpack-end
     unpack-requires
-    mul-t11
-    add-t10
+    mul-t12
+    add-t11
     same-length
     returns-4)
