@@ -7,7 +7,7 @@ use Rattle.session.specs.Beyond.{Beyond}
 use Rattle.session.proofs.Linked.{from-start}
 use Rattle.session.proofs.Theorem.{claims-linked}
 use Rattle.session.proofs.Strong.{stronger-linked}
-use Rattle.session.proofs.HandsOut.{hands-out}
+use Rattle.session.proofs.HandsOut.{hands-out, filled-answers}
 use Rattle.session.proofs.Harmless.{harmless}
 use Rattle.session.proofs.Split.{split}
 use Rattle.session.proofs.Pass.{passes}
@@ -19,6 +19,7 @@ beyond set vw m t kept most es =
       claims = claims-linked set vw m t kept most es;
       stronger = stronger-linked set vw m t kept most es;
       handsOut = hands-out set vw m t _ (k .session) (k .ends) (k .inv);
+      filled = filled-answers set vw m t _ (k .session) (k .ends) (k .inv) kept most;
       harmless = harmless set vw m t kept most _ _ (k .session) (k .ends) (k .ofTables) (k .inv);
       split = split set vw m t _ _ (k .session) (k .ends) (k .ofTables) (k .inv) kept most;
       passes = passes set vw m t _ _ (k .session) (k .ends) (k .ofTables) (k .inv);

@@ -39,7 +39,7 @@ addAgain kept sent i fs = pick (isKept kept sent i) (fs ++ (AD (getD sent i noUn
 -- an event
 unfoldable pub linkStep : Settings → ℕ → LinkEvent → Session → Session
 linkStep set kept (demanded e) σ = step set e σ
-linkStep set kept frameStays σ = frameCome set (free set σ) (staysAd (σ .frames)) σ
+linkStep set kept (frameStays fill) σ = pick (isFill fill) (frameCome set (free set σ) (staysAd (σ .frames)) σ) σ
 linkStep set kept (wordStays lent) σ = wordCome set lent (stays (σ .words)) σ
 linkStep set kept (frameFilled fill) σ = pick (isFill fill) (step set frameIn σ) σ
 linkStep set kept (frameAgain i) σ = channels (addAgain kept (σ .sent) i (σ .frames)) (σ .words) σ
@@ -130,8 +130,10 @@ module _ (set : Settings) (vw : Within set) (kept : ℕ) (most : kept ≤ set .w
   pub link-keeps : (e : LinkEvent) (σ : Session) → Inv set σ → Inv set (linkStep set kept e σ)
   unfolding linkStep
   link-keeps (demanded e) σ I = step-keeps set vw e σ I
-  link-keeps frameStays σ I =
-      frame-keeps set vw σ (free set σ) (staysAd (σ .frames)) I (stays-under-way set vw σ I) (stays-bd (σ .acceptedBd) (σ .sentBd) (σ .frames) (I .bd))
+  link-keeps (frameStays fill) σ I =
+      by-pick (Inv set) (isFill fill) (λ b.
+      frame-keeps set vw σ (free set σ) (staysAd (σ .frames)) I (stays-under-way set vw σ I) (stays-bd (σ .acceptedBd) (σ .sentBd) (σ .frames) (I .bd)))
+      (λ b. I)
   link-keeps (wordStays lent) σ I = word-keeps set vw lent σ (stays (σ .words)) I (words-under-way σ I)
   link-keeps (frameFilled fill) σ I = by-pick (Inv set) (isFill fill) (λ b. step-keeps set vw frameIn σ I) (λ b. I)
   link-keeps (frameAgain i) σ I =
@@ -143,7 +145,8 @@ module _ (set : Settings) (vw : Within set) (kept : ℕ) (most : kept ≤ set .w
   pub link-tidy : (e : LinkEvent) (σ : Session) → Inv set σ → Tidy (set .n) σ → Tidy (set .n) (linkStep set kept e σ)
   unfolding linkStep
   link-tidy (demanded e) σ I t = step-tidy set vw e σ I t
-  link-tidy frameStays σ I t = frame-tidy set vw σ (free set σ) (staysAd (σ .frames)) I t (stays-under-way set vw σ I)
+  link-tidy (frameStays fill) σ I t =
+      by-pick (Tidy (set .n)) (isFill fill) (λ b. frame-tidy set vw σ (free set σ) (staysAd (σ .frames)) I t (stays-under-way set vw σ I)) (λ b. t)
   link-tidy (wordStays lent) σ I t =
       word-tidy set vw lent σ (stays (σ .words)) I t (words-under-way σ I) (stays-keys (set .n) _ _ _ (σ .words) (t .keys))
   link-tidy (frameFilled fill) σ I t = by-pick (Tidy (set .n)) (isFill fill) (λ b. step-tidy set vw frameIn σ I t) (λ b. t)
@@ -155,7 +158,8 @@ module _ (set : Settings) (vw : Within set) (kept : ℕ) (most : kept ≤ set .w
   pub link-once : (e : LinkEvent) (σ : Session) → Once (σ .fop) → Once ((linkStep set kept e σ) .fop)
   unfolding linkStep channels
   link-once (demanded e) σ o = step-once set e σ o
-  link-once frameStays σ o = frame-in set (free set σ) (staysAd (σ .frames)) σ o
+  link-once (frameStays fill) σ o =
+      by-pick (λ (τ : Session). Once (τ .fop)) (isFill fill) (λ b. frame-in set (free set σ) (staysAd (σ .frames)) σ o) (λ b. o)
   link-once (wordStays lent) σ o = word-in set lent (stays (σ .words)) σ o
   link-once (frameFilled fill) σ o = by-pick (λ (τ : Session). Once (τ .fop)) (isFill fill) (λ b. step-once set frameIn σ o) (λ b. o)
   link-once (frameAgain i) σ o = o
@@ -166,7 +170,8 @@ module _ (set : Settings) (vw : Within set) (kept : ℕ) (most : kept ≤ set .w
   pub link-stock : (e : LinkEvent) (σ : Session) → Inv set σ → Stocked set σ → Stocked set (linkStep set kept e σ)
   unfolding linkStep channels
   link-stock (demanded e) σ I h = stock-keeps set vw e σ I h
-  link-stock frameStays σ I h = frame-stock set vw σ (staysAd (σ .frames)) I (stays-under-way set vw σ I) h
+  link-stock (frameStays fill) σ I h =
+      by-pick (Stocked set) (isFill fill) (λ b. frame-stock set vw σ (staysAd (σ .frames)) I (stays-under-way set vw σ I) h) (λ b. h)
   link-stock (wordStays lent) σ I h = word-stock set lent (stays (σ .words)) σ h
   link-stock (frameFilled fill) σ I h = by-pick (Stocked set) (isFill fill) (λ b. stock-keeps set vw frameIn σ I h) (λ b. h)
   link-stock (frameAgain i) σ I h = h

@@ -214,7 +214,8 @@ module _ (set : Settings) where
   pub link-ended : (kept : ℕ) (e : LinkEvent) (κ : Session) → noneAgain (e ∷ []) ≡ true → Ended κ → StaysEnded κ (linkStep set kept e κ)
   unfolding linkStep
   link-ended kept (demanded e) κ n h = step-ended e κ h
-  link-ended kept frameStays κ n h = frames-ended (free set κ) (staysAd (κ .frames)) κ (none-stays (κ .frames) (h .none)) h
+  link-ended kept (frameStays fill) κ n h =
+      by-pick (StaysEnded κ) (isFill fill) (λ b. frames-ended (free set κ) (staysAd (κ .frames)) κ (none-stays (κ .frames) (h .none)) h) (λ b. (h, refl))
   link-ended kept (wordStays lent) κ n h = words-ended lent (stays (κ .words)) κ h
   link-ended kept (frameFilled fill) κ n h = by-pick (StaysEnded κ) (isFill fill) (λ b. step-ended frameIn κ h) (λ b. (h, refl))
   link-ended kept (frameAgain i) κ n h = absurd (false≢true n)

@@ -27,7 +27,7 @@ use Rattle.session.proofs.Octets.{octets-are, filled-back, ad-legal, bd
 use Rattle.session.proofs.Link.{Rel, Reads}
 
 -- what fill is
-fill-is : (fill : List ℕ) → isFill fill ≡ true → (length fill ≤ largestFill) × Octets fill
+pub fill-is : (fill : List ℕ) → isFill fill ≡ true → (length fill ≤ largestFill) × Octets fill
 fill-is fill e =
     let h = and-both (leb (length fill) largestFill) (areOctets fill) e in (leb-true (length fill) largestFill (h .0), octets-are fill (h .1))
 
@@ -53,7 +53,7 @@ module _ (set : Settings) (k : ℕ) (v : Variables) (s x : List ℕ) (a : Alike 
 
 module _ (set : Settings) (vw : Within set) where
   -- a frame under way with fill behind it
-  filled-alike : (x : Frame) → Readable x → (fill : List ℕ) → length fill ≤ largestFill → Octets fill
+  pub filled-alike : (x : Frame) → Readable x → (fill : List ℕ) → length fill ≤ largestFill → Octets fill
       → Alike (set .own) (written (set .own) x ++ fill) (written (set .own) x)
   unfolding written
   filled-alike (AD u) h fill few o =
@@ -68,6 +68,14 @@ module _ (set : Settings) (vw : Within set) where
   filled-alike (Refused r) h fill few o = absurd h
 
   module _ (m : Ends) (t : Tied set m) where
+    -- octets that are read alike are answered alike
+    pub answered-alike : (σ : Linked m) (κ : Session) (s x : List ℕ) → Rel set vw m t σ κ → Alike (set .own) s x
+        → m .answerReceiver (frameArrives s) (σ .receiver) ≡ m .answerReceiver (frameArrives x) (σ .receiver)
+    answered-alike σ κ s x R a =
+        t .answerReceiver (frameArrives s) (σ .receiver) (R .goodReceiver) ∙ ap (receiverAnswer (frameArrives s)) (R .farm)
+        ∙ answer-alike set (used κ) (κ .farm) s x a ∙ ap (receiverAnswer (frameArrives x)) (sym (R .farm))
+        ∙ sym (t .answerReceiver (frameArrives x) (σ .receiver) (R .goodReceiver))
+
     -- octets that are read as the frame is, in its place
     pub arrives-alike : (σ : Linked m) (κ τ : Session) (s x : List ℕ) (fs : List (List ℕ)) → Rel set vw m t σ κ → Alike (set .own) s x
         → Rel set vw m t (frameCome set m (x ∷ fs) σ) τ → Rel set vw m t (frameCome set m (s ∷ fs) σ) τ
@@ -77,10 +85,7 @@ module _ (set : Settings) (vw : Within set) where
         t .nextReceiver (frameArrives s) (σ .receiver) (R .goodReceiver) ∙ ap (receiverNext (frameArrives s)) (R .farm)
         ∙ next-alike set (used κ) (κ .farm) s x a ∙ ap (receiverNext (frameArrives x)) (sym (R .farm))
         ∙ sym (t .nextReceiver (frameArrives x) (σ .receiver) (R .goodReceiver)) in
-        let answer : m .answerReceiver (frameArrives s) (σ .receiver) ≡ m .answerReceiver (frameArrives x) (σ .receiver) =
-        t .answerReceiver (frameArrives s) (σ .receiver) (R .goodReceiver) ∙ ap (receiverAnswer (frameArrives s)) (R .farm)
-        ∙ answer-alike set (used κ) (κ .farm) s x a ∙ ap (receiverAnswer (frameArrives x)) (sym (R .farm))
-        ∙ sym (t .answerReceiver (frameArrives x) (σ .receiver) (R .goodReceiver)) in
+        let answer = answered-alike σ κ s x R a in
         record {
           good = S .good;
           goodReceiver = t .keepsReceiver (frameArrives s) (σ .receiver) (R .goodReceiver);

@@ -1,10 +1,15 @@
 -- What the receiver hands out (specs/Beyond, `HandsOut`): the unit of an AD frame that is accepted, and nothing else. By the answer to a frame under
--- way (Link, `answer-to`): a unit is handed out where the cell of table 7-9 accepts one, and there the histories count it.
+-- way (Link, `answer-to`): a unit is handed out where the cell of table 7-9 accepts one, and there the histories count it. A frame with fill behind it
+-- is answered and counted as the frame alone (`FilledAlike`).
 use mathlib.Core.Logic.{_⊎_, inl, inr}
 use mathlib.Core.Path.{_≡_, refl, sym, ap, _∙_, subst}
 use mathlib.Core.List.{List, [], _∷_, _++_, map}
 use mathlib.Core.Option.{none, some}
-use Prim.Native.Nat.{ℕ}
+use mathlib.Core.Bool.{Bool, true}
+use Prim.Native.Nat.{ℕ, _/_, _≤_}
+use native.Mathlib.Omega.{arith}
+use lib.ListN.{length}
+use Rattle.base.specs.Choice.{pick}
 use Rattle.fop.specs.Units.{Fdu, Frame, AD, written}
 use Rattle.farm.specs.Table.{unitOf}
 use Rattle.farm.specs.declared.AcceptedUnit.{AcceptedUnit}
@@ -17,11 +22,16 @@ use Rattle.session.specs.Receiver.{frameArrives, releaseBuffer, Receiver
 use Rattle.session.specs.Ends.{Settings, Within, Ends, Tied}
 use Rattle.session.specs.Session.{Linked, History, frameIn}
 use Rattle.session.specs.Session as ses
-use Rattle.session.specs.Beyond.{HandsOut}
+use Rattle.session.specs.Channels.{frameStays, frameFilled, isFill, linkStep}
+use Rattle.session.specs.Beyond.{HandsOut, FilledAlike}
 use Rattle.session.proofs.Core.{Session, taken, isHanded, frameEvent, free, frameCome, receiver, stepWith, step}
 use Rattle.session.proofs.Inv.{Inv}
 use Rattle.session.proofs.Link.{Rel, Reads, same-step, answer-to, fly-reads}
 use Rattle.session.proofs.Theorem.{oldest-frame}
+use Rattle.session.proofs.Next.{historyOf}
+use Rattle.session.proofs.Channels as core
+use Rattle.session.proofs.Linked.{same-link}
+use Rattle.session.proofs.Filled.{fill-is, filled-alike, answered-alike}
 
 -- by what the cell accepts
 by-unit : (x : AcceptedUnit) (o : List ℕ) (u : Fdu) (l : List Fdu)
@@ -88,3 +98,28 @@ module _ (set : Settings) (vw : Within set) (m : Ends) (t : Tied set m) (σ : Li
     released = ap (λ (a : ReceiverAnswer). a .unit) (t .answerReceiver releaseBuffer (σ .receiver) (R .goodReceiver))
         ∙ released-none (releaseOf (t .farm (σ .receiver)));
   }
+
+  -- with fill behind it
+  module _ (kept : ℕ) (most : kept ≤ set .w / 2) where
+    by-frames : (l : List Frame) → Reads l → (s : List ℕ) (fs : List (List ℕ)) (fill : List ℕ) → s ∷ fs ≡ map (written (set .own)) l → isFill fill ≡ true
+        → m .answerReceiver (frameArrives (s ++ fill)) (σ .receiver) ≡ m .answerReceiver (frameArrives s) (σ .receiver)
+    by-frames [] h s fs fill e f = absurd (omega (arith, ap length e))
+    by-frames (x ∷ l) h s fs fill e f =
+        let i = fill-is fill f in
+        let z : s ≡ written (set .own) x = cc in
+        rw z (answered-alike set vw m t σ κ (written (set .own) x ++ fill) (written (set .own) x) R (filled-alike set vw x (h .0) fill (i .0) (i .1)))
+
+    pub filled-answers : FilledAlike set kept m σ
+    unfolding core.linkStep
+    filled-answers = record {
+      answer = λ s fs fill e f.
+          by-frames (κ .frames) (fly-reads (set .n) _ (κ .sent) (I .base .num) _ _ (κ .frames) (I .base .fly)) s fs fill (sym e ∙ R .frames) f;
+      history = λ fill f.
+          same-link set vw m t kept most (frameFilled fill) σ κ R I .history
+          ∙ ap (λ (b : Bool). historyOf (pick b (step set frameIn κ) κ)) f
+          ∙ sym (same-step set vw m t frameIn σ κ R I .history);
+      stays = λ fill f.
+          same-link set vw m t kept most (frameStays fill) σ κ R I .history
+          ∙ ap (λ (b : Bool). historyOf (pick b (frameCome set (free set κ) (core.staysAd (κ .frames)) κ) κ)) f
+          ∙ sym (same-link set vw m t kept most (frameStays []) σ κ R I .history);
+    }

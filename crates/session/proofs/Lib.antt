@@ -22,7 +22,6 @@ pub mod Received
 pub mod Link
 pub mod Words
 pub mod Theorem
-pub mod HandsOut
 pub mod Round
 pub mod Asks
 pub mod Keys
@@ -46,6 +45,7 @@ pub mod Channels
 pub mod Noise
 pub mod Filled
 pub mod Linked
+pub mod HandsOut
 pub mod Harmless
 pub mod Trace
 pub mod Example

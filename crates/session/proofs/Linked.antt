@@ -24,7 +24,8 @@ use Rattle.session.proofs.Inv.{Inv}
 use Rattle.session.proofs.Receiver.{begun, start-inv}
 use Rattle.session.proofs.Next.{historyOf}
 use Rattle.session.proofs.Link.{Rel, Reads, reads, fly-reads, word-in, got, relink, plain, same-step, at-start, tables-tied}
-use Rattle.session.proofs.Channels.{staysAd, addAgain, stays-under-way, linkStep, link-keeps, link-stock}
+use Rattle.session.proofs.Channels.{staysAd, addAgain, stays-under-way, linkStep, link-keeps}
+use Rattle.session.proofs.Buffers.{frame-stock}
 use Rattle.session.proofs.Filled.{filled-in}
 use Rattle.session.proofs.Noise.{refused-reading, discarded, frame-next, frame-answer, refuses}
 
@@ -52,6 +53,14 @@ module _ (set : Settings) (vw : Within set) where
   map-stays-ad (x ∷ fs) h =
       ap (λ (y : Frame). pick (isAd y) (stays (map (written (set .own)) (x ∷ fs))) []) (reads set vw x (h .0))
       ∙ map-chosen (written (set .own)) (isAd x) (stays (x ∷ fs))
+
+  reads-stay : (l : List Frame) → Reads l → Reads (staysAd l)
+  reads-stay [] h = tt
+  reads-stay (AD u ∷ fs) h = (h .0, h)
+  reads-stay (BD o ∷ fs) h = tt
+  reads-stay (Unlock ∷ fs) h = tt
+  reads-stay (SetVR v ∷ fs) h = tt
+  reads-stay (Refused r ∷ fs) h = tt
 
   map-again : (b : Bool) (u : Fdu) (fs : List Frame)
       → enters (map (written (set .own)) fs) (pick b (some (written (set .own) (AD u))) none) ≡ map (written (set .own)) (pick b (fs ++ (AD u ∷ [])) fs)
@@ -109,11 +118,14 @@ module _ (set : Settings) (vw : Within set) where
           → Rel set vw m t (spec.linkStep set kept m e σ) (linkStep set kept e κ)
       unfolding spec.linkStep linkStep ses.step
       same-link (demanded e) σ κ R I = same-step set vw m t e σ κ R I
-      same-link frameStays σ κ R I =
-          let l = ap (spec.staysAd (set .own)) (R .frames)
-          ∙ map-stays-ad (κ .frames) (fly-reads (set .n) _ (κ .sent) (I .base .num) _ _ (κ .frames) (I .base .fly)) in
-          subst (λ (fs : List (List ℕ)). Rel set vw m t (ses.frameCome set m fs σ) (core.frameCome set (free set κ) (staysAd (κ .frames)) κ)) (sym l)
-          (got set vw m t σ κ (staysAd (κ .frames)) R I (stays-under-way set vw κ I) (link-stock set vw kept most frameStays κ I (R .stock)))
+      same-link (frameStays fill) σ κ R I =
+          let all : Reads (κ .frames) = fly-reads (set .n) _ (κ .sent) (I .base .num) _ _ (κ .frames) (I .base .fly) in
+          let l = ap (spec.staysAd (set .own)) (R .frames) ∙ map-stays-ad (κ .frames) all in
+          let τ = core.frameCome set (free set κ) (staysAd (κ .frames)) κ in
+          subst (λ (fs : List (List ℕ)). Rel set vw m t (ses.frameCome set m (withFill fill fs) σ) (pick (isFill fill) τ κ)) (sym l)
+          (filled-in set vw m t σ κ τ fill (staysAd (κ .frames)) (reads-stay (κ .frames) all) R
+          (got set vw m t σ κ (staysAd (κ .frames)) R I (stays-under-way set vw κ I)
+          (frame-stock set vw κ (staysAd (κ .frames)) I (stays-under-way set vw κ I) (R .stock))))
       same-link (wordStays lent) σ κ R I =
           let l = ap stays (R .words) ∙ map-stays (wordOctets (set .own)) (κ .words) in
           subst (λ (ws : List (List ℕ)). Rel set vw m t (ses.wordCome set m lent ws σ) (core.wordCome set lent (stays (κ .words)) κ)) (sym l)

@@ -25,11 +25,11 @@ pub data Operation : Type 0 where
   event : Event → Operation
   direct : ℕ → ℕ → Operation
 
-abbrev does : Operation → Linked (tables set) → Linked (tables set)
+abbrev pub does : Operation → Linked (tables set) → Linked (tables set)
 does (event e) σ = step set (tables set) e σ
 does (direct d v) σ = toSender set (tables set) (directive d v) 256 (σ .words) σ
 
-abbrev after : List Operation → Linked (tables set) → Linked (tables set)
+abbrev pub after : List Operation → Linked (tables set) → Linked (tables set)
 after [] σ = σ
 after (x ∷ xs) σ = after xs (does x σ)
 

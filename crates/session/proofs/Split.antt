@@ -27,7 +27,7 @@ use Rattle.session.proofs.Ended.{Ended, link-ended, frames-none}
 -- none of a list of events is the recorder's
 none-first : (e : LinkEvent) (es : List LinkEvent) → noneAgain (e ∷ es) ≡ true → (noneAgain (e ∷ []) ≡ true) × (noneAgain es ≡ true)
 none-first (demanded e) es h = (refl, h)
-none-first frameStays es h = (refl, h)
+none-first (frameStays fill) es h = (refl, h)
 none-first (wordStays lent) es h = (refl, h)
 none-first (frameFilled fill) es h = (refl, h)
 none-first (frameAgain i) es h = (h, absurd (false≢true h))

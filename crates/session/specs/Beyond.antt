@@ -22,7 +22,7 @@ use Rattle.session.specs.Ends.{Settings, Ends, tables}
 use Rattle.session.specs.Session.{Event, adRequest, lowerSays, wordIn, wordMade, frameIn, release, Linked, History, begins, step, run, noUnit}
 use Rattle.session.specs.Claims.{Claims, BufferFree, unitsAt, member, nextNumber}
 use Rattle.session.specs.Stronger.{Stronger}
-use Rattle.session.specs.Channels.{LinkEvent, demanded, frameStays, wordStays, frameFilled, frameAgain, noise, wordNoise, isAd, negativeWindow, linkStep, linkRun}
+use Rattle.session.specs.Channels.{LinkEvent, demanded, frameStays, wordStays, frameFilled, frameAgain, noise, wordNoise, isAd, isFill, negativeWindow, largestNegativeWindow, linkStep, linkRun}
 
 -- R. What the receiver hands out: what it accepts, and nothing else. A frame that was repeated and is not accepted hands nothing out.
 pub record HandsOut (set : Settings) (m : Ends) (σ : Linked m) : Type 0 where
@@ -33,6 +33,15 @@ pub record HandsOut (set : Settings) (m : Ends) (σ : Linked m) : Type 0 where
       ⊎ (((m .answerReceiver (frameArrives s) (σ .receiver)) .unit ≡ none) × ((step set m frameIn σ) .history .accepted ≡ σ .history .accepted))
   -- a release hands nothing out
   pub released : (m .answerReceiver releaseBuffer (σ .receiver)) .unit ≡ none
+
+-- A frame under way that arrives with fill behind it: answered as the frame alone, with the same unit handed out or none, and counted as it.
+pub record FilledAlike (set : Settings) (kept : ℕ) (m : Ends) (σ : Linked m) : Type 0 where
+  pub answer : (s : List ℕ) (fs : List (List ℕ)) (fill : List ℕ) → σ .frames ≡ s ∷ fs → isFill fill ≡ true
+      → m .answerReceiver (frameArrives (s ++ fill)) (σ .receiver) ≡ m .answerReceiver (frameArrives s) (σ .receiver)
+  pub history : (fill : List ℕ) → isFill fill ≡ true → (linkStep set kept m (frameFilled fill) σ) .history ≡ (step set m frameIn σ) .history
+  -- and so where it also stays
+  pub stays : (fill : List ℕ) → isFill fill ≡ true
+      → (linkStep set kept m (frameStays fill) σ) .history ≡ (linkStep set kept m (frameStays []) σ) .history
 
 -- N. What the readers refuse, at any time: the whole answer of the ends, and that the tables' session, both ends and both channels, stays.
 pub record Harmless (set : Settings) (kept : ℕ) (m : Ends) (σ : Linked m) (γ : Linked (tables set)) : Type 0 where
@@ -56,7 +65,7 @@ noAd own (x ∷ fs) = not (isAd (read own x)) && noAd own fs
 abbrev pub noneAgain : List LinkEvent → Bool
 noneAgain [] = true
 noneAgain (demanded e ∷ es) = noneAgain es
-noneAgain (frameStays ∷ es) = noneAgain es
+noneAgain (frameStays fill ∷ es) = noneAgain es
 noneAgain (wordStays lent ∷ es) = noneAgain es
 noneAgain (frameFilled fill ∷ es) = noneAgain es
 noneAgain (frameAgain i ∷ es) = false
@@ -67,9 +76,9 @@ noneAgain (wordNoise o lent ∷ es) = noneAgain es
 abbrev pub OnBoard : History → ℕ → Type 0
 OnBoard h i = (i < length (h .accepted)) × (getD (h .accepted) i noUnit ≡ getD (h .sent) i noUnit)
 
--- a number before V(R), modulo 256: by 1 to 127, less than half of the numbers
+-- a number before V(R), modulo 256: by 1 to the largest NW, less than half of the numbers
 abbrev pub Before : ℕ → ℕ → Type 0
-Before vr x = (1 ≤ offset vr x) × (offset vr x ≤ 127)
+Before vr x = (1 ≤ offset vr x) × (offset vr x ≤ largestNegativeWindow)
 
 -- D. What a denied unit means, to a sender in Initial that is not suspended. Which units are denied is specs/Stronger, `initial`.
 pub record Split (set : Settings) (kept : ℕ) (m : Ends) (σ : Linked m) (γ : Linked (tables set)) : Type 0 where
@@ -133,6 +142,7 @@ pub record BeyondAt (set : Settings) (kept : ℕ) (m : Ends) (σ : Linked m) (γ
   pub claims : Claims set m σ γ
   pub stronger : Stronger set m σ γ
   pub handsOut : HandsOut set m σ
+  pub filled : FilledAlike set kept m σ
   pub harmless : Harmless set kept m σ γ
   pub split : Split set kept m σ γ
   pub passes : Rest set σ γ → (os : List (List ℕ)) → allLegal os ≡ true → Passed set os σ (run set m (pass os) σ) (run set (tables set) (pass os) γ)

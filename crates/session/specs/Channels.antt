@@ -16,8 +16,9 @@ use Rattle.session.specs.Session.{Event, Linked, noUnit, enters, channel
 pub data LinkEvent : Type 0 where
   -- an event of demand 3
   demanded : Event → LinkEvent
-  -- the oldest frame arrives at the receiver and also stays; the oldest word arrives at the sender, with this room lent, and also stays
-  frameStays : LinkEvent
+  -- the oldest frame arrives at the receiver, with these octets behind it, and also stays; the oldest word arrives at the sender, with this room
+  -- lent, and also stays
+  frameStays : List ℕ → LinkEvent
   wordStays : ℕ → LinkEvent
   -- the oldest frame arrives with these octets behind it, as the fill of its last codeblock stands behind a frame that comes out of a CLTU
   frameFilled : List ℕ → LinkEvent
@@ -83,6 +84,10 @@ arriving b o xs = pick b (o ∷ xs) []
 abbrev pub negativeWindow : Settings → ℕ
 negativeWindow set = set .w / 2
 
+-- and the largest NW: "Receiver window W even, 2 to 254"
+abbrev pub largestNegativeWindow : ℕ
+largestNegativeWindow = 127
+
 -- the unit at place i is one of the last `kept` units sent
 abbrev pub isKept : ℕ → List Fdu → ℕ → Bool
 isKept kept sent i = ltb i (length sent) && leb (length sent) (i + kept)
@@ -94,7 +99,7 @@ repeated own kept sent i = pick (isKept kept sent i) (some (written own (AD (get
 -- An event, with a recorder that keeps so many units. "An empty channel gives nothing".
 unfoldable pub linkStep : Settings → ℕ → (m : Ends) → LinkEvent → Linked m → Linked m
 linkStep set kept m (demanded e) σ = step set m e σ
-linkStep set kept m frameStays σ = frameCome set m (staysAd (set .own) (σ .frames)) σ
+linkStep set kept m (frameStays fill) σ = frameCome set m (withFill fill (staysAd (set .own) (σ .frames))) σ
 linkStep set kept m (wordStays lent) σ = wordCome set m lent (stays (σ .words)) σ
 linkStep set kept m (frameFilled fill) σ = frameCome set m (withFill fill (σ .frames)) σ
 linkStep set kept m (frameAgain i) σ = channels m (enters (σ .frames) (repeated (set .own) kept (σ .history .sent) i)) (σ .words) σ
