@@ -1,5 +1,6 @@
 -- Computed examples. Three wrong bits are the most that are always found: with four a codeblock can be good (`four-pass`), and so can a
--- tail sequence (`four-tail`). And the premise is met with damage in the first codeblock, in the second and in the tail (`met`).
+-- tail sequence (`four-tail`). And the premises are met: a frame that a sender handed down is under way (`sent-frame`), with damage in the first
+-- codeblock of its CLTU, in the second and in the tail (`met`).
 use mathlib.Core.Path.{_≡_, refl, sym, ap, _∙_}
 use mathlib.Core.Bool.{Bool, true, false}
 use mathlib.Core.List.{List, [], _∷_}
@@ -9,6 +10,7 @@ use borrow.Author.Tests.{ltb-true, ltb-false, leb-true}
 use lib.Bits.{bitXor, xor-lt}
 use lib.Dec.{T, ltb, leb, leb→le}
 use lib.ListN.{length, take, drop, getD, set, replicate, length-set, length-drop, drop-of-length-le}
+use Rattle.base.specs.Limits.{largestFrame}
 use Rattle.base.specs.Octets.{Octets, bitsOf, octetBits}
 use Rattle.base.specs.Outcome.{answer, numberOf, countOf}
 use Rattle.base.specs.Register.{shiftBit, shiftBits, register}
@@ -23,8 +25,10 @@ use Rattle.start_sequence.specs.StartSequence.{recognized, starts, startOf, Rec
 use Rattle.start_sequence.proofs.Search.{sequence-received}
 use Rattle.encoded_data.specs.EncodedData.{goodRun, informationIn, correctedIn}
 use Rattle.cltu.specs.Cltu.{filled, encoded, informationFor, cltuOf, tailSequence, readingRun, readingBy, reading}
-use Rattle.cltu.proofs.Examples.{frame}
 use Rattle.cltu.proofs.Places.{length-cltu}
+use Rattle.session.specs.Ends.{tables}
+use Rattle.session.specs.Session.{adRequest}
+use Rattle.session.proofs.Trace.{computing, settings, after}
 use Rattle.damage.specs.Damage.{eightAt, Damaged}
 use Rattle.damage.proofs.Reading.{octets-cltu}
 
@@ -57,7 +61,16 @@ pub four-tail : (wrongBits tailSequence passingTail ≡ 4) × (isGood (judged De
 unfolding wrongBits differing octetBits bitsOf judged otherwise isEncoding codeblockOf errorControl parity register shiftBits shiftBit
 four-tail = (refl, refl)
 
--- a CLTU of two codeblocks with bits of one octet wrong
+-- a frame of eight octets with its right FECF
+abbrev pub frame : List ℕ
+frame = 0x00 ∷ 0x05 ∷ 0x24 ∷ 0x07 ∷ 0xFE ∷ 0x07 ∷ 0x15 ∷ 0x41 ∷ []
+
+-- it is under way in a session of the tables where a unit was offered
+pub sent-frame : (after (settings 3 2 9 3) (tables (settings 3 2 9 3)) (adRequest (7 ∷ []) largestFrame ∷ [])) .frames ≡ frame ∷ []
+unfolding computing
+sent-frame = refl
+
+-- its CLTU, of two codeblocks, with bits of one octet wrong
 abbrev sent : List ℕ
 sent = cltuOf frame
 

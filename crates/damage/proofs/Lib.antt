@@ -4,6 +4,6 @@ pub mod Reading
 pub mod Refused
 pub mod Mended
 pub mod Written
-pub mod MendedExample
 pub mod Example
+pub mod MendedExample
 pub mod Arrival

@@ -23,10 +23,10 @@ use Rattle.randomizer.specs.Randomizer.{nextBit, later, octet, randomized}
 use Rattle.start_sequence.specs.StartSequence.{startSequence, recognized, starts, startOf}
 use Rattle.encoded_data.specs.EncodedData.{goodRun, informationIn, correctedIn}
 use Rattle.cltu.specs.Cltu.{filled, encoded, informationFor, cltuOf, tailSequence, readingRun, readingBy, reading}
-use Rattle.cltu.proofs.Examples.{frame}
 use Rattle.damage.specs.Damage.{eightAt}
 use Rattle.damage.specs.Few.{eight, FewWrong, FillerKept, changedIn}
 use Rattle.damage.proofs.Reading.{octets-cltu}
+use Rattle.damage.proofs.Example.{frame}
 
 abbrev wrongAt : ℕ → ℕ → List ℕ → List ℕ
 wrongAt place bits s = set s place (bitXor (getD s place 0) bits)
@@ -34,7 +34,7 @@ wrongAt place bits s = set s place (bitXor (getD s place 0) bits)
 octets-wrong : (place bits : ℕ) (s : List ℕ) → bits < 256 → Octets s → Octets (wrongAt place bits s)
 octets-wrong place bits s h o = below-set 256 s place (bitXor (getD s place 0) bits) o (xor-lt 8 (getD s place 0) bits (octets-at s o place) h)
 
--- the codeblocks and the tail of a CLTU: a wrong bit of information in the first, of parity in the second, and one in the tail
+-- the codeblocks and the tail of a frame's CLTU: a wrong bit of information in the first, of parity in the second, and one in the tail
 abbrev body : List ℕ
 body = wrongAt 20 0b0000_0100 (wrongAt 15 0b0100_0000 (wrongAt 3 0b0001_0000 (drop 2 (cltuOf frame))))
 
