@@ -24,6 +24,7 @@ use Rattle.receiver_octets.proofs.Restored.{receiver-back}
 use Rattle.session.specs.Ends.{Settings, Within, Tied, startReceiver, tables}
 use Rattle.session.specs.Session.{Event, begins, run}
 use Rattle.session.specs.Claims.{Claims}
+use Rattle.session.specs.Beyond.{Beyond}
 use Rattle.session.proofs.Theorem.{demand3}
 use Rattle.session.proofs.Strong.{stronger-claims}
 use Rattle.session.proofs.Beyond.{beyond}
@@ -159,6 +160,12 @@ pub demand3-fresh : (set : Settings) → Within set → set .count ≡ 1 → (st
     (run set (tables set) es (begins (tables set)))
 demand3-fresh set within one store long buffer sized es =
     demand3-called set within (startKept set store buffer) (fresh-called set within one store long buffer sized .begins) es
+
+-- and all that holds beyond it
+pub beyond-fresh : (set : Settings) → Within set → set .count ≡ 1 → (store : List ℕ) → smallestStore ≤ length store → (buffer : List ℕ)
+    → length buffer ≡ stateOctets → Beyond set (called set (startKept set store buffer))
+beyond-fresh set within one store long buffer sized =
+    beyond-called set within (startKept set store buffer) (fresh-called set within one store long buffer sized .begins)
 
 -- `pondreszi_receiver_new` gives the octets of the session's receiver, at a FARM-B counter of 0
 pub fresh-receiver : FreshReceiver

@@ -28,6 +28,7 @@ use Rattle.receiver.specs.declared.Start.the-variants.{Ready}
 use Rattle.session.specs.Ends.{Settings, Within, Tied, startSender, startReceiver, tables}
 use Rattle.session.specs.Session.{Event, begins, run}
 use Rattle.session.specs.Claims.{Claims}
+use Rattle.session.specs.Beyond.{Beyond}
 use Rattle.session.proofs.Theorem.{demand3}
 use Rattle.session.proofs.Strong.{stronger-claims}
 use Rattle.session.proofs.Beyond.{beyond}
@@ -175,3 +176,6 @@ pub demand3-fresh : (set : Settings) → Within set → set .count ≡ 1 → (st
     → Claims set (ours set (startHeld set store)) (run set (ours set (startHeld set store)) es (begins (ours set (startHeld set store))))
     (run set (tables set) es (begins (tables set)))
 demand3-fresh set within one store long es = demand3-ours set within (startHeld set store) (fresh-begins set within one store long) es
+
+pub beyond-fresh : (set : Settings) → Within set → set .count ≡ 1 → (store : List ℕ) → smallestStore ≤ length store → Beyond set (ours set (startHeld set store))
+beyond-fresh set within one store long = beyond-ours set within (startHeld set store) (fresh-begins set within one store long)
