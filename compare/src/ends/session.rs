@@ -274,7 +274,7 @@ impl Run {
                 return self.word_noise(octets, *room, outcome, before, random)
             }
             Event::Frame => return self.frame(outcome),
-            Event::FrameStays => return self.frame_stays(outcome),
+            Event::FrameStays { fill } => return self.frame_stays(fill, outcome),
             Event::FrameAgain { place } => return self.frame_again(*place, outcome),
             Event::Noise { octets } => return self.noise(octets, outcome),
             Event::FrameDamaged { bits } => return self.frame_damaged(bits, outcome),
@@ -358,9 +358,15 @@ impl Run {
         }
     }
 
-    fn frame_stays(&mut self, outcome: &Outcome) -> Vec<String> {
-        match self.ends.frames.front().cloned() {
-            Some(frame) if self.read(&frame).kind == frame::AD => self.arrive(&frame, outcome),
+    /// The oldest frame with octets behind it, if they are not too many for the library's reader.
+    fn oldest_filled(&self, fill: &[u8]) -> Option<Vec<u8>> {
+        let octets = [self.ends.frames.front()?, fill].concat();
+        (self.read(&octets).number != FILL).then_some(octets)
+    }
+
+    fn frame_stays(&mut self, fill: &[u8], outcome: &Outcome) -> Vec<String> {
+        match self.oldest_filled(fill) {
+            Some(octets) if self.read(&octets).kind == frame::AD => self.arrive(&octets, outcome),
             _ => expect_nothing(outcome),
         }
     }
@@ -421,16 +427,12 @@ impl Run {
         self.noise(&octets, outcome)
     }
 
-    /// The oldest frame comes with octets behind it, if they are not too many for the library's
-    /// reader. The unit's place and count are those in the frame alone.
+    /// The oldest frame comes with octets behind it. The unit's place and count are those in
+    /// the frame alone.
     fn frame_filled(&mut self, fill: &[u8], outcome: &Outcome) -> Vec<String> {
-        let Some(frame) = self.ends.frames.front() else {
+        let Some(octets) = self.oldest_filled(fill) else {
             return expect_nothing(outcome);
         };
-        let octets = [frame, fill].concat();
-        if self.read(&octets).number == FILL {
-            return expect_nothing(outcome);
-        }
         self.ends.frames.pop_front();
         self.arrive(&octets, outcome)
     }

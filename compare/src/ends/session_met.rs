@@ -25,8 +25,9 @@ pub struct Met {
     /// The numbers with which noise is refused.
     noise: Counts,
     word_noise: Counts,
-    /// The octets behind the frames that are filled.
+    /// The octets behind the frames that are filled, and behind those that stay.
     fill: Counts,
+    stays_fill: Counts,
     refusals: Counts,
     rows: Counts,
     farm: Counts,
@@ -67,6 +68,10 @@ const KINDS: [&str; 11] = [
     "word lost",
 ];
 
+fn fills() -> impl Iterator<Item = String> {
+    (0..=FILL_MOST).map(|n| n.to_string())
+}
+
 impl Met {
     pub fn new(events: u64) -> Met {
         let of_farm = [
@@ -90,7 +95,8 @@ impl Met {
             nothing: Counts::new("nothing", BEYOND.iter().map(|name| name.to_string())),
             noise: Counts::new("noise", NOISE.into_iter().map(refusal)),
             word_noise: Counts::new("word noise", [ADDRESS, LENGTH].into_iter().map(refusal)),
-            fill: Counts::new("octets of fill", (0..=FILL_MOST).map(|n| n.to_string())),
+            fill: Counts::new("octets of fill", fills()),
+            stays_fill: Counts::new("octets of fill where a frame stays", fills()),
             refusals: Counts::new("refusals", refusals.into_iter().map(refusal)),
             rows: Counts::new("rows", ROWS.iter().map(|row| format!("E{row}"))),
             farm: Counts::new(
@@ -118,7 +124,7 @@ impl Met {
             Event::Report => "report",
             Event::FrameLost => "frame lost",
             Event::WordLost => "word lost",
-            Event::FrameStays => "frame stays",
+            Event::FrameStays { .. } => "frame stays",
             Event::WordStays { .. } => "word stays",
             Event::FrameAgain { .. } => "frame again",
             Event::Noise { .. } => "noise",
@@ -142,8 +148,10 @@ impl Met {
             let number = session.refusal_of_frame(octets).unwrap_or(DONE);
             self.noise.meet(&refusal(number));
         }
-        if let Event::FrameFilled { fill } = event {
-            self.fill.meet(&fill.len().to_string());
+        match event {
+            Event::FrameFilled { fill } => self.fill.meet(&fill.len().to_string()),
+            Event::FrameStays { fill } => self.stays_fill.meet(&fill.len().to_string()),
+            _ => (),
         }
         if let Some(answer) = &outcome.sender {
             self.refusals.meet(&refusal(answer.refusal));
@@ -179,6 +187,7 @@ impl Met {
             self.noise,
             self.word_noise,
             self.fill,
+            self.stays_fill,
             self.refusals,
             self.rows,
             self.farm,

@@ -68,8 +68,11 @@ pub enum Event {
     Report,
     FrameLost,
     WordLost,
-    /// The oldest frame comes to the receiver and stays, if it is an AD frame.
-    FrameStays,
+    /// The oldest frame comes to the receiver with these octets behind it and stays as it is,
+    /// if it is an AD frame and its reader does not refuse it.
+    FrameStays {
+        fill: Vec<u8>,
+    },
     /// The oldest word comes to the sender and stays.
     WordStays {
         room: usize,
@@ -321,16 +324,22 @@ impl Session {
                 Some(octets) => self.arrive(octets, fault),
                 None => Outcome::default(),
             },
-            Event::FrameStays => match self.frames.front().cloned() {
-                Some(octets) if is_ad(&octets) || fault == Fault::SessionBdFrameStays => {
-                    self.arrive(octets, fault)
+            Event::FrameStays { fill } => match self.frames.front() {
+                Some(octets) if is_ad(octets) || fault == Fault::SessionBdFrameStays => {
+                    self.filled(fill, fault).unwrap_or_default()
                 }
                 _ => Outcome::default(),
             },
             Event::FrameAgain { place } => self.put_again(*place, fault),
             Event::Noise { octets } => self.noise(octets.clone(), fault),
             Event::FrameDamaged { bits } => self.damaged(bits, fault),
-            Event::FrameFilled { fill } => self.filled(fill, fault),
+            Event::FrameFilled { fill } => match self.filled(fill, fault) {
+                Some(outcome) => {
+                    self.frames.pop_front();
+                    outcome
+                }
+                None => Outcome::default(),
+            },
             Event::Release => self.release(fault),
             Event::Report => self.report(),
             Event::FrameLost => {
@@ -434,15 +443,13 @@ impl Session {
         }
     }
 
-    fn filled(&mut self, fill: &[u8], fault: Fault) -> Outcome {
-        let Some(sent) = self.frames.front() else {
-            return Outcome::default();
-        };
-        let octets = [sent, fill].concat();
+    /// The oldest frame comes to the receiver with these octets behind it, unless its reader
+    /// refuses it. It is still under way.
+    fn filled(&mut self, fill: &[u8], fault: Fault) -> Option<Outcome> {
+        let octets = [self.frames.front()?, fill].concat();
         if self.refusal_of_frame(&octets).is_some() {
-            return Outcome::default();
+            return None;
         }
-        self.frames.pop_front();
         let mut outcome = self.arrive(octets, fault);
         if fault == Fault::SessionFillCounts {
             let received = outcome.receiver.as_mut();
@@ -450,7 +457,7 @@ impl Session {
                 unit.data.extend(fill);
             }
         }
-        outcome
+        Some(outcome)
     }
 
     fn release(&mut self, fault: Fault) -> Outcome {

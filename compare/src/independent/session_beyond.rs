@@ -80,9 +80,14 @@ impl Checker {
         self.is_e9_alone(before, outcome)
     }
 
-    /// A frame with 0 to 6 octets behind it gives what the frame alone gives; with more it is
-    /// nothing.
-    pub(super) fn filled_is_the_frame_alone(&mut self, fill: &[u8], outcome: &Outcome) -> Claim {
+    /// A frame with 0 to 6 octets behind it gives what the frame alone gives, also where it
+    /// stays; with more it is nothing.
+    pub(super) fn filled_is_the_frame_alone(&mut self, event: &Event, outcome: &Outcome) -> Claim {
+        let (fill, without) = match event {
+            Event::FrameFilled { fill } => (fill, Event::Frame),
+            Event::FrameStays { fill } => (fill, Event::FrameStays { fill: Vec::new() }),
+            _ => return Ok(()),
+        };
         let Some(sent) = self.table.frames.front() else {
             return claim(*outcome == Outcome::default(), "no filled frame comes");
         };
@@ -90,17 +95,19 @@ impl Checker {
             self.met.too_much_fill += 1;
             return claim(*outcome == Outcome::default(), "too much fill is nothing");
         }
-        let octets = [sent, fill].concat();
-        match is_ad(sent) {
-            true => self.met.ad_filled += 1,
-            false => self.met.bd_filled += 1,
+        let octets = [&sent[..], fill].concat();
+        match (event, is_ad(sent)) {
+            (Event::FrameStays { .. }, true) if !fill.is_empty() => self.met.stays_filled += 1,
+            (Event::FrameFilled { .. }, true) => self.met.ad_filled += 1,
+            (Event::FrameFilled { .. }, false) => self.met.bd_filled += 1,
+            _ => (),
         }
-        let fill = fill.to_vec();
         let (mut filled, mut alone) = (self.table.clone(), self.table.clone());
-        filled.step(&Event::FrameFilled { fill }, Fault::None);
+        filled.step(event, Fault::None);
+        let given = alone.step(&without, Fault::None);
         let expected = Outcome {
-            frame: Some(octets),
-            ..alone.step(&Event::Frame, Fault::None)
+            frame: given.frame.as_ref().map(|_| octets),
+            ..given
         };
         claim(
             filled == alone && *outcome == expected,
@@ -137,9 +144,9 @@ impl Checker {
         claim(same, "word noise changes neither end")
     }
 
-    /// At most K units are accepted and not confirmed. In S6 with no AD frame under way, a
-    /// denied unit is on board exactly when its number is one to K before V(R), and no other
-    /// unit is accepted unless the recorder puts a frame there.
+    /// At most K units are accepted and not confirmed. In S6 a denied unit is on board exactly
+    /// when its number is one to K before V(R); with no AD frame under way no more is accepted
+    /// unless the recorder puts a frame there.
     pub(super) fn what_denied_means(&mut self, outcome: &Outcome) -> Claim {
         let (accepted, k) = (self.accepted.len(), self.settings.k);
         claim(
@@ -153,10 +160,13 @@ impl Checker {
             self.settled.is_none_or(|settled| accepted == settled),
             "in S6 with no AD frame under way no more is accepted",
         )?;
-        if self.table.sender.state != State::S6 || !self.table.no_ad_frame() {
+        if self.table.sender.state != State::S6 {
             return Ok(());
         }
-        self.settled = Some(accepted);
+        let under_way = !self.table.no_ad_frame();
+        if !under_way {
+            self.settled = Some(accepted);
+        }
         for place in &self.denied {
             let on_board = *place < accepted;
             let behind = fop1::distance(self.table.receiver.v_r, self.sent[*place].number);
@@ -164,9 +174,11 @@ impl Checker {
                 on_board == (1..=k).contains(&usize::from(behind)),
                 "a denied unit is on board when its number is before V(R)",
             )?;
-            match on_board {
-                true => self.met.denied_on_board += 1,
-                false => self.met.denied_not_on_board += 1,
+            match (on_board, under_way) {
+                (true, false) => self.met.denied_on_board += 1,
+                (false, false) => self.met.denied_not_on_board += 1,
+                (true, true) => self.met.early_on_board += 1,
+                (false, true) => self.met.early_not_on_board += 1,
             }
         }
         Ok(())

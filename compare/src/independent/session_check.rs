@@ -43,10 +43,14 @@ pub struct Met {
     /// Frames with fill behind them, and with more than fill can be, which are nothing.
     pub ad_filled: usize,
     pub bd_filled: usize,
+    pub stays_filled: usize,
     pub too_much_fill: usize,
     /// In S6 with no AD frame under way, units denied that are on board, and that are not.
     pub denied_on_board: usize,
     pub denied_not_on_board: usize,
+    /// The same while an AD frame is under way.
+    pub early_on_board: usize,
+    pub early_not_on_board: usize,
     /// Passes, and the units of them.
     pub passes: usize,
     pub passed_units: usize,
@@ -54,7 +58,7 @@ pub struct Met {
 
 impl Met {
     /// Each with its name.
-    pub fn named(&self) -> [(&'static str, usize); 19] {
+    pub fn named(&self) -> [(&'static str, usize); 22] {
         [
             ("accepts", self.accepts),
             ("discards", self.discards),
@@ -70,9 +74,15 @@ impl Met {
             ("frame damaged", self.damaged),
             ("AD frame filled", self.ad_filled),
             ("BD frame filled", self.bd_filled),
+            ("frame stays filled", self.stays_filled),
             ("too much fill", self.too_much_fill),
             ("denied on board", self.denied_on_board),
             ("denied not on board", self.denied_not_on_board),
+            ("denied on board, frames under way", self.early_on_board),
+            (
+                "denied not on board, frames under way",
+                self.early_not_on_board,
+            ),
             ("passes", self.passes),
             ("units of passes", self.passed_units),
         ]
@@ -155,14 +165,12 @@ impl Checker {
         if let Event::FrameDamaged { bits } = event {
             self.damage_is_noise_and_loss(bits)?;
         }
-        if let Event::FrameFilled { fill } = event {
-            self.filled_is_the_frame_alone(fill, outcome)?;
-        }
+        self.filled_is_the_frame_alone(event, outcome)?;
         self.table.step(event, Fault::None);
         self.write_histories(outcome)?;
         self.never_locked_out(outcome)?;
         match event {
-            Event::Frame | Event::FrameStays | Event::FrameFilled { .. } => {
+            Event::Frame | Event::FrameStays { .. } | Event::FrameFilled { .. } => {
                 self.accepts_exactly(&before, outcome)?
             }
             Event::AdRequest { unit, room } => self.sends_at_once(&before, unit, *room, outcome)?,

@@ -10,8 +10,8 @@ use crate::cltu;
 use crate::fault::Fault;
 use crate::fecf::{self, FECF_BITS};
 use crate::frame::{
-    self, Content, BYPASS_FLAG, CONTROL_COMMAND_FLAG, FILL_MOST, FRAME_LENGTH, RESERVED_SPARE,
-    VERSION_NUMBER,
+    self, Content, BYPASS_FLAG, CONTROL_COMMAND_FLAG, FILL_MOST, FRAME_LENGTH,
+    FRAME_SEQUENCE_NUMBER, RESERVED_SPARE, VERSION_NUMBER,
 };
 use crate::session::{inverted, Session};
 use crate::session_random::{between, Draw};
@@ -63,12 +63,15 @@ pub fn noise(draw: Draw, session: &Session) -> Vec<u8> {
         8 => too_much_fill(draw, session),
         9 => wrong_header(draw, session),
         10 => too_long(draw, session),
-        // A frame that is not refused, or a BC frame that carries no command.
+        // A frame that is not refused, or as a BC frame: most have the number of an AD frame,
+        // others carry no command.
         _ => {
             let frame = under_way_or_new(draw, session);
+            let (bypass, command) = ((BYPASS_FLAG, 1), (CONTROL_COMMAND_FLAG, 1));
             match draw(3) {
                 0 => frame,
-                _ => changed(frame, &[(BYPASS_FLAG, 1), (CONTROL_COMMAND_FLAG, 1)]),
+                1 => changed(frame, &[bypass, command]),
+                _ => changed(frame, &[bypass, command, (FRAME_SEQUENCE_NUMBER, 0)]),
             }
         }
     }

@@ -237,7 +237,12 @@ fn drawn(draw: Draw, shares: &[usize; KINDS], session: &Session) -> Event {
         13 => Event::Report,
         14 if draw(2) == 0 => Event::FrameLost,
         14 => Event::WordLost,
-        BEYOND => Event::FrameStays,
+        BEYOND => Event::FrameStays {
+            fill: match draw(2) {
+                0 => Vec::new(),
+                _ => fill(draw),
+            },
+        },
         16 => Event::WordStays { room: room(draw) },
         17 => Event::FrameAgain {
             place: place(draw, session),

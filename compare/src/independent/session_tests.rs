@@ -33,6 +33,13 @@ fn accept() -> Event {
     }
 }
 
+/// With so many octets of fill.
+fn frame_stays(count: usize) -> Event {
+    Event::FrameStays {
+        fill: vec![0x55; count],
+    }
+}
+
 fn settings() -> Settings {
     Settings {
         spacecraft: 1,
@@ -129,7 +136,7 @@ fn empty_channels_give_nothing() {
     let damaged = Event::FrameDamaged { bits: Vec::new() };
     let lost = [Event::FrameLost, Event::WordLost];
     let filled = Event::FrameFilled { fill: Vec::new() };
-    let of_channels = [Event::Frame, word, Event::FrameStays, stays, again];
+    let of_channels = [Event::Frame, word, frame_stays(0), stays, again];
     let changed = [damaged, filled];
     for event in of_channels.into_iter().chain(changed).chain(lost) {
         let (session, _, outcomes) = run(&settings(), &[event]);
@@ -204,13 +211,13 @@ fn frames_and_words_stay() {
     let events = [
         ad(0),
         bd,
-        Event::FrameStays,
-        Event::FrameStays,
+        frame_stays(0),
+        frame_stays(6),
         Event::Report,
         stays.clone(),
         stays,
         Event::Frame,
-        Event::FrameStays,
+        frame_stays(2),
     ];
     let (session, checker, outcomes) = run(&settings(), &events);
     let farm = |n: usize| outcomes[n].receiver.as_ref().unwrap().event;
@@ -321,6 +328,41 @@ fn fill_behind_a_frame() {
             }
         }
     }
+}
+
+// The like of a frame that stays: it is still under way without fill.
+#[test]
+fn frames_stay_with_fill() {
+    let (stayed, _, alone) = run(&settings(), &[ad(0), frame_stays(0)]);
+    for count in 0..=6 {
+        let (session, _, outcomes) = run(&settings(), &[ad(0), frame_stays(count)]);
+        assert_eq!(session, stayed);
+        assert_eq!(outcomes[1].receiver, alone[1].receiver);
+        let octets = [&stayed.frames[0][..], &vec![0x55; count]].concat();
+        assert_eq!(outcomes[1].frame, Some(octets));
+    }
+    let (sent, _, _) = run(&settings(), &[ad(0)]);
+    for count in [7, 14] {
+        let (session, _, outcomes) = run(&settings(), &[ad(0), frame_stays(count)]);
+        assert_eq!(outcomes[1], Outcome::default());
+        assert_eq!(session, sent);
+    }
+}
+
+// What a denied unit means holds while its frame is under way: it comes on board when the frame
+// arrives.
+#[test]
+fn denied_and_under_way() {
+    let events = [ad(0), Event::Terminate, Event::Frame];
+    let (_, mut checker, _) = run(&settings(), &events[..2]);
+    let met = (checker.met.early_on_board, checker.met.early_not_on_board);
+    assert_eq!(met, (0, 1));
+    checker.table.receiver.v_r = 0;
+    let nothing = (Event::WordLost, Outcome::default());
+    assert!(checker.check(&nothing.0, &nothing.1).is_err());
+    let (_, checker, _) = run(&settings(), &events);
+    assert_eq!((checker.denied.len(), checker.accepted.len()), (1, 1));
+    assert_eq!(checker.met.denied_on_board, 1);
 }
 
 // Of two units denied the first is on board, and a wrong V(R) would tell otherwise.
