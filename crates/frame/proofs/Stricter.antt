@@ -1,11 +1,11 @@
 -- What document 02's order 10 changes of reading, and that it changes no more (`bounded`): for any octets and address the answer is what it
 -- was before, or it is 6 where the former answer was 0, 7 or 9 and the frame is type B with a sequence octet that is not zero. There it
--- does change (`changed`), and each of the three does occur (`each-occurs`). The former rule stands here for this alone: the same checks in
--- the same order but for the one.
+-- does change (`changed`), and each of the three does occur (`each-occurs`). The same holds of the whole answer, with fields and data part
+-- (`bounded-answer`). The former rule stands here for this alone: the same checks in the same order but for the one.
 use mathlib.Core.Path.{_≡_, refl, sym, ap, _∙_}
 use mathlib.Core.Bool.{Bool, true, false}
 use mathlib.Core.List.{List, [], _∷_, _++_}
-use mathlib.Core.Logic.{_⊎_, inl, inr}
+use mathlib.Core.Logic.{_⊎_, inl, inr, ⊎-elim}
 use Prim.Native.Nat.{ℕ, _+_}
 use native.Mathlib.Omega.{arith}
 use borrow.Author.Tests.{eqb-true, eqb-false, eq-eqb, ne-eqb}
@@ -20,6 +20,9 @@ use Rattle.base.proofs.Tests.{apart, both-false}
 use Rattle.fecf.specs.Fecf.{fecfOf, syndromeOf}
 use Rattle.frame_header.specs.Header.{headerLength, version, bypassFlag, controlCommandFlag, reservedSpare, spacecraftIdentifier, virtualChannelIdentifier, frameSequenceNumber, validCombination, validNumber, validHeader}
 use Rattle.frame.specs.Frame.{totalOf, dataField, isCommand, commandHeld, headerRefusal, contentRefusal, refusalOf}
+use Rattle.frame.specs.Answers.{fieldsOf, readingOf, partOf}
+use Rattle.frame.specs.declared.FrameReading.{FrameReading}
+use Rattle.frame.specs.declared.FrameReading.the-variants.{Frame, Refused}
 use Rattle.frame.proofs.Examples.{checked}
 use Rattle.frame.proofs.Refuted.{numbered}
 
@@ -51,6 +54,15 @@ checksBehind octets spacecraft channel =
 -- the answer as it was
 unfoldable pub formerRefusal : List ℕ → ℕ → ℕ → ℕ
 formerRefusal octets spacecraft channel = checksBefore octets (must (formerValid octets) 6 (checksBehind octets spacecraft channel))
+
+-- and with it the fields, or the refusal by its number
+unfoldable pub formerReading : List ℕ → ℕ → ℕ → FrameReading
+formerReading octets spacecraft channel =
+    pick (eqb (formerRefusal octets spacecraft channel) 0) (Frame (fieldsOf octets)) (Refused (formerRefusal octets spacecraft channel))
+
+-- and the data field; after a refusal it is empty
+unfoldable pub formerPart : List ℕ → ℕ → ℕ → List ℕ
+formerPart octets spacecraft channel = pick (eqb (formerRefusal octets spacecraft channel) 0) (dataField octets (totalOf octets)) []
 
 -- an answer of the checks behind 6
 abbrev pub Behind : ℕ → Type 0
@@ -162,6 +174,13 @@ module _ (octets : List ℕ) where
         ∙ all-passed
         (λ _. ap (λ (v : Bool). must v 6 (checksBehind octets spacecraft channel)) (ap (both (formerValid octets)) (zero-not h) ∙ both-false (formerValid octets)))
         b
+
+    -- so of the whole answer: fields or number, and the data part, as they were; or 6 and an empty part
+    pub bounded-answer :
+        ((readingOf octets spacecraft channel ≡ formerReading octets spacecraft channel) × (partOf octets spacecraft channel ≡ formerPart octets spacecraft channel))
+        ⊎ ((readingOf octets spacecraft channel ≡ Refused 6) × ((partOf octets spacecraft channel ≡ []) × (Behind (formerRefusal octets spacecraft channel) × NumberedTypeB octets)))
+    unfolding readingOf partOf formerReading formerPart
+    bounded-answer = ⊎-elim (λ e. inl (rw e, rw e)) (λ h. inr (rw (h .0), (rw (h .0), h .1))) bounded
 
 -- a BD frame with sequence octet 1 was read; to another spacecraft it was 7; a BC frame with it and no command was 9
 abbrev pub noCommand : List ℕ
