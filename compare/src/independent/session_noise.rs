@@ -200,10 +200,15 @@ fn wrong_check(draw: Draw, session: &Session) -> Vec<u8> {
 
 fn wrong_header(draw: Draw, session: &Session) -> Vec<u8> {
     let frame = under_way_or_new(draw, session);
-    match draw(3) {
+    match draw(4) {
         0 => changed(frame, &[(VERSION_NUMBER, between(draw, 1, 3))]),
         1 => changed(frame, &[(RESERVED_SPARE, between(draw, 1, 3))]),
-        _ => changed(frame, &[(BYPASS_FLAG, 0), (CONTROL_COMMAND_FLAG, 1)]),
+        2 => changed(frame, &[(BYPASS_FLAG, 0), (CONTROL_COMMAND_FLAG, 1)]),
+        // A type-B frame, most often BD, with a sequence octet that is not zero.
+        _ => {
+            let number = (FRAME_SEQUENCE_NUMBER, between(draw, 1, 255));
+            changed(frame, &[(BYPASS_FLAG, 1), number])
+        }
     }
 }
 
