@@ -44,7 +44,7 @@ fn control_octet(frame: &[u8], sequence: &[u8], b: usize) -> u8
         information[i] = information_octet(frame, sequence, 7 * b + i);
         i += 1;
     }
-    codeblock::error_control(&information)
+    encoded_data::block::error_control(&information)
 }
 
 // The octet at a place of the CLTU.

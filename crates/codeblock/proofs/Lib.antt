@@ -4,6 +4,7 @@ pub mod Flipped
 pub mod Sums
 pub mod SingleBits
 pub mod Syndrome
+pub mod ByTable
 pub mod Modes
 pub mod Received
 pub mod Refuted

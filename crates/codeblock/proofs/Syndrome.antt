@@ -72,10 +72,6 @@ module _ (block : List ℕ) (l : length block ≡ 8) (h : Octets block) where
       ∙ ap (λ (x : ℕ). eqb x 0) (syndrome-flipped i k ∙ xor-comm (syndromeOf block) (columnOf i))
       ∙ xor-test (columnOf i) (syndromeOf block)
 
--- the bit whose column is a syndrome, among these columns; a table by half the syndrome
-abbrev pub bitFor : List ℕ → ℕ → ℕ
-bitFor columns half = placeIn 0 columns (half * 2)
-
 -- the judgement by the bit that was found
 abbrev pub mendedAt : ℕ → List ℕ → Judged
 mendedAt i block = pick (eqb i 64) bad (good (take 7 (flipped i block)) 1)
@@ -108,14 +104,10 @@ none-found v none = go 63 0 (omega arith)
         ∙ go n (suc i) (omega arith)
 
 -- as for an odd one
-odd-none : (v : ℕ) → v % 2 ≡ 1 → (i : ℕ) → i < 63 → columnOf i ≡ v → ⊥
+pub odd-none : (v : ℕ) → v % 2 ≡ 1 → (i : ℕ) → i < 63 → columnOf i ≡ v → ⊥
 odd-none v o i k e =
     let z : columnOf i % 2 ≡ v % 2 = ap (λ (x : ℕ). x % 2) e in
     omega (arith, z, o, single-bits i (omega arith) .filler)
-
--- a table's entry
-pub entry : (f : ℕ → ℕ) (n k : ℕ) → k < n → getD (tabulate f n 0) k 0 ≡ f k
-entry f n k h = getD-tabulate f n 0 k h ∙ ap f (zero-add k)
 
 -- the syndrome by the error control octet
 pub by-control : (block : List ℕ) {e : ℕ} → e ≡ errorControl (take 7 block) → bitXor (getD block 7 0) e ≡ syndromeOf block
@@ -129,12 +121,3 @@ module _ (block : List ℕ) (l : length block ≡ 8) {v : ℕ} (e : v ≡ syndro
 
   pub judged-other : (mode : Mode) → (v ≡ 0 → ⊥) → judged mode block ≡ otherwise mode block
   judged-other mode n = other-judged mode block (encoding-syndrome block l ∙ ne-eqb (syndromeOf block) 0 (λ z. n (e ∙ z)))
-
-  -- and mended by a table of bits
-  pub mended-odd : Octets block → v % 2 ≡ 1 → mended 63 0 block ≡ bad
-  mended-odd h o = mended-search block l h ∙ ap (λ (i : ℕ). mendedAt i block) (none-found (syndromeOf block) (odd-none (syndromeOf block) (ap (λ (x : ℕ). x % 2) (sym e) ∙ o)))
-
-  pub mended-table : Octets block → v % 2 ≡ 0 → {i : ℕ} → i ≡ bitFor columns63 (v / 2) → mended 63 0 block ≡ mendedAt i block
-  mended-table h o {i} t =
-      let d : syndromeOf block ≡ v / 2 * 2 = omega (arith, e) in
-      mended-search block l h ∙ ap (λ (x : ℕ). mendedAt (placeIn 0 columns63 x) block) d ∙ ap (λ (x : ℕ). mendedAt x block) (sym t)

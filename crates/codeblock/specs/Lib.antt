@@ -1,1 +1,2 @@
 pub mod Codeblock
+pub mod Table

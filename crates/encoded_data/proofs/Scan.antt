@@ -6,7 +6,8 @@ use Prim.Native.Nat.{ℕ, zero, suc, _+_, _-_, _*_, _/_, _<_, _≤_}
 use native.Mathlib.Nat.{not-suc-le-zero, zero-add, add-zero, add-assoc, mul-suc}
 use native.Mathlib.Numerals.{add-one}
 use native.Mathlib.Omega.{arith}
-use borrow.Author.Tests.{le-leb, lt-leb}
+use borrow.Author.Tests.{le-leb, lt-leb, leb-true}
+use lib.Dec.{leb}
 use lib.ListN.{length, take, drop, length-append}
 use lib.Seq.{take-at, drop-drop}
 use Rattle.base.specs.Choice.{pick}
@@ -181,6 +182,14 @@ whole-room octets room h = simp (le-leb (7 * (octets / 8)) room h)
 
 pub whole-none : (octets room : ℕ) → room < 7 * (octets / 8) → wholeIn octets room ≡ 0
 whole-none octets room h = simp (lt-leb (7 * (octets / 8)) room h)
+
+-- they are there, and there is room for them
+pub whole-fits : (octets room : ℕ) → (8 * wholeIn octets room ≤ octets) × (7 * wholeIn octets room ≤ room)
+whole-fits octets room = go (leb (7 * (octets / 8)) room) refl
+  where
+    go : (b : Bool) → leb (7 * (octets / 8)) room ≡ b → (8 * pick b (octets / 8) 0 ≤ octets) × (7 * pick b (octets / 8) 0 ≤ room)
+    go true e = (omega arith, leb-true (7 * (octets / 8)) room e)
+    go false e = (omega arith, omega arith)
 
 -- the run of all whole codeblocks, where there is room
 pub run-whole : (judge : List ℕ → Judged) (s : List ℕ) {n room : ℕ} → n ≡ goodRun judge (wholeIn (length s) room) s → 7 * (length s / 8) ≤ room

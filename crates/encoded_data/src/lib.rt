@@ -1,12 +1,22 @@
 // Clause 8.3, Encoded Data, and clause 8.7, state S3: the good codeblocks at the front of an input, taken one by one, and their information
 // derandomized (clause 8.4).
+pub mod block;
+mod table;
+
+use crate::block::corrections;
+use crate::block::invert;
+use crate::block::wrong_bit;
+use crate::table::BITS;
+use crate::table::NO_BIT;
+use crate::table::PARITIES;
 use codeblock::Mode;
 use randomizer::PERIOD;
 ghost use mathlib.Core.Path.{_≡_};
-ghost use Prim.Native.Nat.{_*_, _≤_};
+ghost use Prim.Native.Nat.{_+_, _*_, _≤_};
 ghost use mathlib.Core.List.{_++_};
 ghost use lib.ListN.{length, drop};
-ghost use Rattle.codeblock.specs.Codeblock.{judged};
+ghost use Rattle.codeblock.specs.Codeblock.{flipped, judged};
+ghost use Rattle.codeblock.specs.Table.{ParityTable, BitTable};
 ghost use Rattle.memory.specs.Placed.{placed};
 ghost use Rattle.randomizer.specs.Randomizer.{randomized, sequenceOf};
 ghost use Rattle.encoded_data.specs.EncodedData.{goodRun, informationIn, correctedIn, wholeIn};
@@ -17,9 +27,26 @@ pub struct Run {
     pub corrected: usize,
 }
 
+// Puts the information of a codeblock into memory at a place, the wrong bit inverted.
+fn put_information(memory: &mut [u8], place: usize, information: &[u8], bit: u8)
+    requires { ⌜ place + length (now information) ≤ length (now memory) ⌝ }
+    ensures { λ _. ⌜ now (memory .exit) ≡ placed (now (memory .entry)) place (flipped bit (now (information .entry))) ⌝ }
+{
+    memory::put(memory, place, information);
+    let end = place + information.len();
+    invert(&mut memory[place..end], bit);
+}
+
 // Takes the good ones of so many codeblocks, each judged once in the mode; their information to the front of the lent memory.
-fn take(input: &[u8], mode: Mode, whole: usize, information: &mut [u8]) -> Run
-    requires { ⌜ (8 * whole ≤ length (now input)) × (7 * whole ≤ length (now information)) ⌝ }
+fn take(
+    parities: &[u8; 256],
+    bits: &[u8; 128],
+    input: &[u8],
+    mode: Mode,
+    whole: usize,
+    information: &mut [u8],
+) -> Run
+    requires { ⌜ ParityTable (now parities) × BitTable (now bits) × (8 * whole ≤ length (now input)) × (7 * whole ≤ length (now information)) ⌝ }
     ensures run { λ r. ⌜ (r .blocks ≡ goodRun (judged mode) whole (now (input .entry))) × (r .corrected ≡ correctedIn (judged mode) (r .blocks) (now (input .entry))) ⌝ }
     ensures memory { λ r. ⌜ now (information .exit) ≡ informationIn (judged mode) (r .blocks) (now (input .entry)) ++ drop (length (informationIn (judged mode) (r .blocks) (now (input .entry)))) (now (information .entry)) ⌝ }
 {
@@ -28,16 +55,16 @@ fn take(input: &[u8], mode: Mode, whole: usize, information: &mut [u8]) -> Run
     while n < whole {
         let at = 8 * n;
         let end = at + 8;
-        let block = codeblock::judge(&input[at..end], mode);
-        if !block.good {
+        let bit = wrong_bit(parities, bits, &input[at..end], mode);
+        if bit == NO_BIT {
             return Run {
                 blocks: n,
                 corrected: corrected,
             };
         }
-        let seven = block.information;
-        memory::put(information, 7 * n, &seven);
-        corrected += block.corrected as usize;
+        let seven = at + 7;
+        put_information(information, 7 * n, &input[at..seven], bit);
+        corrected += corrections(bit) as usize;
         n += 1;
     }
     Run {
@@ -46,17 +73,25 @@ fn take(input: &[u8], mode: Mode, whole: usize, information: &mut [u8]) -> Run
     }
 }
 
+// How many codeblocks are whole in so many octets; none where a room is too short for the information of all.
+fn whole_in(octets: usize, room: usize) -> usize
+    ensures { λ r. ⌜ r ≡ wholeIn octets room ⌝ }
+{
+    let whole = octets / 8;
+    if room < 7 * whole {
+        return 0;
+    }
+    whole
+}
+
 // Takes the good codeblocks at the front of the input, judged in the mode; their information to the front of the lent memory. Takes none where the memory
 // has no room for all whole codeblocks.
 pub fn take_good(input: &[u8], mode: Mode, information: &mut [u8]) -> Run
     ensures run { λ r. ⌜ (r .blocks ≡ goodRun (judged mode) (wholeIn (length (now (input .entry))) (length (now (information .entry)))) (now (input .entry))) × (r .corrected ≡ correctedIn (judged mode) (r .blocks) (now (input .entry))) ⌝ }
     ensures memory { λ r. ⌜ now (information .exit) ≡ informationIn (judged mode) (r .blocks) (now (input .entry)) ++ drop (length (informationIn (judged mode) (r .blocks) (now (input .entry)))) (now (information .entry)) ⌝ }
 {
-    let whole = input.len() / 8;
-    if information.len() < 7 * whole {
-        return take(input, mode, 0, information);
-    }
-    take(input, mode, whole, information)
+    let whole = whole_in(input.len(), information.len());
+    take(&PARITIES, &BITS, input, mode, whole, information)
 }
 
 // The information exclusive or the sequence, at the front of the output.

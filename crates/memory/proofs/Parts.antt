@@ -1,6 +1,6 @@
 -- What memory holds after octets were placed into it: them at their place, before and behind them what was there; and octets placed where they
 -- stand change nothing. Each is said of any octets; where they do not fit the memory is as it was.
-use mathlib.Core.Path.{_≡_, refl, sym, ap, subst, _∙_}
+use mathlib.Core.Path.{_≡_, refl, sym, ap, ap₂, subst, _∙_}
 use mathlib.Core.Bool.{Bool, true, false}
 use mathlib.Core.List.{List, [], _++_, append-assoc}
 use Prim.Native.Nat.{ℕ, _+_, _-_, _≤_}
@@ -76,6 +76,19 @@ module _ (memory : List ℕ) (place : ℕ) (octets : List ℕ) where
   -- what stands behind them stays
   pub placed-after : (n : ℕ) → end ≤ n → drop n (placed memory place octets) ≡ drop n memory
   placed-after n h = by-fit (λ (s : List ℕ). drop n s ≡ drop n memory) memory place octets (λ f. behind-fits f n h) refl
+
+-- as many others written over the octets placed
+pub placed-over : (memory : List ℕ) (place : ℕ) (octets others : List ℕ) → length others ≡ length octets → place + length octets ≤ length memory
+    → take place (placed memory place octets) ++ (others ++ drop (length octets) (drop place (placed memory place octets))) ≡ placed memory place others
+placed-over memory place octets others l h =
+    let p = placed memory place octets in
+    let b : drop (length octets) (drop place p) ≡ drop (place + length others) memory =
+    drop-drop (length octets) place p
+    ∙ placed-after memory place octets (place + length octets) (omega arith)
+    ∙ ap (λ (n : ℕ). drop (place + n) memory) (sym l) in
+    ap₂ (λ (x y : List ℕ). x ++ (others ++ y)) (placed-before memory place octets 0 place (omega arith)) b
+    ∙ sym (append-assoc (take place memory) others (drop (place + length others) memory))
+    ∙ sym (placed-fits memory place others (omega arith))
 
 -- octets placed where they stand already
 pub placed-own : (memory : List ℕ) (place m : ℕ) → placed memory place (take m (drop place memory)) ≡ memory

@@ -24,7 +24,7 @@ ghost use Rattle.pondreszi_numbers.specs.Numbers.{cltuReading, codeblockJudging
 pub extern "C" fn pondreszi_codeblock_error_control(information: &[u8]) -> u8
     ensures { λ r. ⌜ r ≡ errorControl (now (information .entry)) ⌝ }
 {
-    codeblock::error_control(information)
+    encoded_data::block::error_control(information)
 }
 
 #[no_mangle]
@@ -46,7 +46,7 @@ pub extern "C" fn pondreszi_codeblock_judge(
         return 12;
     }
     let chosen = mode_of(mode);
-    let judged = codeblock::judge(block, chosen);
+    let judged = encoded_data::block::judge(block, chosen);
     told_judged(judged, information, corrected)
 }
 

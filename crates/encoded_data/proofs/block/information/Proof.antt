@@ -2,9 +2,9 @@
 use borrow.Author.Needs.{needs}
 use mathlib.Core.Path.{sym}
 use denote.Ref.{now}
 use Rattle.codeblock.proofs.Codeblock.{first-seven}
-use Rattle.codeblock.proofs.information.Statement.{statement}
-use Rattle.codeblock.proofs.information.Tie as tie
+use Rattle.encoded_data.proofs.block.information.Statement.{statement}
+use Rattle.encoded_data.proofs.block.information.Tie as tie
 
 shared-slice-read-t3 : tie.Need-shared-slice-read-t3
 shared-slice-read-t3 c = search needs

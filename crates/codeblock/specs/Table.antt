@@ -1,0 +1,41 @@
+-- Document 02, order 13: "Codeblocks go by table". What the entries of the tables are, and what the number of a wrong bit tells.
+use mathlib.Core.Path.{_≡_}
+use mathlib.Core.List.{List, [], _∷_}
+use Prim.Native.Nat.{ℕ, zero, suc, _*_, _<_}
+use lib.Dec.{eqb}
+use lib.ListN.{take, getD, replicate}
+use Rattle.base.specs.Choice.{pick}
+use Rattle.codeblock.specs.declared.Judged.{Judged}
+use Rattle.codeblock.specs.Codeblock.{parity, codeblockOf, syndromeOf, flipped, good, bad}
+
+-- the parity check bits of one octet, where they stand in the error control octet
+unfoldable pub parityEntry : ℕ → ℕ
+parityEntry octet = parity (octet ∷ []) * 2
+
+-- the table of 256 entries: entry i is that of octet i
+pub record ParityTable (table : List ℕ) : Type 0 where
+  pub rule : (i : ℕ) → i < 256 → getD table i 0 ≡ parityEntry i
+
+-- the syndrome of a codeblock in which bit i alone is wrong
+unfoldable pub singleSyndrome : ℕ → ℕ
+singleSyndrome i = syndromeOf (flipped i (codeblockOf (replicate 7 0)))
+
+-- where no bit gives a syndrome, and where no bit is wrong
+abbrev pub noBit : ℕ
+noBit = 64
+
+abbrev pub noneWrong : ℕ
+noneWrong = 63
+
+-- of the n bits from bit i on, the first that alone gives the syndrome
+unfoldable pub bitFor : ℕ → ℕ → ℕ → ℕ
+bitFor zero i syndrome = noBit
+bitFor (suc n) i syndrome = pick (eqb (singleSyndrome i) syndrome) i (bitFor n (suc i) syndrome)
+
+-- the table of 128 entries: entry i is the bit, of the first 63, for the syndrome whose seven parity bits are i
+pub record BitTable (table : List ℕ) : Type 0 where
+  pub rule : (i : ℕ) → i < 128 → getD table i 0 ≡ bitFor 63 0 (i * 2)
+
+-- the judgement of a codeblock by the number of its wrong bit, which is corrected; where none is wrong, nothing of the information changes
+unfoldable pub judgedAt : ℕ → List ℕ → Judged
+judgedAt bit block = pick (eqb bit noBit) bad (good (take 7 (flipped bit block)) (pick (eqb bit noneWrong) 0 1))
