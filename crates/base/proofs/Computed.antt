@@ -1,10 +1,10 @@
--- A rule at every number below a bound, by one computed test; and a list that a function tabulates.
+-- A rule at every number below a bound, by one computed test; a table's rule (`table-by-test`); and a list that a function tabulates.
 use mathlib.Core.Path.{_≡_, refl, _∙_, subst, sym}
 use mathlib.Core.Bool.{Bool, true, false, not}
 use mathlib.Core.List.{List, [], _∷_}
 use Prim.Native.Nat.{ℕ, zero, suc, _+_, _<_}
 use native.Mathlib.Nat.{add-zero, zero-add, add-suc, suc-add, le-of-suc-le-suc, not-suc-le-zero}
-use lib.Dec.{T}
+use lib.Dec.{T, eqb, eqb→eq}
 use lib.ListN.{getD}
 use Rattle.base.specs.Choice.{both}
 
@@ -30,6 +30,10 @@ from f (suc n) i t (suc k) h =
 
 pub below : (f : ℕ → Bool) (n : ℕ) → T (all f n 0) → (k : ℕ) → k < n → T (f k)
 below f n t k h = subst (λ (m : ℕ). T (f m)) (zero-add k) (from f n 0 t k h)
+
+-- the first n entries of a table are what f tells of their places
+pub table-by-test : (table : List ℕ) (f : ℕ → ℕ) (n : ℕ) → T (all (λ i. eqb (getD table i 0) (f i)) n 0) → (i : ℕ) → i < n → getD table i 0 ≡ f i
+table-by-test table f n t i h = eqb→eq (getD table i 0) (f i) (below (λ k. eqb (getD table k 0) (f k)) n t i h)
 
 -- f at the n numbers from i on
 abbrev pub tabulate : (ℕ → ℕ) → ℕ → ℕ → List ℕ

@@ -6,10 +6,10 @@ use mathlib.Core.Bool.{Bool}
 use Prim.Native.Nat.{ℕ, _*_, _/_, _%_, _<_}
 use native.Mathlib.Omega.{arith}
 use lib.Bits.{bitXor, xor-lt}
-use lib.Dec.{T, eqb, eqb→eq}
+use lib.Dec.{T, eqb}
 use lib.ListN.{getD}
 use Rattle.base.specs.Register.{register}
-use Rattle.base.proofs.Computed.{all, below}
+use Rattle.base.proofs.Computed.{all, table-by-test}
 use Rattle.fecf.specs.Table.{entryOf, Rule}
 use Rattle.fecf.proofs.Table.{octet, entry, by-table}
 
@@ -18,7 +18,7 @@ abbrev pub right : List ℕ → ℕ → Bool
 right table i = eqb (getD table i 0) (entryOf i)
 
 pub rule-by-test : (table : List ℕ) → T (all (right table) 256 0) → Rule table
-rule-by-test table t = record { rule = λ i h. eqb→eq (getD table i 0) (entryOf i) (below (right table) 256 t i h) }
+rule-by-test table t = record { rule = table-by-test table entryOf 256 t }
 
 -- the upper octet and the octet added tell a place in the table
 pub place-lt : (r o : ℕ) → r < 65536 → o < 256 → bitXor (r / 256) o < 256
