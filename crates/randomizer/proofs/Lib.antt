@@ -1,2 +1,3 @@
 pub mod Recurrence
 pub mod Randomized
+pub mod Rule

@@ -1,4 +1,7 @@
 // Clause 8.4: the randomizer's sequence, by its octets.
+mod octets;
+
+pub use crate::octets::SEQUENCE;
 ghost use mathlib.Core.Path.{_≡_};
 ghost use lib.ListN.{length};
 ghost use Rattle.randomizer.specs.Randomizer.{nextBit, later, octet, sequenceOf};
@@ -45,12 +48,18 @@ pub fn sequence(out: &mut [u8])
     }
 }
 
+// The octet at any place, by the lent sequence.
+fn octet_in(sequence: &[u8; PERIOD], place: u64) -> u8
+    requires { ⌜ now sequence ≡ sequenceOf 255 0 ⌝ }
+    ensures { λ r. ⌜ r ≡ octet place ⌝ }
+{
+    let k = place % (PERIOD as u64);
+    sequence[k as usize]
+}
+
 // The octet at any place of the sequence.
 pub fn octet_at(place: u64) -> u8
     ensures { λ r. ⌜ r ≡ octet place ⌝ }
 {
-    let mut whole = [0u8; PERIOD];
-    sequence(&mut whole);
-    let k = place % 255;
-    whole[k as usize]
+    octet_in(&SEQUENCE, place)
 }
