@@ -1,11 +1,11 @@
--- The sequence by octets: its period, randomizing octet by octet, and that randomizing twice gives the octets back.
-use mathlib.Core.Path.{_≡_, refl, sym, ap, _∙_}
+-- The sequence by octets: its period, randomizing octet by octet and part by part, and that randomizing twice gives the octets back.
+use mathlib.Core.Path.{_≡_, refl, sym, ap, ap₂, _∙_}
 use mathlib.Core.List.{List, [], _∷_}
 use Prim.Native.Nat.{ℕ, zero, suc, _+_, _*_, _/_, _%_, _<_}
 use native.Mathlib.Nat.{zero-add, add-zero, suc-add, add-suc, suc-mul, le-of-suc-le-suc, not-suc-le-zero}
 use native.Mathlib.Omega.{arith}
 use lib.Bits.{bitXor, xor-lt}
-use lib.ListN.{length, getD}
+use lib.ListN.{length, take, drop, getD}
 use Rattle.base.specs.Octets.{Octets}
 use Rattle.base.proofs.Xor.{xor-undo}
 use Rattle.randomizer.specs.Randomizer.{nextBit, later, allOnes, octet, randomized, sequenceOf}
@@ -70,6 +70,32 @@ randomized-at k (x ∷ xs) zero h = ap (λ (j : ℕ). bitXor x (octet j)) (sym (
 randomized-at k (x ∷ xs) (suc i) h =
     randomized-at (suc k) xs i (le-of-suc-le-suc h)
     ∙ ap (λ (j : ℕ). bitXor (getD xs i 0) (octet j)) (suc-add k i ∙ sym (add-suc k i))
+
+-- a part's front and its rest; where the sequence's octets repeat, so does randomizing
+pub randomized-take : (m k : ℕ) (xs : List ℕ) → take m (randomized k xs) ≡ randomized k (take m xs)
+unfolding randomized
+randomized-take zero k xs = refl
+randomized-take (suc m) k [] = refl
+randomized-take (suc m) k (x ∷ xs) = ap (λ (l : List ℕ). bitXor x (octet k) ∷ l) (randomized-take m (suc k) xs)
+
+pub randomized-drop : (i k : ℕ) (xs : List ℕ) → drop i (randomized k xs) ≡ randomized (k + i) (drop i xs)
+unfolding randomized
+randomized-drop zero k xs = ap (λ (j : ℕ). randomized j xs) (sym (add-zero k))
+randomized-drop (suc i) k [] = refl
+randomized-drop (suc i) k (x ∷ xs) = randomized-drop i (suc k) xs ∙ ap (λ (j : ℕ). randomized j (drop i xs)) (suc-add k i ∙ sym (add-suc k i))
+
+pub randomized-period : (k l : ℕ) (xs : List ℕ) → k % 255 ≡ l % 255 → randomized k xs ≡ randomized l xs
+unfolding randomized
+randomized-period k l [] e = refl
+randomized-period k l (x ∷ xs) e =
+    ap₂ (λ (o : ℕ) (r : List ℕ). bitXor x o ∷ r)
+    (sym (octet-period k) ∙ ap octet e ∙ octet-period l)
+    (randomized-period (suc k) (suc l) xs (omega arith))
+
+-- a part whose place is a multiple of 255 is randomized from the sequence's beginning
+pub randomized-part : (i m : ℕ) (xs : List ℕ) → i % 255 ≡ 0 → take m (drop i (randomized 0 xs)) ≡ randomized 0 (take m (drop i xs))
+randomized-part i m xs e =
+    ap (take m) (randomized-drop i 0 xs) ∙ randomized-take m (0 + i) (drop i xs) ∙ randomized-period (0 + i) 0 (take m (drop i xs)) (omega arith)
 
 pub octets-randomized : (k : ℕ) (xs : List ℕ) → Octets xs → Octets (randomized k xs)
 unfolding randomized
