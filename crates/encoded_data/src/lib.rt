@@ -94,16 +94,31 @@ pub fn take_good(input: &[u8], mode: Mode, information: &mut [u8]) -> Run
     take(&PARITIES, &BITS, input, mode, whole, information)
 }
 
-// The information exclusive or the sequence, at the front of the output.
-fn derandomize(information: &[u8], sequence: &[u8], out: &mut [u8])
-    requires { ⌜ (length (now information) ≤ length (now out)) × (now sequence ≡ sequenceOf 255 0) ⌝ }
-    ensures { λ _. ⌜ now (out .exit) ≡ placed (now (out .entry)) 0 (randomized 0 (now (information .entry))) ⌝ }
+// One run of information, exclusive or the sequence from its beginning, into all of the output.
+fn derandomize_run(information: &[u8], sequence: &[u8; PERIOD], out: &mut [u8])
+    requires { ⌜ (length (now information) ≤ 255) × (length (now out) ≡ length (now information)) × (now sequence ≡ sequenceOf 255 0) ⌝ }
+    ensures { λ _. ⌜ now (out .exit) ≡ randomized 0 (now (information .entry)) ⌝ }
 {
     let mut i = 0;
     while i < information.len() {
-        out[i] = information[i] ^ sequence[i % PERIOD];
+        out[i] = information[i] ^ sequence[i];
         i += 1;
     }
+}
+
+// The information exclusive or the sequence, at the front of the output: whole runs of PERIOD octets, then what is left.
+fn derandomize(information: &[u8], sequence: &[u8; PERIOD], out: &mut [u8])
+    requires { ⌜ (length (now information) ≤ length (now out)) × (now sequence ≡ sequenceOf 255 0) ⌝ }
+    ensures { λ _. ⌜ now (out .exit) ≡ placed (now (out .entry)) 0 (randomized 0 (now (information .entry))) ⌝ }
+{
+    let n = information.len();
+    let mut at = 0;
+    while PERIOD <= n - at {
+        let end = at + PERIOD;
+        derandomize_run(&information[at..end], sequence, &mut out[at..end]);
+        at = end;
+    }
+    derandomize_run(&information[at..n], sequence, &mut out[at..n]);
 }
 
 // Puts the information, derandomized, to the front of the output; changes nothing where it does not fit.
@@ -113,7 +128,5 @@ pub fn unpack(information: &[u8], out: &mut [u8])
     if out.len() < information.len() {
         return;
     }
-    let mut sequence = [0u8; PERIOD];
-    randomizer::sequence(&mut sequence);
-    derandomize(information, &sequence, out);
+    derandomize(information, &randomizer::SEQUENCE, out);
 }

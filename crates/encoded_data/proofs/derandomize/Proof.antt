@@ -1,72 +1,102 @@
--- The loop's invariant: the output is the derandomized information up to i, and as it was from there.
+-- The loop's invariant: the output is the derandomized information up to a multiple of 255, and as it was from there.
 use borrow.Author.Needs.{needs}
 use mathlib.Core.Path.{_≡_, refl, sym, ap, _∙_}
 use mathlib.Core.List.{List, _++_}
 use Prim.Native.Nat.{ℕ, _+_, _-_, _%_, _≤_}
-use native.Mathlib.Nat.{zero-add}
 use native.Mathlib.Omega.{arith}
 use denote.Ref.{now}
-use lib.Bits.{bitXor}
-use lib.ListN.{length, take, drop, getD, length-set}
-use Rattle.base.proofs.Lists.{store-by, stored}
-use Rattle.randomizer.specs.Randomizer.{octet, randomized}
-use Rattle.randomizer.proofs.Randomized.{randomized-at, length-randomized, length-sequence, sequence-tells}
+use lib.ListN.{length, take, drop}
+use Rattle.base.proofs.Lists.{stored}
+use Rattle.randomizer.specs.Randomizer.{randomized}
+use Rattle.randomizer.proofs.Randomized.{length-randomized}
 use Rattle.encoded_data.proofs.Scan.{placed-front}
+use Rattle.encoded_data.proofs.Runs.{store-run}
 use Rattle.encoded_data.proofs.derandomize.Statement.{statement}
 use Rattle.encoded_data.proofs.derandomize.Tie as tie
 
 abbrev Inv-loop : tie.InvT-loop
-Inv-loop information sequence out₀ i₀ out i =
-    (i ≤ length information) × (out ≡ take i (randomized 0 information) ++ drop i out₀) × (length out ≡ length out₀)
+Inv-loop information sequence out₀ n at₀ out at =
+    (at ≤ length information) × (at % 255 ≡ 0) × (out ≡ take at (randomized 0 information) ++ drop at out₀) × (length out ≡ length out₀)
 
 abbrev μ-loop : tie.MeasureT-loop
-μ-loop information sequence out₀ i₀ out i = length information - i
+μ-loop information sequence out₀ n at₀ out at = length information - at
 
 loop-holds : tie.Need-loop-holds Inv-loop μ-loop
-loop-holds c = (search needs, refl, refl)
+loop-holds c = (search needs, refl, refl, refl)
 
-shared-slice-read-out : tie.Need-shared-slice-read-out Inv-loop μ-loop
-shared-slice-read-out c = search needs
+sub-loop : tie.Need-sub-loop Inv-loop μ-loop
+sub-loop c = search needs
 
-shared-slice-read-out-2 : tie.Need-shared-slice-read-out-2 Inv-loop μ-loop
-shared-slice-read-out-2 c = omega (arith, ap length (c .before .before .before .before .pre .1) ∙ length-sequence 255 0)
+add-end : tie.Need-add-end Inv-loop μ-loop
+add-end c = search needs
 
-slice-write-out : tie.Need-slice-write-out Inv-loop μ-loop
-slice-write-out c = search needs
+sub-derandomize-run : tie.Need-sub-derandomize-run Inv-loop μ-loop
+sub-derandomize-run c = search needs
 
-add-i : tie.Need-add-i Inv-loop μ-loop
-add-i c = search needs
+part-derandomize-run-start : tie.Need-part-derandomize-run-start Inv-loop μ-loop
+part-derandomize-run-start c = search needs
+
+part-derandomize-run-end : tie.Need-part-derandomize-run-end Inv-loop μ-loop
+part-derandomize-run-end c = search needs
+
+sub-derandomize-run-2 : tie.Need-sub-derandomize-run-2 Inv-loop μ-loop
+sub-derandomize-run-2 c = search needs
+
+part-derandomize-run-start-2 : tie.Need-part-derandomize-run-start-2 Inv-loop μ-loop
+part-derandomize-run-start-2 c = search needs
+
+part-derandomize-run-end-2 : tie.Need-part-derandomize-run-end-2 Inv-loop μ-loop
+part-derandomize-run-end-2 c = search needs
+
+derandomize-run-requires : tie.Need-derandomize-run-requires Inv-loop μ-loop
+derandomize-run-requires c κs = search needs
 
 loop-less : tie.Need-loop-less Inv-loop μ-loop
 loop-less c = search needs
 
 loop-again : tie.Need-loop-again Inv-loop μ-loop
 loop-again c =
-    let l = c .before .before .before .loop in
-    let start = c .before .before .before .before in
-    let a = start .args in
-    let s = now (a .information) in
-    let o = length-randomized 0 s in
-    let v = bitXor (getD s (l .i) 0) (getD (now (a .sequence)) (l .i % 255) 0) in
-    let e : getD (now (a .sequence)) (l .i % 255) 0 ≡ octet (0 + l .i) =
-    ap (λ (t : List ℕ). getD t (l .i % 255) 0) (start .pre .1) ∙ sequence-tells (l .i) ∙ ap octet (sym (zero-add (l .i))) in (
+    let l = c .before .before .before .before .before .before .loop in
+    let a = c .before .before .before .before .before .before .before .before .before .args in (
       search needs,
-      store-by (randomized 0 s) (now (a .out)) (l .out) (l .i) v (l .inv .1)
-          (ap (bitXor (getD s (l .i) 0)) e ∙ sym (randomized-at 0 s (l .i) (search needs)))
-          (omega arith) (omega arith),
-      length-set (l .out) (l .i) v ∙ l .inv .2,
+      omega (arith, l .inv .1),
+      store-run (now (a .information)) (now (a .out)) (l .out) _ (l .at) (l .at + 255) (l .inv .2) (c .before .before .derandomize-run .ensures) (l .inv .1) (omega arith) (search needs),
+      search needs,
     )
 
+sub-derandomize-run-3 : tie.Need-sub-derandomize-run-3 Inv-loop μ-loop
+sub-derandomize-run-3 c = search needs
+
+part-derandomize-run-start-3 : tie.Need-part-derandomize-run-start-3 Inv-loop μ-loop
+part-derandomize-run-start-3 c = search needs
+
+part-derandomize-run-end-3 : tie.Need-part-derandomize-run-end-3 Inv-loop μ-loop
+part-derandomize-run-end-3 c = search needs
+
+sub-derandomize-run-4 : tie.Need-sub-derandomize-run-4 Inv-loop μ-loop
+sub-derandomize-run-4 c = search needs
+
+part-derandomize-run-start-4 : tie.Need-part-derandomize-run-start-4 Inv-loop μ-loop
+part-derandomize-run-start-4 c = search needs
+
+part-derandomize-run-end-4 : tie.Need-part-derandomize-run-end-4 Inv-loop μ-loop
+part-derandomize-run-end-4 c = search needs
+
+derandomize-run-requires-2 : tie.Need-derandomize-run-requires-2 Inv-loop μ-loop
+derandomize-run-requires-2 c κs = search needs
+
 same-length : tie.Need-same-length Inv-loop μ-loop
-same-length c = c .before .loop .inv .2
+same-length c = search needs
 
 returns : tie.Need-returns Inv-loop μ-loop
 returns c =
-    let l = c .before .loop in
-    let a = c .before .before .args in
+    let l = c .before .before .before .before .before .before .loop in
+    let a = c .before .before .before .before .before .before .before .before .before .args in
     let s = now (a .information) in
     let o = length-randomized 0 s in
-    l .inv .1 ∙ stored (randomized 0 s) (now (a .out)) (l .i) (omega arith) ∙ sym (placed-front (now (a .out)) (randomized 0 s) (omega arith))
+    store-run s (now (a .out)) (l .out) _ (l .at) (length s) (l .inv .2) (c .before .before .derandomize-run2 .ensures) (l .inv .1) (search needs) (omega arith)
+    ∙ stored (randomized 0 s) (now (a .out)) (length s) (omega arith)
+    ∙ sym (placed-front (now (a .out)) (randomized 0 s) (omega arith))
 
 pub derandomize-spec : {M : Type 1} → statement M
 derandomize-spec =
@@ -75,11 +105,23 @@ derandomize-spec =
     Inv-loop
     μ-loop
     loop-holds
-    shared-slice-read-out
-    shared-slice-read-out-2
-    slice-write-out
-    add-i
+    sub-loop
+    add-end
+    sub-derandomize-run
+    part-derandomize-run-start
+    part-derandomize-run-end
+    sub-derandomize-run-2
+    part-derandomize-run-start-2
+    part-derandomize-run-end-2
+    derandomize-run-requires
     loop-less
     loop-again
+    sub-derandomize-run-3
+    part-derandomize-run-start-3
+    part-derandomize-run-end-3
+    sub-derandomize-run-4
+    part-derandomize-run-start-4
+    part-derandomize-run-end-4
+    derandomize-run-requires-2
     same-length
     returns)
