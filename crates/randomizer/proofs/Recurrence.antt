@@ -3,17 +3,17 @@
 use mathlib.Core.Path.{_≡_, refl, sym, ap, _∙_}
 use mathlib.Core.Bool.{not}
 use Prim.Native.Nat.{ℕ, zero, suc, _+_, _-_, _*_, _/_, _%_, _^_, _<_, _≤_}
-use native.Mathlib.Nat.{add-comm, zero-add, suc-add, not-suc-le-zero}
+use native.Mathlib.Nat.{add-comm, zero-add, suc-add}
 use native.Mathlib.Omega.{arith}
 use lib.Dec.{T, T-not, eqb, eqb→eq}
 use Rattle.base.proofs.Computed.{below}
 use Rattle.randomizer.specs.Randomizer.{nextBit, later, allOnes, bit, octet}
 
 -- the register one bit later
-abbrev pub step : ℕ → ℕ
+abbrev step : ℕ → ℕ
 step q = q % 128 * 2 + nextBit q
 
-pub nextBit-lt : (q : ℕ) → nextBit q < 2
+nextBit-lt : (q : ℕ) → nextBit q < 2
 unfolding nextBit
 nextBit-lt q = omega arith
 
@@ -29,14 +29,6 @@ pub later-add : (n m q : ℕ) → later (n + m) q ≡ later m (later n q)
 unfolding later
 later-add zero m q = ap (λ (j : ℕ). later j q) (zero-add m)
 later-add (suc n) m q = ap (λ (j : ℕ). later j q) (suc-add n m) ∙ later-add n m (step q)
-
--- one bit more, as a loop counts down
-pub later-next : (n q : ℕ) → 0 < n → later n q ≡ later (n - 1) (step q)
-unfolding later
-later-next zero q h = absurd (not-suc-le-zero h)
-later-next (suc n) q h =
-    let e : n ≡ suc n - 1 = omega arith in
-    ap (λ (j : ℕ). later j (step q)) e
 
 -- binary digit m of a number
 abbrev digit : ℕ → ℕ → ℕ
