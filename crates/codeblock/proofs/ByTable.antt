@@ -10,16 +10,15 @@ use native.Mathlib.Nat.{mul-one}
 use native.Mathlib.Omega.{arith}
 use borrow.Author.Tests.{eq-eqb, ne-eqb}
 use lib.Bits.{bitXor, xor-lt}
-use lib.Dec.{T, eqb, eqb→eq}
+use lib.Dec.{T, eqb}
 use lib.ListN.{length, take, getD, replicate, length-take}
 use lib.Seq.{set-out}
 use Rattle.base.specs.Choice.{pick}
 use Rattle.base.specs.Octets.{Octets}
 use Rattle.base.specs.Register.{shiftBit, shiftBits, register}
-use Rattle.base.proofs.Computed.{all, below, tabulate}
+use Rattle.base.proofs.Computed.{all, tabulate, table-by-test}
 use Rattle.base.proofs.Table.{shifts, eight}
 use Rattle.base.proofs.Tests.{yes, no}
-use Rattle.codeblock.specs.declared.Judged.{Judged}
 use Rattle.codeblock.specs.declared.Mode.{Mode}
 use Rattle.codeblock.specs.declared.Mode.the-variants.{Detecting, Correcting}
 use Rattle.codeblock.specs.Codeblock.{generator, parity, errorControl, codeblockOf, syndromeOf, flipped, good, bad, otherwise, judged}
@@ -28,15 +27,12 @@ use Rattle.codeblock.proofs.Codeblock.{take-flipped}
 use Rattle.codeblock.proofs.SingleBits.{columnOf, columns63, placeIn}
 use Rattle.codeblock.proofs.Syndrome.{syndrome-flipped, mendedAt, mended-search, none-found, odd-none, judged-zero, judged-other}
 
--- the rules, by the computed tests
+-- the entry at a place is the one that a rule tells
 abbrev pub isEntry : List ℕ → (ℕ → ℕ) → ℕ → Bool
 isEntry table f i = eqb (getD table i 0) (f i)
 
-by-test : (table : List ℕ) (f : ℕ → ℕ) (n : ℕ) → T (all (isEntry table f) n 0) → (i : ℕ) → i < n → getD table i 0 ≡ f i
-by-test table f n t i h = eqb→eq (getD table i 0) (f i) (below (isEntry table f) n t i h)
-
 pub parity-table : (table : List ℕ) → T (all (isEntry table parityEntry) 256 0) → ParityTable table
-parity-table table t = record { rule = by-test table parityEntry 256 t }
+parity-table table t = record { rule = table-by-test table parityEntry 256 t }
 
 -- eight bits into a register of zero, the octet added to what it held
 entry-moved : (i : ℕ) → i < 256 → parityEntry i ≡ shifts 7 (generator * 2) 8 i
@@ -76,7 +72,7 @@ abbrev pub bitIn : List ℕ → ℕ → ℕ
 bitIn columns i = placeIn 0 columns (i * 2)
 
 pub bit-table : (table : List ℕ) → T (all (isEntry table (bitIn columns63)) 128 0) → BitTable table
-bit-table table t = record { rule = λ i h. by-test table (bitIn columns63) 128 t i h ∙ sym (bit-place 63 0 (i * 2) (omega arith)) }
+bit-table table t = record { rule = λ i h. table-by-test table (bitIn columns63) 128 t i h ∙ sym (bit-place 63 0 (i * 2) (omega arith)) }
 
 -- it is one of the first 63, or none
 pub bit-found : (n i v : ℕ) → i + n ≤ 63 → (bitFor n i v < 63) ⊎ (bitFor n i v ≡ noBit)

@@ -5,7 +5,6 @@ use mathlib.Core.Path.{_≡_, refl, sym, ap, _∙_}
 use mathlib.Core.Bool.{Bool, true, false}
 use mathlib.Core.List.{List}
 use Prim.Native.Nat.{ℕ, zero, suc, _+_, _-_, _*_, _/_, _%_, _^_, _<_, _≤_}
-use native.Mathlib.Nat.{zero-add}
 use native.Mathlib.Omega.{arith}
 use borrow.Author.Tests.{eq-eqb, ne-eqb, eqb-true, eqb-false}
 use lib.Bits.{bitXor, xor-comm, xor-self}
@@ -13,7 +12,7 @@ use lib.Dec.{eqb}
 use lib.ListN.{length, take, getD}
 use Rattle.base.specs.Choice.{pick}
 use Rattle.base.specs.Octets.{Octets}
-use Rattle.base.proofs.Computed.{tabulate, getD-tabulate}
+use Rattle.base.proofs.Computed.{tabulate}
 use Rattle.base.proofs.Lists.{below-take}
 use Rattle.base.proofs.Xor.{xor-assoc, xor-equal, swap}
 use Rattle.codeblock.specs.declared.Judged.{Judged}

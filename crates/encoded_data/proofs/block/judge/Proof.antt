@@ -1,8 +1,6 @@
 -- Eight octets by the number of their wrong bit; the constants keep their rules, by the computed tests (codeblock/proofs/ByTable).
 use borrow.Author.Needs.{needs}
 use mathlib.Core.Path.{sym, ap, ap₂, _∙_}
-use mathlib.Core.List.{List}
-use Prim.Native.Nat.{ℕ}
 use denote.Ref.{now}
 use Rattle.base.specs.Register.{shiftBit, shiftBits, register}
 use Rattle.codeblock.specs.Codeblock.{parity, flipped, good}
