@@ -12,8 +12,8 @@ use Rattle.codeblock.specs.declared.Mode.the-variants.{Detecting}
 use Rattle.codeblock.specs.Codeblock.{parity, errorControl, codeblockOf, isEncoding, otherwise, judged}
 use Rattle.randomizer.specs.Randomizer.{nextBit, later, octet, randomized}
 use Rattle.start_sequence.specs.StartSequence.{startSequence, recognized, starts, startOf}
-use Rattle.encoded_data.specs.EncodedData.{goodRun, informationIn, correctedIn}
-use Rattle.cltu.specs.Cltu.{filled, encoded, informationFor, cltuOf, need, writing, readingRun, readingBy, reading}
+use Rattle.encoded_data.specs.EncodedData.{encoded, goodRun, informationIn, correctedIn}
+use Rattle.cltu.specs.Cltu.{filled, informationFor, cltuOf, need, writing, readingRun, readingBy, reading}
 
 -- a frame of eight octets
 abbrev pub frame : List ℕ

@@ -1,23 +1,24 @@
 -- What stands at each place of a written CLTU: the start sequence, the information randomized, the error control octet of each
 -- codeblock, which is not, and the tail sequence (`places`).
-use mathlib.Core.Path.{_≡_, refl, sym, ap, _∙_}
+use mathlib.Core.Path.{_≡_, sym, ap, _∙_}
 use mathlib.Core.List.{List, [], _++_}
 use Prim.Native.Nat.{ℕ, zero, suc, _+_, _-_, _*_, _<_, _≤_}
-use native.Mathlib.Nat.{le-of-suc-le-suc, not-suc-le-zero, zero-add, mul-suc}
+use native.Mathlib.Nat.{zero-add}
 use native.Mathlib.Omega.{arith}
 use lib.Bits.{bitXor}
 use lib.Dec.{eqb, eqb→eq}
 use lib.ListN.{length, take, drop, getD, replicate, length-append, length-take, length-drop, length-replicate, getD-replicate, List·getD-append}
-use lib.Seq.{getD-append-add, getD-take, getD-drop, drop-drop, getD-at}
+use lib.Seq.{getD-append-add, getD-take, getD-drop, getD-at}
 use Rattle.base.specs.Octets.{Octets}
 use Rattle.base.proofs.Computed.{below}
 use Rattle.base.proofs.Lists.{below-append}
 use Rattle.codeblock.specs.Codeblock.{codeblockOf, errorControl}
-use Rattle.codeblock.proofs.Codeblock.{length-codeblock}
+use Rattle.encoded_data.specs.EncodedData.{encoded}
+use Rattle.encoded_data.proofs.Encoded.{length-encoded, encoded-at}
 use Rattle.randomizer.specs.Randomizer.{octet, randomized}
 use Rattle.randomizer.proofs.Randomized.{randomized-at, length-randomized}
 use Rattle.start_sequence.specs.StartSequence.{startSequence}
-use Rattle.cltu.specs.Cltu.{codeblocks, need, fillOctet, filled, encoded, informationFor, cltuOf, tailSequence}
+use Rattle.cltu.specs.Cltu.{codeblocks, need, fillOctet, filled, informationFor, cltuOf, tailSequence}
 
 pub length-filled : (frame : List ℕ) → length (filled frame) ≡ 7 * codeblocks (length frame)
 unfolding filled
@@ -56,34 +57,6 @@ unfolding filled
 octets-filled frame h =
     let n = 7 * codeblocks (length frame) - length frame in
     below-append 256 frame (replicate n fillOctet) h (octets-fill n)
-
--- codeblocks one behind the other
-module _ (information : List ℕ) where
-  pub length-block : (n : ℕ) → 7 * suc n ≤ length information → length (codeblockOf (take 7 information)) ≡ 8
-  length-block n h = length-codeblock (take 7 information) ∙ simp length-take (omega (arith, mul-suc 7 n))
-
-pub length-encoded : (n : ℕ) (information : List ℕ) → 7 * n ≤ length information → length (encoded n information) ≡ 8 * n
-unfolding encoded
-length-encoded zero information h = refl
-length-encoded (suc n) information h =
-    let e = length-encoded n (drop 7 information) (simp length-drop (omega (arith, mul-suc 7 n))) in
-    simp length-append (omega (arith, length-block information n h, mul-suc 8 n))
-
-pub encoded-at : (n : ℕ) (information : List ℕ) (b i : ℕ) → 7 * n ≤ length information → b < n → i < 8
-    → getD (encoded n information) (8 * b + i) 0 ≡ getD (codeblockOf (take 7 (drop (7 * b) information))) i 0
-unfolding encoded
-encoded-at zero information b i h hb hi = absurd (not-suc-le-zero hb)
-encoded-at (suc n) information zero i h hb hi =
-    let l : i < length (codeblockOf (take 7 information)) = omega (arith, length-block information n h) in
-    ap (λ (j : ℕ). getD (encoded (suc n) information) j 0) (zero-add i)
-    ∙ List·getD-append (codeblockOf (take 7 information)) (encoded n (drop 7 information)) 0 i l
-encoded-at (suc n) information (suc b) i h hb hi =
-    let e : 8 * suc b + i ≡ length (codeblockOf (take 7 information)) + (8 * b + i) = omega (arith, length-block information n h, mul-suc 8 b) in
-    let d : 7 + 7 * b ≡ 7 * suc b = omega (arith, mul-suc 7 b) in
-    ap (λ (j : ℕ). getD (encoded (suc n) information) j 0) e
-    ∙ getD-append-add (codeblockOf (take 7 information)) (encoded n (drop 7 information)) (8 * b + i) 0
-    ∙ encoded-at n (drop 7 information) b i (simp length-drop (omega (arith, mul-suc 7 n))) (le-of-suc-le-suc hb) hi
-    ∙ ap (λ (l : List ℕ). getD (codeblockOf (take 7 l)) i 0) (drop-drop (7 * b) 7 information ∙ ap (λ (j : ℕ). drop j information) d)
 
 -- the octets of a codeblock
 block-information : (s : List ℕ) (k i : ℕ) → k + 7 ≤ length s → i < 7 → getD (codeblockOf (take 7 (drop k s))) i 0 ≡ getD s (k + i) 0

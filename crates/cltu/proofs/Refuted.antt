@@ -17,8 +17,8 @@ use Rattle.codeblock.specs.Codeblock.{parity, errorControl, codeblockOf, isEnco
 use Rattle.codeblock.specs.declared.Mode.the-variants.{Detecting}
 use Rattle.randomizer.specs.Randomizer.{nextBit, later, octet, randomized}
 use Rattle.start_sequence.specs.StartSequence.{startSequence, recognized, starts, startOf}
-use Rattle.encoded_data.specs.EncodedData.{goodRun, informationIn, correctedIn}
-use Rattle.cltu.specs.Cltu.{codeblocks, filled, encoded, informationFor, cltuOf, tailSequence, Found, readingRun, readingAfter, readingBy, reading}
+use Rattle.encoded_data.specs.EncodedData.{encoded, goodRun, informationIn, correctedIn}
+use Rattle.cltu.specs.Cltu.{codeblocks, filled, informationFor, cltuOf, tailSequence, Found, readingRun, readingAfter, readingBy, reading}
 use Rattle.cltu.proofs.Examples.{frame, readings}
 
 -- a reader that refuses all

@@ -19,10 +19,11 @@ use Rattle.randomizer.specs.Randomizer.{randomized}
 use Rattle.randomizer.proofs.Randomized.{randomized-twice}
 use Rattle.start_sequence.specs.StartSequence.{startSequence, startOf}
 use Rattle.start_sequence.proofs.Search.{first-start}
-use Rattle.encoded_data.specs.EncodedData.{goodRun, informationIn, correctedIn}
-use Rattle.cltu.specs.Cltu.{codeblocks, filled, encoded, informationFor, cltuOf, tailSequence, readingAfter, readingBy, reading}
+use Rattle.encoded_data.specs.EncodedData.{encoded, goodRun, informationIn, correctedIn}
+use Rattle.encoded_data.proofs.Encoded.{length-block, length-encoded}
+use Rattle.cltu.specs.Cltu.{codeblocks, filled, informationFor, cltuOf, tailSequence, readingAfter, readingBy, reading}
 use Rattle.cltu.proofs.Judge.{Judge, judges}
-use Rattle.cltu.proofs.Places.{length-block, length-information, length-encoded}
+use Rattle.cltu.proofs.Places.{length-information}
 use Rattle.cltu.proofs.Outcomes.{reading-found, after-room, after-done}
 
 -- the first of the codeblocks, and the rest

@@ -26,8 +26,8 @@ use Rattle.randomizer.specs.Randomizer.{randomized}
 use Rattle.randomizer.proofs.Randomized.{randomized-twice, length-randomized}
 use Rattle.start_sequence.specs.StartSequence.{starts, startOf}
 use Rattle.start_sequence.proofs.Search.{found-starts}
-use Rattle.encoded_data.specs.EncodedData.{goodRun, informationIn, correctedIn}
-use Rattle.cltu.specs.Cltu.{encoded, Found, readingAfter, readingBy, reading}
+use Rattle.encoded_data.specs.EncodedData.{encoded, goodRun, informationIn, correctedIn}
+use Rattle.cltu.specs.Cltu.{Found, readingAfter, readingBy, reading}
 use Rattle.cltu.proofs.Judge.{Judge, judges, corrected-none}
 use Rattle.encoded_data.proofs.Scan.{length-information-in, block-next, run-good, run-ends}
 use Rattle.cltu.proofs.Outcomes.{reading-long, reading-none, reading-found, after-end, after-none, after-room, after-done}

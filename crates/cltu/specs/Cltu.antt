@@ -1,15 +1,15 @@
 -- Clauses 8.3, 8.6 and 8.7, and document 01, "Codeblock and CLTU": the CLTU of a frame, and the reading of a CLTU.
-use Prim.Native.Nat.{ℕ, zero, suc, _+_, _-_, _*_, _/_}
+use Prim.Native.Nat.{ℕ, _+_, _-_, _*_, _/_}
 use mathlib.Core.List.{List, [], _∷_, _++_}
 use lib.Dec.{ltb, leb}
-use lib.ListN.{length, take, drop, replicate}
+use lib.ListN.{length, drop, replicate}
 use Rattle.base.specs.Choice.{must}
 use Rattle.base.specs.Limits.{smallestFrame, largestFrame, largestInput}
 use Rattle.base.specs.Outcome.{Outcome, Outcome.done, Outcome.refused}
-use Rattle.codeblock.specs.Codeblock.{codeblockOf, judged}
+use Rattle.codeblock.specs.Codeblock.{judged}
 use Rattle.codeblock.specs.declared.Mode.{Mode}
 use Rattle.codeblock.specs.declared.Judged.{Judged}
-use Rattle.encoded_data.specs.EncodedData.{goodRun, informationIn, correctedIn}
+use Rattle.encoded_data.specs.EncodedData.{encoded, goodRun, informationIn, correctedIn}
 use Rattle.randomizer.specs.Randomizer.{randomized}
 use Rattle.start_sequence.specs.StartSequence.{startSequence, startOf}
 
@@ -28,11 +28,6 @@ fillOctet = 0b0101_0101
 -- the frame with its fill, a whole number of codeblocks
 unfoldable pub filled : List ℕ → List ℕ
 filled frame = frame ++ replicate (7 * codeblocks (length frame) - length frame) fillOctet
-
--- clause 8.3, Encoded Data: n codeblocks, of seven octets of information each
-unfoldable pub encoded : ℕ → List ℕ → List ℕ
-encoded zero information = []
-encoded (suc n) information = codeblockOf (take 7 information) ++ encoded n (drop 7 information)
 
 -- clause 8.4: the information, fill included, is randomized before it is encoded; the error control field is not
 unfoldable pub informationFor : List ℕ → List ℕ

@@ -23,8 +23,8 @@ use Rattle.codeblock.specs.declared.Mode.the-variants.{Detecting}
 use Rattle.randomizer.specs.Randomizer.{nextBit, later, octet, randomized}
 use Rattle.start_sequence.specs.StartSequence.{recognized, starts, startOf, Received}
 use Rattle.start_sequence.proofs.Search.{sequence-received}
-use Rattle.encoded_data.specs.EncodedData.{goodRun, informationIn, correctedIn}
-use Rattle.cltu.specs.Cltu.{filled, encoded, informationFor, cltuOf, tailSequence, readingRun, readingBy, reading}
+use Rattle.encoded_data.specs.EncodedData.{encoded, goodRun, informationIn, correctedIn}
+use Rattle.cltu.specs.Cltu.{filled, informationFor, cltuOf, tailSequence, readingRun, readingBy, reading}
 use Rattle.cltu.proofs.Places.{length-cltu}
 use Rattle.session.specs.Ends.{tables}
 use Rattle.session.specs.Session.{adRequest}

@@ -21,8 +21,8 @@ use Rattle.codeblock.specs.declared.Mode.{Mode}
 use Rattle.codeblock.specs.declared.Mode.the-variants.{Detecting, Correcting}
 use Rattle.randomizer.specs.Randomizer.{nextBit, later, octet, randomized}
 use Rattle.start_sequence.specs.StartSequence.{startSequence, recognized, starts, startOf}
-use Rattle.encoded_data.specs.EncodedData.{goodRun, informationIn, correctedIn}
-use Rattle.cltu.specs.Cltu.{filled, encoded, informationFor, cltuOf, tailSequence, readingRun, readingBy, reading}
+use Rattle.encoded_data.specs.EncodedData.{encoded, goodRun, informationIn, correctedIn}
+use Rattle.cltu.specs.Cltu.{filled, informationFor, cltuOf, tailSequence, readingRun, readingBy, reading}
 use Rattle.damage.specs.Damage.{eightAt}
 use Rattle.damage.specs.Few.{eight, FewWrong, FillerKept, changedIn}
 use Rattle.damage.proofs.Reading.{octets-cltu}

@@ -27,12 +27,13 @@ use Rattle.randomizer.specs.Randomizer.{octet, randomized}
 use Rattle.randomizer.proofs.Randomized.{randomized-twice, octets-randomized}
 use Rattle.start_sequence.specs.StartSequence.{startOf}
 use Rattle.start_sequence.proofs.Search.{first-near, sequence-received}
-use Rattle.encoded_data.specs.EncodedData.{goodRun, informationIn}
+use Rattle.encoded_data.specs.EncodedData.{encoded, goodRun, informationIn}
+use Rattle.encoded_data.proofs.Encoded.{length-encoded}
 use Rattle.encoded_data.proofs.Scan.{run-good, run-ends}
-use Rattle.cltu.specs.Cltu.{codeblocks, filled, encoded, informationFor, cltuOf, tailSequence, readingRun, readingAfter, reading}
+use Rattle.cltu.specs.Cltu.{codeblocks, filled, informationFor, cltuOf, tailSequence, readingRun, readingAfter, reading}
 use Rattle.cltu.proofs.Tail.{octets-tail}
 use Rattle.cltu.proofs.Judge.{corrected-none}
-use Rattle.cltu.proofs.Places.{length-information, length-encoded, length-seven, length-cltu, octets-filled}
+use Rattle.cltu.proofs.Places.{length-information, length-seven, length-cltu, octets-filled}
 use Rattle.cltu.proofs.RoundTrip.{first-block, other-blocks}
 use Rattle.cltu.proofs.Outcomes.{reading-found}
 use Rattle.damage.specs.Damage.{eightAt, Damaged, readingFront, ReadToDamage}

@@ -1,11 +1,17 @@
--- Clause 8.3, Encoded Data, and clause 8.7, state S3: the codeblocks at the front of an input, over any judge of codeblocks.
+-- Clause 8.3, Encoded Data: the codeblocks of information; and clause 8.7, state S3: the codeblocks at the front of an input, over any judge
+-- of codeblocks.
 use Prim.Native.Nat.{ℕ, zero, suc, _+_, _*_, _/_}
 use mathlib.Core.List.{List, [], _++_}
 use lib.Dec.{leb}
 use lib.ListN.{take, drop}
 use Rattle.base.specs.Choice.{pick}
-use Rattle.codeblock.specs.Codeblock.{isGood}
+use Rattle.codeblock.specs.Codeblock.{codeblockOf, isGood}
 use Rattle.codeblock.specs.declared.Judged.{Judged}
+
+-- clause 8.3, Encoded Data: n codeblocks, of seven octets of information each
+unfoldable pub encoded : ℕ → List ℕ → List ℕ
+encoded zero information = []
+encoded (suc n) information = codeblockOf (take 7 information) ++ encoded n (drop 7 information)
 
 module _ (judge : List ℕ → Judged) where
   -- clause 8.7, state S3: how many of n codeblocks are good, from the front up to the first bad one

@@ -2,6 +2,7 @@
 // derandomized (clause 8.4).
 pub mod block;
 mod table;
+pub mod writer;
 
 use crate::block::corrections;
 use crate::block::invert;
