@@ -1,4 +1,5 @@
 pub mod Places
+pub mod Written
 pub mod Tail
 pub mod Judge
 pub mod Outcomes

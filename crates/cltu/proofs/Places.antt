@@ -6,11 +6,9 @@ use Prim.Native.Nat.{ℕ, zero, suc, _+_, _-_, _*_, _<_, _≤_}
 use native.Mathlib.Nat.{zero-add}
 use native.Mathlib.Omega.{arith}
 use lib.Bits.{bitXor}
-use lib.Dec.{eqb, eqb→eq}
 use lib.ListN.{length, take, drop, getD, replicate, length-append, length-take, length-drop, length-replicate, getD-replicate, List·getD-append}
 use lib.Seq.{getD-append-add, getD-take, getD-drop, getD-at}
 use Rattle.base.specs.Octets.{Octets}
-use Rattle.base.proofs.Computed.{below}
 use Rattle.base.proofs.Lists.{below-append}
 use Rattle.codeblock.specs.Codeblock.{codeblockOf, errorControl}
 use Rattle.encoded_data.specs.EncodedData.{encoded}
@@ -88,9 +86,6 @@ module _ (frame : List ℕ) where
   pub length-seven : (b : ℕ) → b < codeblocks (length frame) → length (take 7 (drop (7 * b) (informationFor frame))) ≡ 7
   length-seven b h = simp (length-take, length-drop) (omega (arith, length-information frame))
 
-  pub seven-at : (b i : ℕ) → i < 7 → getD (take 7 (drop (7 * b) (informationFor frame))) i 0 ≡ getD (informationFor frame) (7 * b + i) 0
-  seven-at b i h = getD-take 7 (drop (7 * b) (informationFor frame)) i 0 h ∙ getD-drop (7 * b) (informationFor frame) i 0
-
   -- past the start sequence, codeblock b
   cltu-block : (b i : ℕ) → b < codeblocks (length frame) → i < 8
       → getD (cltuOf frame) (2 + (8 * b + i)) 0 ≡ getD (codeblockOf (take 7 (drop (7 * b) (informationFor frame)))) i 0
@@ -138,6 +133,3 @@ module _ (frame : List ℕ) where
     control = cltu-control;
     tail = λ i h. cltu-tail i;
   }
-
-pub tail-information : (i : ℕ) → i < 7 → getD tailSequence i 0 ≡ 0xC5
-tail-information i h = eqb→eq _ _ (below (λ j. eqb (getD tailSequence j 0) 0xC5) 7 tt i h)

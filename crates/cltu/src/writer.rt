@@ -1,16 +1,16 @@
 // The CLTU of a frame, written into lent output (clause 8.3).
 use base::LARGEST_FRAME;
 use base::SMALLEST_FRAME;
-use randomizer::PERIOD;
 ghost use mathlib.Core.Path.{_≡_};
-ghost use Prim.Native.Nat.{_+_, _*_, _<_, _≤_};
+ghost use Prim.Native.Nat.{_+_, _*_, _/_, _≤_};
 ghost use mathlib.Core.List.{_++_};
-ghost use lib.ListN.{length, getD, take, drop};
+ghost use lib.ListN.{length};
 ghost use Rattle.base.specs.Limits.{largestFrame};
 ghost use Rattle.base.specs.Outcome.{answer, after};
-ghost use Rattle.codeblock.specs.Codeblock.{errorControl};
-ghost use Rattle.randomizer.specs.Randomizer.{sequenceOf};
-ghost use Rattle.cltu.specs.Cltu.{codeblocks, need, informationFor, cltuOf, writing};
+ghost use Rattle.encoded_data.specs.EncodedData.{encoded};
+ghost use Rattle.memory.specs.Placed.{placed};
+ghost use Rattle.start_sequence.specs.StartSequence.{startSequence};
+ghost use Rattle.cltu.specs.Cltu.{codeblocks, informationFor, tailSequence, writing};
 ghost use Rattle.cltu.specs.Answers.{writtenAnswer};
 
 // The count of octets written, or document 01's refusal 10 or 11.
@@ -20,68 +20,32 @@ pub enum CltuWritten {
     Room,
 }
 
-// Octet k of the information: of the frame or the fill, randomized.
-fn information_octet(frame: &[u8], sequence: &[u8], k: usize) -> u8
-    requires { ⌜ (k < 7 * codeblocks (length (now frame))) × (now sequence ≡ sequenceOf 255 0) ⌝ }
-    ensures { λ r. ⌜ r ≡ getD (informationFor (now (frame .entry))) k 0 ⌝ }
+// The information of the largest frame: its octets and the fill of the last codeblock.
+const LARGEST_INFORMATION: usize = (LARGEST_FRAME + 6) / 7 * 7;
+
+// Clause 8.3, Start Sequence and Tail Sequence.
+const START: [u8; 2] = [0xEB, 0x90];
+
+const TAIL: [u8; 8] = [0xC5, 0xC5, 0xC5, 0xC5, 0xC5, 0xC5, 0xC5, 0x79];
+
+// Puts the information of a frame, so many octets, to the front of the lent memory: the frame with its fill, randomized.
+fn put_information(frame: &[u8], count: usize, information: &mut [u8])
+    requires { ⌜ (length (now frame) ≤ largestFrame) × (count ≡ 7 * codeblocks (length (now frame))) ⌝ }
+    ensures { λ _. ⌜ now (information .exit) ≡ placed (now (information .entry)) 0 (informationFor (now (frame .entry))) ⌝ }
 {
-    let random = sequence[k % PERIOD];
-    if k < frame.len() {
-        frame[k] ^ random
-    } else {
-        random ^ 0x55
-    }
+    let mut filled = [0x55u8; LARGEST_INFORMATION];
+    memory::put(&mut filled, 0, frame);
+    encoded_data::unpack(&filled[0..count], information);
 }
 
-// The error control octet of codeblock b.
-fn control_octet(frame: &[u8], sequence: &[u8], b: usize) -> u8
-    requires { ⌜ (b < codeblocks (length (now frame))) × (length (now frame) ≤ largestFrame) × (now sequence ≡ sequenceOf 255 0) ⌝ }
-    ensures { λ r. ⌜ r ≡ errorControl (take 7 (drop (7 * b) (informationFor (now (frame .entry))))) ⌝ }
+// Puts the CLTU of the information to the front of the output: start sequence, codeblocks up to a place, tail sequence.
+fn put_cltu(information: &[u8], end: usize, out: &mut [u8])
+    requires { ⌜ (end ≡ 2 + 8 * (length (now information) / 7)) × (end + 8 ≤ length (now out)) ⌝ }
+    ensures { λ _. ⌜ now (out .exit) ≡ placed (now (out .entry)) 0 (startSequence ++ encoded (length (now (information .entry)) / 7) (now (information .entry)) ++ tailSequence) ⌝ }
 {
-    let mut information = [0u8; 7];
-    let mut i = 0;
-    while i < 7 {
-        information[i] = information_octet(frame, sequence, 7 * b + i);
-        i += 1;
-    }
-    encoded_data::block::error_control(&information)
-}
-
-// The octet at a place of the CLTU.
-fn octet_of(frame: &[u8], sequence: &[u8], place: usize) -> u8
-    requires { ⌜ (place < need (length (now frame))) × (length (now frame) ≤ largestFrame) × (now sequence ≡ sequenceOf 255 0) ⌝ }
-    ensures { λ r. ⌜ r ≡ getD (cltuOf (now (frame .entry))) place 0 ⌝ }
-{
-    if place == 0 {
-        return 0xEB;
-    }
-    if place == 1 {
-        return 0x90;
-    }
-    let b = (place - 2) / 8;
-    let i = (place - 2) % 8;
-    if b < (frame.len() + 6) / 7 {
-        if i < 7 {
-            return information_octet(frame, sequence, 7 * b + i);
-        }
-        return control_octet(frame, sequence, b);
-    }
-    if i < 7 {
-        return 0xC5;
-    }
-    0x79
-}
-
-// The whole CLTU, which takes n octets, at the front of the output.
-fn put(frame: &[u8], sequence: &[u8], out: &mut [u8], n: usize)
-    requires { ⌜ (length (now frame) ≤ largestFrame) × (now sequence ≡ sequenceOf 255 0) × (n ≡ need (length (now frame))) × (n ≤ length (now out)) ⌝ }
-    ensures { λ _. ⌜ now (out .exit) ≡ cltuOf (now (frame .entry)) ++ drop (length (cltuOf (now (frame .entry)))) (now (out .entry)) ⌝ }
-{
-    let mut place = 0;
-    while place < n {
-        out[place] = octet_of(frame, sequence, place);
-        place += 1;
-    }
+    memory::put(out, 0, &START);
+    encoded_data::writer::encode(information, &mut out[2..end]);
+    memory::put(out, end, &TAIL);
 }
 
 // Writes the CLTU of a frame of SMALLEST_FRAME to LARGEST_FRAME octets. A refusal changes nothing.
@@ -96,12 +60,14 @@ pub fn write(frame: &[u8], out: &mut [u8]) -> CltuWritten
     if LARGEST_FRAME < n {
         return CltuWritten::Length;
     }
-    let need = 2 + 8 * ((n + 6) / 7) + 8;
+    let blocks = (n + 6) / 7;
+    let need = 2 + 8 * blocks + 8;
     if out.len() < need {
         return CltuWritten::Room;
     }
-    let mut sequence = [0u8; PERIOD];
-    randomizer::sequence(&mut sequence);
-    put(frame, &sequence, out, need);
+    let count = 7 * blocks;
+    let mut information = [0u8; LARGEST_INFORMATION];
+    put_information(frame, count, &mut information);
+    put_cltu(&information[0..count], need - 8, out);
     CltuWritten::Done(need)
 }
