@@ -5,7 +5,7 @@ use mathlib.Core.List.{List, [], _∷_}
 use Prim.Native.Nat.{ℕ, zero, suc, _+_, _<_}
 use native.Mathlib.Nat.{add-zero, zero-add, add-suc, suc-add, le-of-suc-le-suc, not-suc-le-zero}
 use lib.Dec.{T, eqb, eqb→eq}
-use lib.ListN.{getD}
+use lib.ListN.{length, getD}
 use Rattle.base.specs.Choice.{both}
 
 first : (a b : Bool) → T (both a b) → T a
@@ -30,6 +30,23 @@ from f (suc n) i t (suc k) h =
 
 pub below : (f : ℕ → Bool) (n : ℕ) → T (all f n 0) → (k : ℕ) → k < n → T (f k)
 below f n t k h = subst (λ (m : ℕ). T (f m)) (zero-add k) (from f n 0 t k h)
+
+-- the entries of a list from place i on are what f tells, tested one after another
+abbrev pub follows : (ℕ → ℕ) → ℕ → List ℕ → Bool
+follows f i [] = true
+follows f i (x ∷ xs) = both (eqb x (f i)) (follows f (suc i) xs)
+
+follows-from : (f : ℕ → ℕ) (i : ℕ) (xs : List ℕ) → T (follows f i xs) → (k : ℕ) → k < length xs → getD xs k 0 ≡ f (i + k)
+follows-from f i [] t k h = absurd (not-suc-le-zero h)
+follows-from f i (x ∷ xs) t zero h =
+    eqb→eq x (f i) (first (eqb x (f i)) (follows f (suc i) xs) t) ∙ subst (λ (m : ℕ). f i ≡ f m) (sym (add-zero i)) refl
+follows-from f i (x ∷ xs) t (suc k) h =
+    follows-from f (suc i) xs (second (eqb x (f i)) (follows f (suc i) xs) t) k (le-of-suc-le-suc h)
+    ∙ subst (λ (m : ℕ). f (suc i + k) ≡ f m) (suc-add i k ∙ sym (add-suc i k)) refl
+
+-- so each entry of a table is what f tells of its place
+pub table-follows : (table : List ℕ) (f : ℕ → ℕ) → T (follows f 0 table) → (i : ℕ) → i < length table → getD table i 0 ≡ f i
+table-follows table f t i h = follows-from f 0 table t i h ∙ subst (λ (m : ℕ). f (0 + i) ≡ f m) (zero-add i) refl
 
 -- the first n entries of a table are what f tells of their places
 pub table-by-test : (table : List ℕ) (f : ℕ → ℕ) (n : ℕ) → T (all (λ i. eqb (getD table i 0) (f i)) n 0) → (i : ℕ) → i < n → getD table i 0 ≡ f i

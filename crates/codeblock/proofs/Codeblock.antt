@@ -153,8 +153,8 @@ pub corrects-none : (block : List ℕ) → judged Detecting block .corrected ≡
 unfolding judged otherwise
 corrects-none block = none-by (isEncoding block) (take 7 block)
 
--- the first seven of eight octets
-pub first-seven : (block : List ℕ) → length block ≡ 8
+-- the first seven octets
+pub first-seven : (block : List ℕ) → 7 ≤ length block
     → take 7 block ≡ getD block 0 0 ∷ getD block 1 0 ∷ getD block 2 0 ∷ getD block 3 0 ∷ getD block 4 0 ∷ getD block 5 0 ∷ getD block 6 0 ∷ []
 first-seven s l =
     take-next s 6 0 (omega arith)

@@ -1,20 +1,21 @@
 -- Document 02, order 13: "Codeblocks go by table". What the entries of the tables are, and what the number of a wrong bit tells.
 use mathlib.Core.Path.{_≡_}
-use mathlib.Core.List.{List, [], _∷_}
-use Prim.Native.Nat.{ℕ, zero, suc, _*_, _<_}
+use mathlib.Core.List.{List, _∷_}
+use Prim.Native.Nat.{ℕ, zero, suc, _*_, _/_, _%_, _<_}
 use lib.Dec.{eqb}
 use lib.ListN.{take, getD, replicate}
 use Rattle.base.specs.Choice.{pick}
 use Rattle.codeblock.specs.declared.Judged.{Judged}
 use Rattle.codeblock.specs.Codeblock.{parity, codeblockOf, syndromeOf, flipped, good, bad}
 
--- the parity check bits of one octet, where they stand in the error control octet
-unfoldable pub parityEntry : ℕ → ℕ
-parityEntry octet = parity (octet ∷ []) * 2
+-- the share of an octet with n octets behind it in the error control octet: the parity check bits of this octet with zeros behind it, where they
+-- stand there
+unfoldable pub shareOf : ℕ → ℕ → ℕ
+shareOf n octet = parity (octet ∷ replicate n 0) * 2
 
--- the table of 256 entries: entry i is that of octet i
-pub record ParityTable (table : List ℕ) : Type 0 where
-  pub rule : (i : ℕ) → i < 256 → getD table i 0 ≡ parityEntry i
+-- two tables of 256 entries, one behind the other: entry i of table n is the share of octet i with n octets behind it
+pub record ShareTable (table : List ℕ) : Type 0 where
+  pub rule : (i : ℕ) → i < 512 → getD table i 0 ≡ shareOf (i / 256) (i % 256)
 
 -- the syndrome of a codeblock in which bit i alone is wrong
 unfoldable pub singleSyndrome : ℕ → ℕ

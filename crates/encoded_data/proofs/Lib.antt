@@ -1,3 +1,4 @@
 pub mod Encoded
 pub mod Scan
 pub mod Runs
+pub mod Single

@@ -9,7 +9,9 @@ use crate::block::invert;
 use crate::block::wrong_bit;
 use crate::table::BITS;
 use crate::table::NO_BIT;
-use crate::table::PARITIES;
+use crate::table::SHARES;
+use crate::table::SHARES_LENGTH;
+use codeblock::Judged;
 use codeblock::Mode;
 use randomizer::PERIOD;
 ghost use mathlib.Core.Path.{_≡_};
@@ -17,7 +19,7 @@ ghost use Prim.Native.Nat.{_+_, _*_, _≤_};
 ghost use mathlib.Core.List.{_++_};
 ghost use lib.ListN.{length, drop};
 ghost use Rattle.codeblock.specs.Codeblock.{flipped, judged};
-ghost use Rattle.codeblock.specs.Table.{ParityTable, BitTable};
+ghost use Rattle.codeblock.specs.Table.{ShareTable, BitTable};
 ghost use Rattle.memory.specs.Placed.{placed};
 ghost use Rattle.randomizer.specs.Randomizer.{randomized, sequenceOf};
 ghost use Rattle.encoded_data.specs.EncodedData.{goodRun, informationIn, correctedIn, wholeIn};
@@ -40,14 +42,14 @@ fn put_information(memory: &mut [u8], place: usize, information: &[u8], bit: u8)
 
 // Takes the good ones of so many codeblocks, each judged once in the mode; their information to the front of the lent memory.
 fn take(
-    parities: &[u8; 256],
+    shares: &[u8; SHARES_LENGTH],
     bits: &[u8; 128],
     input: &[u8],
     mode: Mode,
     whole: usize,
     information: &mut [u8],
 ) -> Run
-    requires { ⌜ ParityTable (now parities) × BitTable (now bits) × (8 * whole ≤ length (now input)) × (7 * whole ≤ length (now information)) ⌝ }
+    requires { ⌜ ShareTable (now shares) × BitTable (now bits) × (8 * whole ≤ length (now input)) × (7 * whole ≤ length (now information)) ⌝ }
     ensures run { λ r. ⌜ (r .blocks ≡ goodRun (judged mode) whole (now (input .entry))) × (r .corrected ≡ correctedIn (judged mode) (r .blocks) (now (input .entry))) ⌝ }
     ensures memory { λ r. ⌜ now (information .exit) ≡ informationIn (judged mode) (r .blocks) (now (input .entry)) ++ drop (length (informationIn (judged mode) (r .blocks) (now (input .entry)))) (now (information .entry)) ⌝ }
 {
@@ -56,7 +58,7 @@ fn take(
     while n < whole {
         let at = 8 * n;
         let end = at + 8;
-        let bit = wrong_bit(parities, bits, &input[at..end], mode);
+        let bit = wrong_bit(shares, bits, &input[at..end], mode);
         if bit == NO_BIT {
             return Run {
                 blocks: n,
@@ -85,14 +87,55 @@ fn whole_in(octets: usize, room: usize) -> usize
     whole
 }
 
+// Takes the good ones of the whole codeblocks of the input, by the tables.
+fn take_whole(
+    shares: &[u8; SHARES_LENGTH],
+    bits: &[u8; 128],
+    input: &[u8],
+    mode: Mode,
+    information: &mut [u8],
+) -> Run
+    requires { ⌜ ShareTable (now shares) × BitTable (now bits) ⌝ }
+    ensures run { λ r. ⌜ (r .blocks ≡ goodRun (judged mode) (wholeIn (length (now (input .entry))) (length (now (information .entry)))) (now (input .entry))) × (r .corrected ≡ correctedIn (judged mode) (r .blocks) (now (input .entry))) ⌝ }
+    ensures memory { λ r. ⌜ now (information .exit) ≡ informationIn (judged mode) (r .blocks) (now (input .entry)) ++ drop (length (informationIn (judged mode) (r .blocks) (now (input .entry)))) (now (information .entry)) ⌝ }
+{
+    let whole = whole_in(input.len(), information.len());
+    take(shares, bits, input, mode, whole, information)
+}
+
 // Takes the good codeblocks at the front of the input, judged in the mode; their information to the front of the lent memory. Takes none where the memory
 // has no room for all whole codeblocks.
 pub fn take_good(input: &[u8], mode: Mode, information: &mut [u8]) -> Run
     ensures run { λ r. ⌜ (r .blocks ≡ goodRun (judged mode) (wholeIn (length (now (input .entry))) (length (now (information .entry)))) (now (input .entry))) × (r .corrected ≡ correctedIn (judged mode) (r .blocks) (now (input .entry))) ⌝ }
     ensures memory { λ r. ⌜ now (information .exit) ≡ informationIn (judged mode) (r .blocks) (now (input .entry)) ++ drop (length (informationIn (judged mode) (r .blocks) (now (input .entry)))) (now (information .entry)) ⌝ }
 {
-    let whole = whole_in(input.len(), information.len());
-    take(&PARITIES, &BITS, input, mode, whole, information)
+    take_whole(&SHARES, &BITS, input, mode, information)
+}
+
+// The judgement of a codeblock that is bad: nothing of it is used.
+const BAD: Judged = Judged {
+    good: false,
+    information: [0; 7],
+    corrected: 0,
+};
+
+// Judges octets as a codeblock, of which there are eight, in the mode.
+pub fn judge(block: &[u8], mode: Mode) -> Judged
+    ensures { λ r. ⌜ r ≡ judged mode (now (block .entry)) ⌝ }
+{
+    if block.len() != 8 {
+        return BAD;
+    }
+    let mut information = [0u8; 7];
+    let run = take_good(block, mode, &mut information);
+    if run.blocks == 0 {
+        return BAD;
+    }
+    Judged {
+        good: true,
+        information: information,
+        corrected: run.corrected as u8,
+    }
 }
 
 // One run of information, exclusive or the sequence from its beginning, into all of the output.

@@ -46,7 +46,7 @@ pub extern "C" fn pondreszi_codeblock_judge(
         return 12;
     }
     let chosen = mode_of(mode);
-    let judged = encoded_data::block::judge(block, chosen);
+    let judged = encoded_data::judge(block, chosen);
     told_judged(judged, information, corrected)
 }
 

@@ -21,11 +21,11 @@ first-part n s =
     take-take 7 (8 * n + 8 - 8 * n) (drop (8 * n) s) (omega arith) ∙ ap (λ (k : ℕ). take k (drop (8 * n) s)) e
 
 abbrev Inv-loop : tie.InvT-loop
-Inv-loop parities bits input mode whole information₀ corrected₀ n₀ information corrected n =
+Inv-loop shares bits input mode whole information₀ corrected₀ n₀ information corrected n =
     Taken (judged mode) whole input information₀ information corrected n × (length information ≡ length information₀)
 
 abbrev μ-loop : tie.MeasureT-loop
-μ-loop parities bits input mode whole information₀ corrected₀ n₀ information corrected n = whole - n
+μ-loop shares bits input mode whole information₀ corrected₀ n₀ information corrected n = whole - n
 
 loop-holds : tie.Need-loop-holds Inv-loop μ-loop
 loop-holds c =

@@ -1,39 +1,22 @@
--- All whole codeblocks are looked at where there is room for their information, else none. The constants keep their rules, by the computed tests.
+-- The constants keep their rules, by computed tests over all entries (codeblock/proofs/ByTable).
 use borrow.Author.Needs.{needs}
-use mathlib.Core.Path.{sym, ap, subst, _∙_}
-use Prim.Native.Nat.{ℕ, _*_, _≤_}
-use denote.Ref.{now}
-use lib.ListN.{length}
+use mathlib.Core.Path.{refl}
 use Rattle.base.specs.Register.{shiftBit, shiftBits, register}
-use Rattle.codeblock.specs.Codeblock.{parity, judged}
-use Rattle.codeblock.specs.Table.{parityEntry}
-use Rattle.codeblock.proofs.ByTable.{parity-table, bit-table}
-use Rattle.encoded_data.specs.EncodedData.{goodRun}
-use Rattle.encoded_data.proofs.Scan.{whole-fits}
+use Rattle.codeblock.specs.Codeblock.{parity}
+use Rattle.codeblock.specs.Table.{shareOf}
+use Rattle.codeblock.proofs.ByTable.{share-table, bit-table}
 use Rattle.encoded_data.proofs.take_good.Statement.{statement}
 use Rattle.encoded_data.proofs.take_good.Tie as tie
 
-whole-in-requires : tie.Need-whole-in-requires
-whole-in-requires c κs = search needs
-
-take-requires : tie.Need-take-requires
-unfolding parityEntry parity register shiftBits shiftBit
-take-requires c κs =
-    let w : tie.After-whole-in = search needs in
-    let a = w .before .before .before .args in
-    let f = whole-fits (length (now (a .input))) (length (now (a .information))) in
-    let e = w .whole-in .ensures in
-    (parity-table _ tt, bit-table _ tt, subst (λ (n : ℕ). 8 * n ≤ length (now (a .input))) (sym e) (f .0), subst (λ (n : ℕ). 7 * n ≤ length (now (a .information))) (sym e) (f .1))
+take-whole-requires : tie.Need-take-whole-requires
+unfolding shareOf parity register shiftBits shiftBit
+take-whole-requires c κs = (share-table _ refl tt, bit-table _ refl tt)
 
 same-length : tie.Need-same-length
 same-length c = search needs
 
 returns : tie.Need-returns
-returns c =
-    let w : tie.After-whole-in = search needs in
-    let a = w .before .before .before .args in
-    let e = c .before .before .take .ensures in
-    ((e .0 .0 ∙ ap (λ (k : ℕ). goodRun (judged (a .mode)) k (now (a .input))) (w .whole-in .ensures), e .0 .1), e .1)
+returns c = search needs
 
 pub take-good-spec : {M : Type 1} → statement M
-take-good-spec = tie.close (tie.spec whole-in-requires take-requires same-length returns)
+take-good-spec = tie.close (tie.spec take-whole-requires same-length returns)

@@ -14,10 +14,10 @@ use Rattle.encoded_data.proofs.block.control_by.Statement.{statement}
 use Rattle.encoded_data.proofs.block.control_by.Tie as tie
 
 abbrev Inv-loop : tie.InvT-loop
-Inv-loop parities information parity₀ i₀ parity i = (parity % 2 ≡ 0) × OctetsLeft 6 generator 0 information (parity / 2) i
+Inv-loop shares information parity₀ i₀ parity i = (parity % 2 ≡ 0) × OctetsLeft 6 generator 0 information (parity / 2) i
 
 abbrev μ-loop : tie.MeasureT-loop
-μ-loop parities information parity₀ i₀ parity i = length information - i
+μ-loop shares information parity₀ i₀ parity i = length information - i
 
 loop-holds : tie.Need-loop-holds Inv-loop μ-loop
 loop-holds c = (refl, record { same = refl; within = search needs })

@@ -1,15 +1,16 @@
--- The constant keeps the table's rule: the checker computes the test over all its entries (codeblock/proofs/ByTable).
+-- The constant keeps its rule, by computed tests over all entries (codeblock/proofs/ByTable).
 use borrow.Author.Needs.{needs}
+use mathlib.Core.Path.{refl}
 use Rattle.base.specs.Register.{shiftBit, shiftBits, register}
 use Rattle.codeblock.specs.Codeblock.{parity}
-use Rattle.codeblock.specs.Table.{parityEntry}
-use Rattle.codeblock.proofs.ByTable.{parity-table}
+use Rattle.codeblock.specs.Table.{shareOf}
+use Rattle.codeblock.proofs.ByTable.{share-table}
 use Rattle.encoded_data.proofs.block.error_control.Statement.{statement}
 use Rattle.encoded_data.proofs.block.error_control.Tie as tie
 
 control-by-requires : tie.Need-control-by-requires
-unfolding parityEntry parity register shiftBits shiftBit
-control-by-requires c κs = parity-table _ tt
+unfolding shareOf parity register shiftBits shiftBit
+control-by-requires c κs = share-table _ refl tt
 
 returns : tie.Need-returns
 returns c = search needs

@@ -5,7 +5,8 @@ use mathlib.Core.List.{List}
 use Prim.Native.Nat.{ℕ, _+_, _-_, _*_, _≤_}
 use native.Mathlib.Omega.{arith}
 use denote.Ref.{now}
-use lib.ListN.{length, take, drop, set, length-set}
+use lib.ListN.{length, take, drop, set, length-set, length-take}
+use lib.Seq.{take-all}
 use Rattle.codeblock.specs.Codeblock.{errorControl}
 use Rattle.memory.specs.Placed.{placed}
 use Rattle.memory.proofs.Parts.{placed-length}
@@ -16,10 +17,10 @@ use Rattle.encoded_data.proofs.writer.put_codeblocks.Statement.{stateme
 use Rattle.encoded_data.proofs.writer.put_codeblocks.Tie as tie
 
 abbrev Inv-loop : tie.InvT-loop
-Inv-loop information whole out₀ n₀ out n = (n ≤ whole) × Written information out₀ out n × (length out ≡ length out₀)
+Inv-loop shares information whole out₀ n₀ out n = (n ≤ whole) × Written information out₀ out n × (length out ≡ length out₀)
 
 abbrev μ-loop : tie.MeasureT-loop
-μ-loop information whole out₀ n₀ out n = whole - n
+μ-loop shares information whole out₀ n₀ out n = whole - n
 
 loop-holds : tie.Need-loop-holds Inv-loop μ-loop
 loop-holds c =
@@ -47,8 +48,8 @@ mul-put c = search needs
 put-requires : tie.Need-put-requires Inv-loop μ-loop
 put-requires c κs = search needs
 
-error-control-requires : tie.Need-error-control-requires Inv-loop μ-loop
-error-control-requires c κs = search needs
+control-of-requires : tie.Need-control-of-requires Inv-loop μ-loop
+control-of-requires c κs = search needs
 
 mul-out : tie.Need-mul-out Inv-loop μ-loop
 mul-out c = search needs
@@ -70,11 +71,11 @@ loop-again c =
     let a = c .before .before .before .before .before .before .before .before .before .before .args in
     let l = c .before .before .before .before .before .before .before .loop in
     let p = c .before .before .before .put in
-    let r = c .error-control in
+    let r = c .control-of in
     let s = now (a .information) in
     let seven = take (7 * l .n + 7 - 7 * l .n) (drop (7 * l .n) s) in
     let e : placed (l .out) (8 * l .n) seven ≡ p .last .0 = sym (p .ensures) in
-    let v : errorControl seven ≡ r .result = sym (r .ensures) in
+    let v : errorControl seven ≡ r .result = ap errorControl (sym (take-all 7 seven (omega (arith, length-take (7 * l .n + 7 - 7 * l .n) (drop (7 * l .n) s))))) ∙ sym (r .ensures) in
     let w = written-more s (now (a .out)) (l .out) seven (l .n) (l .inv .1) (l .inv .2) refl (search needs) (search needs) in (
       search needs,
       subst (λ (k : ℕ). Written s (now (a .out)) (set (p .last .0) (8 * l .n + 7) k) (l .n + 1)) v
@@ -108,7 +109,7 @@ put-codeblocks-spec =
     part-seven-end
     mul-put
     put-requires
-    error-control-requires
+    control-of-requires
     mul-out
     add-out
     slice-write-out
