@@ -1,4 +1,4 @@
--- A rule at every number below a bound, by one computed test; a table's rule (`table-by-test`); and a list that a function tabulates.
+-- A rule at every number below a bound, by one computed test; a table's rule (`table-follows`); and a list that a function tabulates.
 use mathlib.Core.Path.{_≡_, refl, _∙_, subst, sym}
 use mathlib.Core.Bool.{Bool, true, false, not}
 use mathlib.Core.List.{List, [], _∷_}
@@ -47,10 +47,6 @@ follows-from f i (x ∷ xs) t (suc k) h =
 -- so each entry of a table is what f tells of its place
 pub table-follows : (table : List ℕ) (f : ℕ → ℕ) → T (follows f 0 table) → (i : ℕ) → i < length table → getD table i 0 ≡ f i
 table-follows table f t i h = follows-from f 0 table t i h ∙ subst (λ (m : ℕ). f (0 + i) ≡ f m) (zero-add i) refl
-
--- the first n entries of a table are what f tells of their places
-pub table-by-test : (table : List ℕ) (f : ℕ → ℕ) (n : ℕ) → T (all (λ i. eqb (getD table i 0) (f i)) n 0) → (i : ℕ) → i < n → getD table i 0 ≡ f i
-table-by-test table f n t i h = eqb→eq (getD table i 0) (f i) (below (λ k. eqb (getD table k 0) (f k)) n t i h)
 
 -- f at the n numbers from i on
 abbrev pub tabulate : (ℕ → ℕ) → ℕ → ℕ → List ℕ

@@ -2,23 +2,18 @@
 -- rule (`through`).
 use mathlib.Core.Path.{_≡_, refl, sym, ap, _∙_}
 use mathlib.Core.List.{List}
-use mathlib.Core.Bool.{Bool}
 use Prim.Native.Nat.{ℕ, _*_, _/_, _%_, _<_}
 use native.Mathlib.Omega.{arith}
 use lib.Bits.{bitXor, xor-lt}
-use lib.Dec.{T, eqb}
-use lib.ListN.{getD}
+use lib.Dec.{T}
+use lib.ListN.{length, getD}
 use Rattle.base.specs.Register.{register}
-use Rattle.base.proofs.Computed.{all, table-by-test}
+use Rattle.base.proofs.Computed.{follows, table-follows}
 use Rattle.fecf.specs.Table.{entryOf, Rule}
 use Rattle.fecf.proofs.Table.{octet, entry, by-table}
 
--- the entry at a place is the one that the rule tells
-abbrev pub right : List ℕ → ℕ → Bool
-right table i = eqb (getD table i 0) (entryOf i)
-
-pub rule-by-test : (table : List ℕ) → T (all (right table) 256 0) → Rule table
-rule-by-test table t = record { rule = table-by-test table entryOf 256 t }
+pub rule-by-test : (table : List ℕ) → length table ≡ 256 → T (follows entryOf 0 table) → Rule table
+rule-by-test table l t = record { rule = λ i h. table-follows table entryOf t i (omega arith) }
 
 -- the upper octet and the octet added tell a place in the table
 pub place-lt : (r o : ℕ) → r < 65536 → o < 256 → bitXor (r / 256) o < 256

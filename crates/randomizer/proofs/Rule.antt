@@ -1,15 +1,14 @@
 -- A table of the sequence: its first octet is all ones and each next one stands eight bits later, by one computed test over the whole table.
 use mathlib.Core.Path.{_≡_, sym, ap, _∙_}
-use mathlib.Core.Bool.{Bool}
 use mathlib.Core.List.{List}
 use Prim.Native.Nat.{ℕ, zero, suc, _<_}
 use native.Mathlib.Nat.{zero-add}
 use native.Mathlib.Numerals.{add-one}
 use native.Mathlib.Omega.{arith}
-use lib.Dec.{T, eqb}
+use lib.Dec.{T}
 use lib.ListN.{length, getD}
 use lib.Seq.{ext-getD}
-use Rattle.base.proofs.Computed.{all, table-by-test}
+use Rattle.base.proofs.Computed.{follows, table-follows}
 use Rattle.randomizer.specs.Randomizer.{later, allOnes, octet, sequenceOf}
 use Rattle.randomizer.proofs.Randomized.{octet-next, sequence-at, length-sequence}
 
@@ -18,20 +17,17 @@ abbrev pub following : List ℕ → ℕ → ℕ
 following table zero = allOnes
 following table (suc k) = later 8 (getD table k 0)
 
-abbrev pub right : List ℕ → ℕ → Bool
-right table k = eqb (getD table k 0) (following table k)
-
 -- the octets that follow so are the sequence's
-entry : (table : List ℕ) (n : ℕ) → T (all (right table) n 0) → (k : ℕ) → k < n → getD table k 0 ≡ octet k
+entry : (table : List ℕ) → T (follows (following table) 0 table) → (k : ℕ) → k < length table → getD table k 0 ≡ octet k
 unfolding octet later
-entry table n t zero h = table-by-test table (following table) n t 0 h
-entry table n t (suc k) h =
-    table-by-test table (following table) n t (suc k) h
-    ∙ ap (later 8) (entry table n t k (omega arith))
+entry table t zero h = table-follows table (following table) t 0 h
+entry table t (suc k) h =
+    table-follows table (following table) t (suc k) h
+    ∙ ap (later 8) (entry table t k (omega arith))
     ∙ sym (octet-next k)
     ∙ ap octet (add-one k)
 
-pub sequence-by-test : (table : List ℕ) (n : ℕ) → length table ≡ n → T (all (right table) n 0) → table ≡ sequenceOf n 0
+pub sequence-by-test : (table : List ℕ) (n : ℕ) → length table ≡ n → T (follows (following table) 0 table) → table ≡ sequenceOf n 0
 sequence-by-test table n l t =
     ext-getD 0 table (sequenceOf n 0) (l ∙ sym (length-sequence n 0))
-    (λ k h. entry table n t k (omega arith) ∙ sym (sequence-at n 0 k (omega arith) ∙ ap octet (zero-add k)))
+    (λ k h. entry table t k h ∙ sym (sequence-at n 0 k (omega arith) ∙ ap octet (zero-add k)))
