@@ -30,13 +30,43 @@ pub struct Run {
     pub corrected: usize,
 }
 
+// Seven octets as an array, all read before any is put.
+fn seven_of(information: &[u8]) -> [u8; 7]
+    requires { ⌜ length (now information) ≡ 7 ⌝ }
+    ensures { λ r. ⌜ r ≡ now (information .entry) ⌝ }
+{
+    [
+        information[0],
+        information[1],
+        information[2],
+        information[3],
+        information[4],
+        information[5],
+        information[6],
+    ]
+}
+
+// Puts seven octets into memory at a place.
+fn put_seven(memory: &mut [u8], place: usize, seven: [u8; 7])
+    requires { ⌜ place + 7 ≤ length (now memory) ⌝ }
+    ensures { λ _. ⌜ now (memory .exit) ≡ placed (now (memory .entry)) place seven ⌝ }
+{
+    memory[place] = seven[0];
+    memory[place + 1] = seven[1];
+    memory[place + 2] = seven[2];
+    memory[place + 3] = seven[3];
+    memory[place + 4] = seven[4];
+    memory[place + 5] = seven[5];
+    memory[place + 6] = seven[6];
+}
+
 // Puts the information of a codeblock into memory at a place, the wrong bit inverted.
 fn put_information(memory: &mut [u8], place: usize, information: &[u8], bit: u8)
-    requires { ⌜ place + length (now information) ≤ length (now memory) ⌝ }
+    requires { ⌜ (length (now information) ≡ 7) × (place + 7 ≤ length (now memory)) ⌝ }
     ensures { λ _. ⌜ now (memory .exit) ≡ placed (now (memory .entry)) place (flipped bit (now (information .entry))) ⌝ }
 {
-    memory::put(memory, place, information);
-    let end = place + information.len();
+    put_seven(memory, place, seven_of(information));
+    let end = place + 7;
     invert(&mut memory[place..end], bit);
 }
 

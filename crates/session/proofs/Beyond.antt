@@ -1,7 +1,5 @@
 -- All that holds beyond demand 3 (specs/Beyond), of all ends that do as the tables say, after every list of events over channels that repeat and
 -- noise, with a recorder that keeps at most NW units: one run of Core's session (Linked), at which each part is proved in a file of its own.
-use mathlib.Core.List.{List}
-use Prim.Native.Nat.{ℕ}
 use Rattle.session.specs.Ends.{Settings, Within, Ends, Tied}
 use Rattle.session.specs.Beyond.{Beyond}
 use Rattle.session.proofs.Linked.{from-start}

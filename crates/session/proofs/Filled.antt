@@ -18,7 +18,7 @@ use Rattle.receiver.specs.Receiver as farm
 use Rattle.session.specs.Frames.{read}
 use Rattle.session.specs.Receiver.{frameArrives, receiverNext, receiverAnswer}
 use Rattle.session.specs.Ends.{Settings, Within, Ends, Tied}
-use Rattle.session.specs.Session.{Linked, frameCome, afterFrame}
+use Rattle.session.specs.Session.{Linked, frameCome}
 use Rattle.session.specs.Channels.{largestFill, isFill, withFill}
 use Rattle.session.proofs.Choices.{by-pick, and-both}
 use Rattle.session.proofs.Core.{Session, used}

@@ -9,7 +9,6 @@ use Rattle.fop.specs.declared.State.the-variants.{S1}
 use Rattle.fop.specs.Machine.{fdus}
 use Rattle.fop.specs.declared.Lower.the-variants.{AdAccept, BcAccept}
 use Rattle.fop.specs.Events.{directive, wordArrives}
-use Rattle.fop.specs.declared.Run.{Run}
 use Rattle.fop.specs.Answers.{Answer, senderAnswer}
 use Rattle.farm.specs.declared.Event.the-variants.{E4}
 use Rattle.session.specs.Receiver.{ReceiverAnswer, frameArrives, receiverAnswer}

@@ -5,14 +5,14 @@
 use mathlib.Core.Path.{_≡_, refl}
 use mathlib.Core.List.{List, [], _∷_, _++_}
 use Prim.Native.Nat.{ℕ}
-use Rattle.fop.specs.Units.{Fdu, Frame, AD, BD, Unlock, SetVR, Refused, written}
+use Rattle.fop.specs.Units.{Frame, AD, BD, Unlock, SetVR, Refused, written}
 use Rattle.fop.specs.declared.Lower.the-variants.{AdAccept, BcAccept}
 use Rattle.session.specs.Frames.{read}
 use Rattle.session.specs.Ends.{Settings, tables, startReceiver}
 use Rattle.session.specs.Session.{Linked, begins, adRequest, bdRequest, lowerSays, terminate, frameIn, frameCome, step}
 use Rattle.session.specs.Channels.{demanded, frameStays, linkStep, linkRun}
 use Rattle.session.proofs.Trace.{computing, settings, after}
-use Rattle.session.proofs.Renumbered.{Operation, event, direct, after as operations}
+use Rattle.session.proofs.Renumbered.{event, direct, after as operations}
 
 abbrev set : Settings
 set = settings 3 2 9 3

@@ -13,8 +13,11 @@ use Rattle.memory.proofs.Parts.{placed-there, placed-over}
 use Rattle.encoded_data.proofs.put_information.Statement.{statement}
 use Rattle.encoded_data.proofs.put_information.Tie as tie
 
-put-requires : tie.Need-put-requires
-put-requires c κs = search needs
+seven-of-requires : tie.Need-seven-of-requires
+seven-of-requires c κs = search needs
+
+put-seven-requires : tie.Need-put-seven-requires
+put-seven-requires c κs = search needs
 
 add-end : tie.Need-add-end
 add-end c = search needs
@@ -45,17 +48,18 @@ inverted memory octets m part place bit k l e f h =
 
 returns : tie.Need-returns
 returns c =
-    let b = c .before .before .before .before .before .before in
-    let a = b .before .before .before .before .args in
-    inverted (now (a .memory)) (now (a .information)) (b .put .last .0) (c .before .before .invert .last .0) (a .place) (a .bit)
-    (a .place + length (now (a .information)) - a .place) (omega arith)
-    (b .put .ensures) (c .before .before .invert .ensures) (search needs)
+    let p : tie.After-put-seven = search needs in
+    let s : tie.After-seven-of = search needs in
+    let a = s .before .before .before .before .args in
+    inverted (now (a .memory)) (now (a .information)) (p .put-seven .last .0) (c .before .before .invert .last .0) (a .place) (a .bit) (a .place + 7 - a .place)
+    (omega arith) (p .put-seven .ensures ∙ ap (placed (now (a .memory)) (a .place)) (s .seven-of .ensures)) (c .before .before .invert .ensures) (search needs)
 
 pub put-information-spec : {M : Type 1} → statement M
 put-information-spec =
     tie.close
     (tie.spec
-    put-requires
+    seven-of-requires
+    put-seven-requires
     add-end
     sub-invert
     part-invert-start
