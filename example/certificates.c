@@ -1,6 +1,6 @@
 /*
- * Sends a file of certificates, a line as a unit, from an uplink unit to a receiver on board, over a loopback that loses frames and
- * control words. Ends with status 0 only where the received file equals the sent one.
+ * Sends a file of certificates, a line as a unit, from an uplink unit to a receiver on board, over a loopback that flips bits and loses
+ * frames and control words. Ends with status 0 only where the received file equals the sent one.
  *
  *   certificates FILE RECEIVED [SEED [FRAME_LOSS [WORD_LOSS]]]      losses in percent, 0 to 99
  *

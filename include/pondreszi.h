@@ -149,9 +149,9 @@ uint8_t pondreszi_cltu_write(const uint8_t *frame, size_t frame_len, uint8_t *ou
  * ends a CLTU early when detecting is mended when correcting, but so is noise behind a lost tail, and a reading that was done may become 3.
  * corrected: the count of corrected codeblocks, 0 by a refusal.
  *
- * An earlier near match hides a later exact one: when detecting, EA 90 before a whole CLTU is refusal 2 at place 2. 4,096 octets of noise
- * hold about one such match, so refusal 2 is the usual answer to noise (three in four when
- * correcting): call again with the octets from place on.
+ * An earlier near match hides a later exact one: EA 90 before a whole CLTU can be refusal 2 at place 2. 4,096 octets of noise hold about
+ * one near match, so refusal 2 is the usual answer to noise: call again with the octets from place on. Of eight octets of noise behind a
+ * near match about one in 256 passes as a codeblock when detecting, one in four when correcting, and reading goes on.
  * Refusals: 10 input over 4,096 octets, 12 mode, 1, 2, 3, 11 output too short.
  */
 uint8_t pondreszi_cltu_read(const uint8_t *input, size_t input_len, uint32_t mode, uint8_t *output, size_t output_len, uint64_t *count,
