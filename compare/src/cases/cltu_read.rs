@@ -87,28 +87,25 @@ fn read_fixed(tally: &mut Tally, fault: Fault) {
     runs_on(&one_codeblock, tally, fault);
 }
 
-/// At every offset of 4,096 octets a start sequence with one or two bits in error, before a
+/// At every offset of 4,096 octets a start sequence with one and with two bits in error, before a
 /// codeblock and tail as far as they fit, behind zeros or behind places that are two bits
 /// away.
 fn near_everywhere(whole: &[u8], tally: &mut Tally, fault: Fault) {
     let two_away = [START_SEQUENCE[0] ^ 0x81, START_SEQUENCE[1]];
     for offset in 0..=4096 - START_SEQUENCE.len() {
         let bit: u16 = 1 << (offset / 4 % 16);
-        let other: u16 = 1 << ((offset / 4 + offset / 64 + 1) % 16);
-        let (mask, before) = match offset % 4 {
-            0 => (bit, [0, 0]),
-            1 => (bit, two_away),
-            2 => (bit | other, [0, 0]),
-            _ => (bit | other, two_away),
-        };
-        let [first, second] = mask.to_be_bytes();
-        let mut input: Vec<u8> = before.into_iter().cycle().take(offset).collect();
-        input.extend(whole);
-        input[offset] ^= first;
-        input[offset + 1] ^= second;
-        input.truncate(4096);
-        let mode = [DETECTING, CORRECTING][offset / 4 % 2];
-        read(&input, mode, vec![0xA5; 7], None, tally, fault);
+        let other: u16 = 1 << ((offset / 4 + 1 + offset / 64 % 15) % 16);
+        let before = [[0, 0], two_away][offset % 2];
+        let mode = [DETECTING, CORRECTING][offset / 2 % 2];
+        for mask in [bit, bit | other] {
+            let [first, second] = mask.to_be_bytes();
+            let mut input: Vec<u8> = before.into_iter().cycle().take(offset).collect();
+            input.extend(whole);
+            input[offset] ^= first;
+            input[offset + 1] ^= second;
+            input.truncate(4096);
+            read(&input, mode, vec![0xA5; 7], None, tally, fault);
+        }
     }
 }
 
