@@ -1,15 +1,16 @@
--- A computed example of each outcome of reading and of each refusal of writing, and document 01's exact needs 26 and 306.
+-- A computed example of each outcome of reading and of each refusal of writing, a CLTU behind an octet, and document 01's exact needs 26 and 306.
 use mathlib.Core.Path.{_≡_, refl}
 use mathlib.Core.List.{List, [], _∷_, _++_}
 use Prim.Native.Nat.{ℕ, _+_}
 use lib.ListN.{replicate}
-use Rattle.base.specs.Outcome.{answer, numberOf}
+use Rattle.base.specs.Outcome.{Outcome.done, answer, numberOf}
 use Rattle.base.specs.Register.{shiftBit, shiftBits, register}
 use Rattle.base.specs.Limits.{largestFrame, largestInput}
 use Rattle.base.specs.Octets.{bitsOf, octetBits}
 use Rattle.base.specs.Distance.{differing}
-use Rattle.codeblock.specs.declared.Mode.the-variants.{Detecting}
-use Rattle.codeblock.specs.Codeblock.{parity, errorControl, codeblockOf, isEncoding, otherwise, judged}
+use Rattle.codeblock.specs.declared.Mode.{Mode}
+use Rattle.codeblock.specs.declared.Mode.the-variants.{Detecting, Correcting}
+use Rattle.codeblock.specs.Codeblock.{parity, errorControl, codeblockOf, isEncoding, flipped, mended, otherwise, judged}
 use Rattle.randomizer.specs.Randomizer.{nextBit, later, octet, randomized}
 use Rattle.start_sequence.specs.StartSequence.{startSequence, recognized, starts, startOf}
 use Rattle.encoded_data.specs.EncodedData.{encoded, goodRun, informationIn, correctedIn}
@@ -32,6 +33,16 @@ pub readings :
     × (readNumber (cltuOf frame) 13 ≡ 11)
 unfolding readingBy readingRun correctedIn informationIn goodRun startOf starts recognized differing octetBits bitsOf cltuOf informationFor encoded filled randomized octet later nextBit judged otherwise isEncoding codeblockOf errorControl parity register shiftBits shiftBit
 readings = (refl, refl, refl, refl, refl, refl)
+
+-- behind an octet EB, EB EB 90: it holds no near place by itself, nor with the CLTU's first octet
+pub behind : startOf (0xEB ∷ []) ≡ 1
+unfolding startOf starts recognized differing octetBits bitsOf
+behind = refl
+
+pub read-behind : (mode : Mode) → reading mode (0xEB ∷ cltuOf frame) 14 ≡ done (filled frame) (record { place = 19; corrected = 0 })
+unfolding readingBy readingRun correctedIn informationIn goodRun startOf starts recognized differing octetBits bitsOf cltuOf informationFor encoded filled randomized octet later nextBit judged otherwise mended flipped isEncoding codeblockOf errorControl parity register shiftBits shiftBit
+read-behind Detecting = refl
+read-behind Correcting = refl
 
 -- length; room
 pub writings : (numberOf (answer (writing (replicate 7 0) (need largestFrame))) ≡ 10) × (numberOf (answer (writing frame 25)) ≡ 11)
