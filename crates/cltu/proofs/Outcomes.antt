@@ -1,16 +1,20 @@
 -- What writing and, by any judge of codeblocks, reading come to, a law for each of their checks.
 use mathlib.Core.Path.{_≡_, sym, ap, _∙_}
-use mathlib.Core.List.{List}
+use mathlib.Core.List.{List, _++_}
 use Prim.Native.Nat.{ℕ, _+_, _-_, _*_, _/_, _<_, _≤_}
 use native.Mathlib.Omega.{arith}
 use borrow.Author.Tests.{lt-ltb, le-ltb, le-leb, lt-leb}
-use lib.ListN.{length, take, drop}
+use lib.Dec.{leb}
+use lib.ListN.{length, take, drop, length-append}
+use lib.Seq.{drop-at, drop-append-add}
+use Rattle.base.specs.Choice.{must}
 use Rattle.base.specs.Outcome.{Outcome.done, Outcome.refused}
 use Rattle.base.specs.Limits.{largestFrame, largestInput, smallestFrame}
 use Rattle.base.proofs.Lists.{rest}
 use Rattle.codeblock.specs.declared.Judged.{Judged}
 use Rattle.randomizer.specs.Randomizer.{randomized}
-use Rattle.start_sequence.specs.StartSequence.{startOf}
+use Rattle.start_sequence.specs.StartSequence.{startOf, Received}
+use Rattle.start_sequence.proofs.Search.{first-near}
 use Rattle.encoded_data.specs.EncodedData.{goodRun, informationIn, correctedIn}
 use Rattle.cltu.specs.Cltu.{need, cltuOf, writing, readingRun, readingAfter, readingBy}
 
@@ -50,6 +54,20 @@ module _ (judge : List ℕ → Judged) (s : List ℕ) (room : ℕ) where
       simp (le-leb (length s) largestInput h, lt-ltb (startOf s) (length s) b)
       (ap (λ (k : ℕ). readingAfter judge (k + 2) (drop (k + 2) s) room) (sym e)
       ∙ ap (λ (l : List ℕ). readingAfter judge (first + 2) l room) (sym (rest s (first + 2))))
+
+-- at a start sequence received with at most one wrong bit, behind octets that hold no near place, reading goes on at what follows
+module _ (before start behind : List ℕ) (received : Received start) where
+  pub length-started : length (before ++ (start ++ behind)) ≡ length before + (2 + length behind)
+  length-started = length-append before (start ++ behind) ∙ ap (λ (k : ℕ). length before + k) (length-append start behind ∙ ap (λ (k : ℕ). k + length behind) (received .two))
+
+  pub reading-started : (judge : List ℕ → Judged) (room : ℕ) → startOf before ≡ length before
+      → readingBy judge (before ++ (start ++ behind)) room
+      ≡ must (leb (length before + (2 + length behind)) largestInput) (refused 10 0) (readingAfter judge (length before + 2) behind room)
+  unfolding readingBy
+  reading-started judge room none =
+      let found = first-near before start behind received none in
+      let after = drop-append-add before (start ++ behind) 2 ∙ drop-at start behind 2 (received .two) in
+      rw (found, after, length-started, lt-ltb (length before) (length before + (2 + length behind)) (omega arith))
 
 -- after the start sequence, with the run of good codeblocks as the code has it
 module _ (judge : List ℕ → Judged) (offset : ℕ) (s : List ℕ) (room n : ℕ) (e : n ≡ goodRun judge (length s / 8) s) where

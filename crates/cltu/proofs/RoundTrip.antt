@@ -1,30 +1,32 @@
 -- What is written reads back, by any judge: the frame and its fill, and the tail's offset as the place, wherever the CLTU stands
--- behind octets that hold no start sequence, and whatever follows it. Of the judge only these are used: an encoding is good with nothing
--- corrected, and the tail sequence is bad; of the start sequence only that it is found (`first-start`).
-use mathlib.Core.Path.{_≡_, refl, sym, ap, ap₂, _∙_}
+-- behind octets that hold no start sequence, whatever follows it and whatever the room (`read-back`). Of the judge only these are used: an
+-- encoding is good with nothing corrected, and the tail sequence is bad; of the start sequence only that reading goes on behind it
+-- (`reading-started`).
+use mathlib.Core.Path.{_≡_, refl, ap, ap₂, _∙_}
 use mathlib.Core.List.{List, [], _∷_, _++_, append-assoc}
 use Prim.Native.Nat.{ℕ, zero, suc, _+_, _*_, _/_, _<_, _≤_}
 use native.Mathlib.Nat.{mul-suc, not-suc-le-zero}
 use native.Mathlib.Omega.{arith}
+use borrow.Author.Tests.{le-leb, lt-leb, lt-ltb}
+use lib.Dec.{leb}
 use lib.ListN.{length, take, drop, length-append, length-take, length-drop, take-append-drop}
-use lib.Seq.{take-at, drop-at, drop-append-add}
-use Rattle.base.specs.Choice.{pick}
+use lib.Seq.{take-at, drop-at}
+use Rattle.base.specs.Choice.{pick, must}
 use Rattle.base.specs.Outcome.{Outcome.done, Outcome.refused}
 use Rattle.base.specs.Limits.{largestInput}
-use Rattle.base.proofs.Lists.{rest}
 use Rattle.codeblock.specs.Codeblock.{codeblockOf, good, isGood}
 use Rattle.codeblock.specs.declared.Mode.{Mode}
 use Rattle.codeblock.specs.declared.Judged.{Judged}
 use Rattle.randomizer.specs.Randomizer.{randomized}
 use Rattle.randomizer.proofs.Randomized.{randomized-twice}
 use Rattle.start_sequence.specs.StartSequence.{startSequence, startOf}
-use Rattle.start_sequence.proofs.Search.{first-start}
+use Rattle.start_sequence.proofs.Search.{sequence-received}
 use Rattle.encoded_data.specs.EncodedData.{encoded, goodRun, informationIn, correctedIn}
 use Rattle.encoded_data.proofs.Encoded.{length-block, length-encoded}
-use Rattle.cltu.specs.Cltu.{codeblocks, filled, informationFor, cltuOf, tailSequence, readingAfter, readingBy, reading}
+use Rattle.cltu.specs.Cltu.{codeblocks, filled, informationFor, cltuOf, tailSequence, readingRun, readingBy, reading}
 use Rattle.cltu.proofs.Judge.{Judge, judges}
 use Rattle.cltu.proofs.Places.{length-information}
-use Rattle.cltu.proofs.Outcomes.{reading-found, after-room, after-done}
+use Rattle.cltu.proofs.Outcomes.{length-started, reading-started}
 
 -- the first of the codeblocks, and the rest
 module _ (n : ℕ) (information t : List ℕ) (h : 7 * suc n ≤ length information) where
@@ -88,9 +90,6 @@ module _ (before frame behind : List ℕ) (room : ℕ) where
   unfolding cltuOf
   input-is = simp append-assoc
 
-  after-start : drop (length before + 2) input ≡ body
-  after-start = ap (drop (length before + 2)) input-is ∙ drop-append-add before (startSequence ++ body) 2
-
   enough : 7 * codeblocks (length frame) ≤ length (informationFor frame)
   enough = omega (arith, length-information frame)
 
@@ -100,39 +99,34 @@ module _ (before frame behind : List ℕ) (room : ℕ) where
       ∙ ap₂ _+_ (length-encoded (codeblocks (length frame)) (informationFor frame) enough) (length-append tailSequence behind)
       ∙ (omega arith)
 
-  -- reading goes on at the codeblocks, and as many are good as the frame takes
-  at-body : (judge : List ℕ → Judged) → startOf before ≡ length before → length input ≤ largestInput
-      → readingBy judge input room ≡ readingAfter judge (length before + 2) body room
-  at-body judge none h =
-      let s : startOf input ≡ length before = ap startOf input-is ∙ first-start before body none in
-      let c : length input ≡ length before + suc (suc (length body)) = ap length input-is ∙ length-append before (startSequence ++ body) in
-      reading-found judge input room (length before) h (omega (arith, length-body)) (sym s)
-      ∙ ap (λ (t : List ℕ). readingAfter judge (length before + 2) t room) (rest input (length before + 2) ∙ after-start)
-
-  run-body : {judge : List ℕ → Judged} → Judge judge → codeblocks (length frame) ≡ goodRun judge (length body / 8) body
-  run-body laws = sym (run-encoded laws (codeblocks (length frame)) (length body / 8) (informationFor frame) behind enough (omega (arith, length-body)))
+  -- as many codeblocks are good as the frame takes, whatever the room: 10, then 11
+  pub read-back : {judge : List ℕ → Judged} → Judge judge → startOf before ≡ length before → 1 ≤ length frame
+      → readingBy judge (before ++ (cltuOf frame ++ behind)) room
+      ≡ must (leb (length (before ++ (cltuOf frame ++ behind))) largestInput) (refused 10 0)
+      (must (leb (7 * codeblocks (length frame)) room) (refused 11 0)
+      (done (filled frame) (record { place = length before + 2 + 8 * codeblocks (length frame); corrected = 0 })))
+  unfolding readingRun informationFor
+  read-back {judge} laws none l =
+      let n = codeblocks (length frame) in
+      let run = run-encoded laws n (length body / 8) (informationFor frame) behind enough (omega (arith, length-body)) in
+      let octets = ap (randomized 0) (information-encoded laws n (informationFor frame) (tailSequence ++ behind) (length-information frame)) ∙ randomized-twice 0 (filled frame) in
+      let corrected = corrected-encoded laws n (informationFor frame) (tailSequence ++ behind) (length-information frame) in
+      rw input-is
+      (reading-started before startSequence body sequence-received judge room none
+      ∙ rw (run, lt-ltb n (length body / 8) (omega (arith, length-body)), lt-ltb 0 n (omega arith), octets, corrected, length-started before startSequence body sequence-received))
 
   pub round-trip-by : {judge : List ℕ → Judged} → Judge judge
       → startOf before ≡ length before → 1 ≤ length frame → length (before ++ (cltuOf frame ++ behind)) ≤ largestInput
       → 7 * codeblocks (length frame) ≤ room
       → readingBy judge (before ++ (cltuOf frame ++ behind)) room
       ≡ done (filled frame) (record { place = length before + 2 + 8 * codeblocks (length frame); corrected = 0 })
-  unfolding informationFor
-  round-trip-by {judge} laws none l h r =
-      at-body judge none h
-      ∙ after-done judge (length before + 2) body room (codeblocks (length frame)) (run-body laws) (omega (arith, length-body)) (omega arith) r
-      ∙ ap₂ (λ (o : List ℕ) (k : ℕ). done o (record { place = length before + 2 + 8 * codeblocks (length frame); corrected = k }))
-      (ap (randomized 0) (information-encoded laws (codeblocks (length frame)) (informationFor frame) (tailSequence ++ behind) (length-information frame))
-      ∙ randomized-twice 0 (filled frame))
-      (corrected-encoded laws (codeblocks (length frame)) (informationFor frame) (tailSequence ++ behind) (length-information frame))
+  round-trip-by laws none l h r = read-back laws none l ∙ rw (le-leb (length input) largestInput h, le-leb (7 * codeblocks (length frame)) room r)
 
   -- in too short a room it is refused with 11
   pub no-room-by : {judge : List ℕ → Judged} → Judge judge
       → startOf before ≡ length before → 1 ≤ length frame → length (before ++ (cltuOf frame ++ behind)) ≤ largestInput
       → room < 7 * codeblocks (length frame) → readingBy judge (before ++ (cltuOf frame ++ behind)) room ≡ refused 11 0
-  no-room-by {judge} laws none l h r =
-      at-body judge none h
-      ∙ after-room judge (length before + 2) body room (codeblocks (length frame)) (run-body laws) (omega (arith, length-body)) (omega arith) r
+  no-room-by laws none l h r = read-back laws none l ∙ rw (le-leb (length input) largestInput h, lt-leb (7 * codeblocks (length frame)) room r)
 
   -- and so in either mode
   pub round-trip : (mode : Mode) → startOf before ≡ length before → 1 ≤ length frame → length (before ++ (cltuOf frame ++ behind)) ≤ largestInput

@@ -2,7 +2,7 @@
 -- bit read as the start sequence does (`received-start`, `flipped-start`), so a CLTU received with them reads back (`round-trip-received`):
 -- the premise is of the octets before alone, since no near place reaches into the CLTU. Refusal 1 is given exactly where no place is near
 -- (`no-start-given`, `no-start-only`). That the first near place hides an exact one behind it: Refuted, `start-exact`.
-use mathlib.Core.Path.{_≡_, refl, sym, ap, ap₂, _∙_}
+use mathlib.Core.Path.{_≡_, refl, sym, _∙_}
 use mathlib.Core.Bool.{false}
 use mathlib.Core.List.{List, [], _∷_, _++_}
 use Prim.Native.Nat.{ℕ, _+_, _*_, _/_, _%_, _^_, _<_, _≤_}
@@ -10,54 +10,28 @@ use native.Mathlib.Omega.{arith}
 use borrow.Author.Tests.{leb-true, ltb-true}
 use lib.Bits.{bitXor}
 use lib.Dec.{ltb, leb}
-use lib.ListN.{length, drop, length-append}
-use lib.Seq.{drop-at, drop-append-add}
-use Rattle.base.specs.Choice.{must}
+use lib.ListN.{length, drop}
 use Rattle.base.specs.Limits.{largestInput}
 use Rattle.base.specs.Octets.{bitsOf, octetBits}
 use Rattle.base.specs.Distance.{differing, wrongBits}
-use Rattle.base.specs.Outcome.{Outcome, Outcome.done, Outcome.refused}
+use Rattle.base.specs.Outcome.{Outcome.done, Outcome.refused}
 use Rattle.base.proofs.Computed.{below, is-true}
 use Rattle.codeblock.specs.Codeblock.{judged}
 use Rattle.codeblock.specs.declared.Mode.{Mode}
 use Rattle.codeblock.specs.declared.Judged.{Judged}
 use Rattle.start_sequence.specs.StartSequence.{startSequence, starts, startOf, Received}
-use Rattle.start_sequence.proofs.Search.{first-near, sequence-received, none-earlier, none-found}
-use Rattle.cltu.specs.Cltu.{codeblocks, filled, cltuOf, Found, readingAfter, readingBy, reading}
+use Rattle.start_sequence.proofs.Search.{sequence-received, none-earlier, none-found}
+use Rattle.cltu.specs.Cltu.{codeblocks, filled, cltuOf, readingBy, reading}
 use Rattle.cltu.proofs.Judge.{Judge}
-use Rattle.cltu.proofs.Outcomes.{reading-none}
+use Rattle.cltu.proofs.Outcomes.{reading-none, reading-started}
 use Rattle.cltu.proofs.RoundTrip.{round-trip-by}
 use Rattle.cltu.proofs.Sound.{CaseBy, CaseBy.too-long, CaseBy.no-start, CaseBy.no-block, CaseBy.no-end, CaseBy.no-room, CaseBy.read, cases-by}
 
--- reading goes by the length, the place of the start sequence and what is behind it
-abbrev by : (List ℕ → Judged) → ℕ → ℕ → ℕ → List ℕ → Outcome Found
-by judge room n first rest = must (leb n largestInput) (refused 10 0) (must (ltb first n) (refused 1 n) (readingAfter judge (first + 2) rest room))
-
-alike : (judge : List ℕ → Judged) (s t : List ℕ) (room : ℕ) → length s ≡ length t → startOf s ≡ startOf t → drop (startOf s + 2) s ≡ drop (startOf t + 2) t
-    → readingBy judge s room ≡ readingBy judge t room
-unfolding readingBy
-alike judge s t room l e d = ap (λ (n : ℕ). by judge room n (startOf s) (drop (startOf s + 2) s)) l ∙ ap₂ (by judge room (length t)) e d
-
 -- octets received for a start sequence read as it does, behind octets that hold no near place
 module _ (judge : List ℕ → Judged) (before octets behind : List ℕ) (room : ℕ) (received : Received octets) (none : startOf before ≡ length before) where
-  found-at : (start : List ℕ) → Received start → startOf (before ++ (start ++ behind)) ≡ length before
-  found-at start r = first-near before start behind r none
-
-  behind-is : (start : List ℕ) → Received start → drop (startOf (before ++ (start ++ behind)) + 2) (before ++ (start ++ behind)) ≡ behind
-  behind-is start r =
-      ap (λ (k : ℕ). drop (k + 2) (before ++ (start ++ behind))) (found-at start r)
-      ∙ drop-append-add before (start ++ behind) 2
-      ∙ drop-at start behind 2 (r .two)
-
-  long : (start : List ℕ) → Received start → length (before ++ (start ++ behind)) ≡ length before + (2 + length behind)
-  long start r = length-append before (start ++ behind) ∙ ap (λ (k : ℕ). length before + k) (length-append start behind ∙ ap (λ (k : ℕ). k + length behind) (r .two))
-
   pub received-start : readingBy judge (before ++ (octets ++ behind)) room ≡ readingBy judge (before ++ (startSequence ++ behind)) room
   received-start =
-      alike judge (before ++ (octets ++ behind)) (before ++ (startSequence ++ behind)) room
-      (long octets received ∙ sym (long startSequence sequence-received))
-      (found-at octets received ∙ sym (found-at startSequence sequence-received))
-      (behind-is octets received ∙ sym (behind-is startSequence sequence-received))
+      reading-started before octets behind received judge room none ∙ sym (reading-started before startSequence behind sequence-received judge room none)
 
 -- the start sequence with the bit of weight 2 ^ k flipped
 abbrev pub flipped : ℕ → List ℕ
