@@ -1,8 +1,6 @@
--- Codeblocks one by one, by any judge: what n of them tell together, where it is known of each. The run of good ones ends at the first bad one
--- (`run-exact`), their information is the front of what was sent (`information-sent`), and the corrected ones are those that changed
--- (`corrected-sent`).
+-- Codeblocks one by one, by any judge: what n of them tell together, where it is known of each. Their information is the front of what was sent
+-- (`information-sent`), and the corrected ones are those that changed (`corrected-sent`).
 use mathlib.Core.Path.{_≡_, refl, sym, ap, ap₂, _∙_}
-use mathlib.Core.Bool.{true, false}
 use mathlib.Core.List.{List, _++_}
 use Prim.Native.Nat.{ℕ, zero, suc, _+_, _*_, _<_, _≤_}
 use native.Mathlib.Nat.{mul-suc}
@@ -11,9 +9,8 @@ use lib.ListN.{length, take, drop, length-drop}
 use lib.Seq.{take-add, drop-drop}
 use Rattle.base.specs.Choice.{pick}
 use Rattle.base.specs.Octets.{same}
-use Rattle.codeblock.specs.Codeblock.{isGood}
 use Rattle.codeblock.specs.declared.Judged.{Judged}
-use Rattle.encoded_data.specs.EncodedData.{goodRun, informationIn, correctedIn}
+use Rattle.encoded_data.specs.EncodedData.{informationIn, correctedIn}
 use Rattle.damage.specs.Few.{eight, changedIn}
 
 -- octets from place n on, k octets further on
@@ -24,16 +21,6 @@ next : (b : ℕ) (s : List ℕ) → eight b (drop 8 s) ≡ eight (suc b) s
 next b s = later (8 * b) 8 (8 * suc b) s (omega (arith, mul-suc 8 b))
 
 module _ (judge : List ℕ → Judged) where
-  pub run-exact : (n m : ℕ) (s : List ℕ) → n < m → ((b : ℕ) → b < n → isGood (judge (eight b s)) ≡ true) → isGood (judge (eight n s)) ≡ false
-      → goodRun judge m s ≡ n
-  unfolding goodRun
-  run-exact n zero s l h e = absurd (omega arith)
-  run-exact zero (suc m) s l h e = ap (λ b. pick b (suc (goodRun judge m (drop 8 s))) 0) e
-  run-exact (suc n) (suc m) s l h e =
-      ap₂ (λ b (k : ℕ). pick b (suc k) 0) (h 0 (omega arith))
-      (run-exact n m (drop 8 s) (omega arith) (λ b k. ap (λ (x : List ℕ). isGood (judge x)) (next b s) ∙ h (suc b) (omega arith))
-      (ap (λ (x : List ℕ). isGood (judge x)) (next n s) ∙ e))
-
   pub information-sent : (m : ℕ) (information s : List ℕ) → 7 * m ≤ length information
       → ((b : ℕ) → b < m → judge (eight b s) .information ≡ take 7 (drop (7 * b) information)) → informationIn judge m s ≡ take (7 * m) information
   unfolding informationIn

@@ -30,7 +30,7 @@ use Rattle.session.specs.Ends.{tables}
 use Rattle.session.specs.Session.{adRequest}
 use Rattle.session.proofs.Trace.{computing, settings, after}
 use Rattle.damage.specs.Damage.{eightAt, Damaged}
-use Rattle.damage.proofs.Reading.{octets-cltu}
+use Rattle.damage.proofs.Parts.{octets-cltu}
 
 -- the codeblock of seven octets 00 with bits 0, 1, 2 and 39 wrong
 abbrev passing : List ℕ

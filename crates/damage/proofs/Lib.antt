@@ -1,5 +1,7 @@
 pub mod Blocks
 pub mod Detected
+pub mod Front
+pub mod Parts
 pub mod Reading
 pub mod Refused
 pub mod Mended

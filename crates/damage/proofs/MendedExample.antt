@@ -25,7 +25,7 @@ use Rattle.encoded_data.specs.EncodedData.{encoded, goodRun, informationIn, cor
 use Rattle.cltu.specs.Cltu.{filled, informationFor, cltuOf, tailSequence, readingRun, readingBy, reading}
 use Rattle.damage.specs.Damage.{eightAt}
 use Rattle.damage.specs.Few.{eight, FewWrong, FillerKept, changedIn}
-use Rattle.damage.proofs.Reading.{octets-cltu}
+use Rattle.damage.proofs.Parts.{octets-cltu}
 use Rattle.damage.proofs.Example.{frame}
 
 abbrev wrongAt : ℕ → ℕ → List ℕ → List ℕ
