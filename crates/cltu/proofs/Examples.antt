@@ -1,11 +1,12 @@
--- A computed example of each outcome of reading and of each refusal of writing, a CLTU behind an octet, and document 01's exact needs 26 and 306.
+-- A computed example of each outcome of reading and of each refusal of writing, a CLTU behind an octet, and the exact needs: document 01's 26 and
+-- 306, document 02's 1,186 (order 7).
 use mathlib.Core.Path.{_≡_, refl}
 use mathlib.Core.List.{List, [], _∷_, _++_}
 use Prim.Native.Nat.{ℕ, _+_}
 use lib.ListN.{replicate}
 use Rattle.base.specs.Outcome.{Outcome.done, answer, numberOf}
 use Rattle.base.specs.Register.{shiftBit, shiftBits, register}
-use Rattle.base.specs.Limits.{largestFrame, largestInput}
+use Rattle.base.specs.Limits.{smallestFrame, largestFrame, largestInput}
 use Rattle.base.specs.Octets.{bitsOf, octetBits}
 use Rattle.base.specs.Distance.{differing}
 use Rattle.codeblock.specs.declared.Mode.{Mode}
@@ -49,5 +50,5 @@ pub writings : (numberOf (answer (writing (replicate 7 0) (need largestFrame))) 
 unfolding writing
 writings = (refl, refl)
 
-pub needs : (need 8 ≡ 26) × (need 256 ≡ 306)
-needs = (refl, refl)
+pub needs : (need smallestFrame ≡ 26) × (need 256 ≡ 306) × (need largestFrame ≡ 1186)
+needs = (refl, refl, refl)

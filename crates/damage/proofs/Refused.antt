@@ -58,7 +58,7 @@ module _ {frame : List ℕ} (w : WholeFrame frame) where
         go true e =
             let l : 8 ≤ 7 * m = leb-true 8 (7 * m) e in
             length-checks front (length frame) spacecraft channel (front-says l)
-            ∙ rw (front-length, le-leb 8 (7 * m) l, le-leb 8 (length frame) (w .low), le-leb (length frame) largestFrame (w .high), lt-leb (length frame) (7 * m) (omega arith))
+            ∙ rw (front-length, le-leb 8 (7 * m) l, le-leb 8 (length frame) (w .low), lt-leb (length frame) (7 * m) (omega arith))
         go false e =
             let l : 7 * m < 8 = leb-false 8 (7 * m) e in
             rw (front-length, lt-leb 8 (7 * m) l)

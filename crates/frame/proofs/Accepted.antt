@@ -11,7 +11,6 @@ use lib.Seq.{getD-take, getD-drop}
 use Rattle.base.specs.Choice.{pick}
 use Rattle.base.specs.Fields.{fieldAt}
 use Rattle.base.specs.Octets.{same}
-use Rattle.base.specs.Limits.{largestFrame}
 use Rattle.base.proofs.Lists.{same-length-not, take-next}
 use Rattle.base.proofs.Tests.{apart, both-true, must-on}
 use Rattle.fecf.specs.Fecf.{syndromeOf}
@@ -27,7 +26,6 @@ use Rattle.frame.proofs.Octets.{length-data, command-one, command-other
 pub record Accepted (s : List ℕ) (spacecraft channel : ℕ) : Type 0 where
   pub lent : 8 ≤ length s
   pub low : 8 ≤ totalOf s
-  pub high : totalOf s ≤ largestFrame
   pub whole : totalOf s ≤ length s
   pub fill : length s ≤ totalOf s + 6
   pub syndrome : syndromeOf (take (totalOf s) s) ≡ 0
@@ -44,8 +42,7 @@ unfolding refusalOf contentRefusal headerRefusal
 accepted s spacecraft channel e =
     let a = must-on (leb 8 (length s)) 4 _ four e in
     let b = must-on (leb 8 (totalOf s)) 4 _ four (a .1) in
-    let c = must-on (leb (totalOf s) largestFrame) 10 _ (λ z. omega arith) (b .1) in
-    let d = must-on (leb (totalOf s) (length s)) 4 _ four (c .1) in
+    let d = must-on (leb (totalOf s) (length s)) 4 _ four (b .1) in
     let f = must-on (leb (length s) (totalOf s + 6)) 5 _ (λ z. omega arith) (d .1) in
     let g = must-on (eqb (syndromeOf (take (totalOf s) s)) 0) 8 _ (λ z. omega arith) (f .1) in
     let h = must-on (validHeader s) 6 _ (λ z. omega arith) (g .1) in
@@ -54,7 +51,6 @@ accepted s spacecraft channel e =
     let k = must-on (commandHeld s (totalOf s)) 9 0 (λ z. omega arith) (j .1) in record {
       lent = leb-true 8 (length s) (a .0);
       low = leb-true 8 (totalOf s) (b .0);
-      high = leb-true (totalOf s) largestFrame (c .0);
       whole = leb-true (totalOf s) (length s) (d .0);
       fill = leb-true (length s) (totalOf s + 6) (f .0);
       syndrome = eqb-true (syndromeOf (take (totalOf s) s)) 0 (g .0);

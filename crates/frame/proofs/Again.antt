@@ -21,7 +21,7 @@ use Rattle.frame_header.proofs.Octets.{o, version-is, spare-is, bypass-is, cont
 use Rattle.frame.specs.Frame.{bypassOf, controlOf, numberOf, unlockCommand, setVrCommand, dataOf, bodyOf, rawFrame, frameOf, totalOf, dataField, isCommand, commandHeld, refusalOf, kindOf}
 use Rattle.frame.specs.declared.Kind.{Kind}
 use Rattle.frame.specs.declared.Kind.the-variants.{Ad, Bd, Unlock, SetVr}
-use Rattle.frame.proofs.Octets.{total-is, length-data}
+use Rattle.frame.proofs.Octets.{total-is, total-most, length-data}
 use Rattle.frame.proofs.Content.{octets-take, take-frame, content-test}
 use Rattle.frame.proofs.Accepted.{Accepted, accepted}
 use Rattle.frame.proofs.Written.{Fits, body-is}
@@ -136,7 +136,7 @@ module _ (octets : List ℕ) (spacecraft channel : ℕ) (h : Octets octets) (e :
   unfolding dataField
   fits =
       let l : 8 ≤ totalOf octets = y .low in
-      let m : totalOf octets ≤ largestFrame = y .high in
+      let m : totalOf octets ≤ largestFrame = total-most octets at (y .lent) in
       record {
         flag = omega (arith, bypass-here);
         type = told-here .ordered;
@@ -160,7 +160,7 @@ module _ (octets : List ℕ) (spacecraft channel : ℕ) (h : Octets octets) (e :
       let unit = dataField octets (totalOf octets) in
       let number = fieldAt frameSequenceNumber octets in
       let l : 8 ≤ totalOf octets = y .low in
-      let m : totalOf octets ≤ largestFrame = y .high in
+      let m : totalOf octets ≤ largestFrame = total-most octets at (y .lent) in
       let v : o octets 0 / 64 ≡ 0 = sym (version-is octets at (y .header .entire)) ∙ y .header .versionZero in
       let r : o octets 0 / 4 % 4 ≡ 0 = sym (spare-is octets at (y .header .entire)) ∙ y .header .spareZero in
       let s : o octets 0 % 4 * 256 + o octets 1 ≡ spacecraft = sym (spacecraft-is octets at (y .header .entire)) ∙ y .ourSpacecraft in

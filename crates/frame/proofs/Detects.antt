@@ -92,7 +92,7 @@ module _ (bypass control number spacecraft channel : ℕ) (field : List ℕ) (fi
         let t : take (length field + 7) (set w j p ++ fill) ≡ set w j p = take-at (set w j p) fill (length field + 7) (length-set w j p ∙ size) in
         let d : syndromeOf (set w j p) ≡ 0 → ⊥ =
         syndrome-changed w j p (octets-frame bypass control number spacecraft channel field fits) inside hp other (syndrome-frame bypass control number spacecraft channel field fits) in
-        lengths-right (set w j p ++ fill) (length field + 7) s′ c′ changed-total (omega (arith, fits .low)) (omega (arith, fits .high)) (omega (arith, changed-length)) (omega (arith, changed-length))
+        lengths-right (set w j p ++ fill) (length field + 7) s′ c′ changed-total (omega (arith, fits .low)) (omega (arith, changed-length)) (omega (arith, changed-length))
         ∙ rw (t, ne-eqb (syndromeOf (set w j p)) 0 d)
 
 -- a bit of an octet flipped: another octet, and its two last bits stay unless it is one of them

@@ -26,11 +26,11 @@ pub accepted : refusalOf unlock 1 0 ≡ 0
 unfolding refusalOf contentRefusal headerRefusal validHeader commandHeld isCommand dataField totalOf fieldAt octetBits bitsOf valueOf fecfOf syndromeOf register shiftBits shiftBit
 accepted = refl
 
--- seven octets lent; the header says 257; seven octets of fill; another FECF; version 1; Unlock with sequence octet 1; another spacecraft;
+-- seven octets lent; the header says 1,024, of which eight are lent; seven octets of fill; another FECF; version 1; Unlock with sequence octet 1; another spacecraft;
 -- no command
 pub refused :
     (refusalOf (take 7 unlock) 1 0 ≡ 4)
-    × (refusalOf (0x30 ∷ 0x01 ∷ 0x01 ∷ 0x00 ∷ 0x00 ∷ 0x00 ∷ 0x00 ∷ 0x00 ∷ []) 1 0 ≡ 10)
+    × (refusalOf (0x30 ∷ 0x01 ∷ 0x03 ∷ 0xFF ∷ 0x00 ∷ 0x00 ∷ 0x00 ∷ 0x00 ∷ []) 1 0 ≡ 4)
     × (refusalOf (unlock ++ replicate 7 0x55) 1 0 ≡ 5)
     × (refusalOf (0x30 ∷ 0x01 ∷ 0x00 ∷ 0x07 ∷ 0x00 ∷ 0x00 ∷ 0x00 ∷ 0x00 ∷ []) 1 0 ≡ 8)
     × (refusalOf (checked (0x70 ∷ 0x01 ∷ 0x00 ∷ 0x07 ∷ 0x00 ∷ 0x00 ∷ [])) 1 0 ≡ 6)

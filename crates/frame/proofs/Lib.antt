@@ -9,3 +9,4 @@ pub mod Detects
 pub mod Examples
 pub mod Refuted
 pub mod Stricter
+pub mod TenBits

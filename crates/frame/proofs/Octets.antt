@@ -30,6 +30,10 @@ module _ (s : List ℕ) (octets : (i : ℕ) → getD s i 0 < 256) (enough : 8 �
   unfolding totalOf
   total-is = ap (λ (x : ℕ). x + 1) (length-is s octets (omega arith))
 
+  -- ten bits of length
+  pub total-most : totalOf s ≤ largestFrame
+  total-most = omega (arith, total-is, octets 3)
+
   pub header-checks : (n spacecraft channel : ℕ) → headerRefusal s n spacecraft channel ≡ checks s n spacecraft channel
   unfolding headerRefusal commandHeld
   header-checks n spacecraft channel =
@@ -40,10 +44,9 @@ abbrev pub lengthChecks : List ℕ → ℕ → ℕ → ℕ → ℕ
 lengthChecks s n spacecraft channel =
     must (leb smallestFrame (length s)) 4
     (must (leb smallestFrame n) 4
-    (must (leb n largestFrame) 10
     (must (leb n (length s)) 4
     (must (leb (length s) (n + 6)) 5
-    (contentRefusal s n spacecraft channel)))))
+    (contentRefusal s n spacecraft channel))))
 
 pub length-checks : (s : List ℕ) (n spacecraft channel : ℕ) → n ≡ totalOf s → refusalOf s spacecraft channel ≡ lengthChecks s n spacecraft channel
 unfolding refusalOf

@@ -11,7 +11,7 @@ use Rattle.base.specs.Choice.{must}
 use Rattle.base.specs.Fields.{digitsOf, valueOf, packed, octetsOf, fieldAt}
 use Rattle.base.specs.Octets.{Octets, bitsOf, octetBits}
 use Rattle.base.specs.Register.{shiftBit, shiftBits, register}
-use Rattle.base.specs.Limits.{largestFrame, largestUnit, largestSpacecraft, largestChannel}
+use Rattle.base.specs.Limits.{largestUnit, largestSpacecraft, largestChannel}
 use Rattle.base.proofs.Tests.{yes}
 use Rattle.fecf.specs.Fecf.{fecfOf, syndromeOf}
 use Rattle.frame_header.specs.Header.{bypassFlag, spacecraftIdentifier, frameSequenceNumber, headerFields, headerOf, validHeader}
@@ -59,16 +59,15 @@ number-of-ad reader number spacecraft channel unit fill hn hs hv low high hu few
 not-seven : (s : List ℕ) (spacecraft channel : ℕ) → (syndromeOf (take (totalOf s) s) ≡ 0 → ⊥) → refusalOf s spacecraft channel ≡ 7 → ⊥
 unfolding refusalOf contentRefusal
 not-seven s spacecraft channel d e =
-    go (leb 8 (length s)) (leb 8 (totalOf s)) (leb (totalOf s) largestFrame) (leb (totalOf s) (length s)) (leb (length s) (totalOf s + 6))
+    go (leb 8 (length s)) (leb 8 (totalOf s)) (leb (totalOf s) (length s)) (leb (length s) (totalOf s + 6))
     (rw (ne-eqb (syndromeOf (take (totalOf s) s)) 0 d) at e)
   where
-    go : (a b c d f : Bool) → _≡_ {A = ℕ} (must a 4 (must b 4 (must c 10 (must d 4 (must f 5 8))))) 7 → ⊥
-    go false b c d f z = omega arith
-    go true false c d f z = omega arith
-    go true true false d f z = omega arith
-    go true true true false f z = omega arith
-    go true true true true false z = omega arith
-    go true true true true true z = omega arith
+    go : (a b c d : Bool) → _≡_ {A = ℕ} (must a 4 (must b 4 (must c 4 (must d 5 8)))) 7 → ⊥
+    go false b c d z = omega arith
+    go true false c d z = omega arith
+    go true true false d z = omega arith
+    go true true true false z = omega arith
+    go true true true true z = omega arith
 
 -- a reader that judges the address, 7, before the FECF, 8: one that answers 7 for any octets with a wrong FECF
 pub address-before-check : (reader : List ℕ → ℕ → ℕ → ℕ) (s : List ℕ) (spacecraft channel : ℕ)

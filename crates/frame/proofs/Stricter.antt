@@ -13,7 +13,7 @@ use lib.Dec.{leb, eqb}
 use lib.ListN.{length, take}
 use Rattle.base.specs.Choice.{pick, must, both}
 use Rattle.base.specs.Fields.{valueOf, fieldAt}
-use Rattle.base.specs.Limits.{smallestFrame, largestFrame}
+use Rattle.base.specs.Limits.{smallestFrame}
 use Rattle.base.specs.Octets.{bitsOf, octetBits}
 use Rattle.base.specs.Register.{shiftBit, shiftBits, register}
 use Rattle.base.proofs.Tests.{apart, both-false}
@@ -34,15 +34,14 @@ formerValid octets =
     (both (eqb (fieldAt reservedSpare octets) 0)
     (validCombination (fieldAt bypassFlag octets) (fieldAt controlCommandFlag octets))))
 
--- the checks before 6, which both rules make: 4, 4, 10, 4, 5, 8
+-- the checks before 6, which both rules make: 4, 4, 4, 5, 8
 abbrev checksBefore : List ℕ → ℕ → ℕ
 checksBefore octets on =
     must (leb smallestFrame (length octets)) 4
     (must (leb smallestFrame (totalOf octets)) 4
-    (must (leb (totalOf octets) largestFrame) 10
     (must (leb (totalOf octets) (length octets)) 4
     (must (leb (length octets) (totalOf octets + 6)) 5
-    (must (eqb (syndromeOf (take (totalOf octets) octets)) 0) 8 on)))))
+    (must (eqb (syndromeOf (take (totalOf octets) octets)) 0) 8 on))))
 
 -- the checks behind 6, which both rules make: 7, 7, 9
 abbrev checksBehind : List ℕ → ℕ → ℕ → ℕ
@@ -137,20 +136,18 @@ module _ (octets : List ℕ) where
   all-before h =
       before (leb smallestFrame (length octets)) 4
       (before (leb smallestFrame (totalOf octets)) 4
-      (before (leb (totalOf octets) largestFrame) 10
       (before (leb (totalOf octets) (length octets)) 4
       (before (leb (length octets) (totalOf octets + 6)) 5
-      (before (eqb (syndromeOf (take (totalOf octets) octets)) 0) 8 h)))))
+      (before (eqb (syndromeOf (take (totalOf octets) octets)) 0) 8 h))))
 
   all-passed : {answer former : ℕ} → (Behind former → answer ≡ 6) → Behind (checksBefore octets former) → checksBefore octets answer ≡ 6
   all-passed h =
       let four = other 4 (λ e. omega arith) (λ e. omega arith) (λ e. omega arith) in
       passed (leb smallestFrame (length octets)) 4 four
       (passed (leb smallestFrame (totalOf octets)) 4 four
-      (passed (leb (totalOf octets) largestFrame) 10 (other 10 (λ e. omega arith) (λ e. omega arith) (λ e. omega arith))
       (passed (leb (totalOf octets) (length octets)) 4 four
       (passed (leb (length octets) (totalOf octets + 6)) 5 (other 5 (λ e. omega arith) (λ e. omega arith) (λ e. omega arith))
-      (passed (eqb (syndromeOf (take (totalOf octets) octets)) 0) 8 (other 8 (λ e. omega arith) (λ e. omega arith) (λ e. omega arith)) h)))))
+      (passed (eqb (syndromeOf (take (totalOf octets) octets)) 0) 8 (other 8 (λ e. omega arith) (λ e. omega arith) (λ e. omega arith)) h))))
 
   module _ (spacecraft channel : ℕ) where
     -- the answer, with the one check named

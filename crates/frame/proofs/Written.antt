@@ -11,7 +11,7 @@ use lib.Seq.{take-at}
 use Rattle.base.specs.Choice.{pick, must, both}
 use Rattle.base.specs.Fields.{fieldAt}
 use Rattle.base.specs.Octets.{Octets, same}
-use Rattle.base.specs.Limits.{largestFrame, largestUnit, largestSpacecraft, largestChannel}
+use Rattle.base.specs.Limits.{largestUnit, largestSpacecraft, largestChannel}
 use Rattle.base.proofs.Lists.{octets-at, below-append}
 use Rattle.base.proofs.Tests.{both-left, both-right, not-so}
 use Rattle.fecf.specs.Fecf.{fecfOf, syndromeOf, fieldOctets}
@@ -26,11 +26,11 @@ use Rattle.frame.proofs.Octets.{total-is}
 use Rattle.frame.proofs.Lengths.{length-frame}
 
 -- octets whose lengths are right are judged by their content
-pub lengths-right : (s : List ℕ) (n spacecraft channel : ℕ) → totalOf s ≡ n → 8 ≤ n → n ≤ largestFrame → n ≤ length s → length s ≤ n + 6
+pub lengths-right : (s : List ℕ) (n spacecraft channel : ℕ) → totalOf s ≡ n → 8 ≤ n → n ≤ length s → length s ≤ n + 6
     → refusalOf s spacecraft channel ≡ contentRefusal s n spacecraft channel
 unfolding refusalOf
-lengths-right s n spacecraft channel e low high whole few =
-    rw (e, le-leb 8 (length s) (omega arith), le-leb 8 n low, le-leb n largestFrame high, le-leb n (length s) whole, le-leb (length s) (n + 6) few)
+lengths-right s n spacecraft channel e low whole few =
+    rw (e, le-leb 8 (length s) (omega arith), le-leb 8 n low, le-leb n (length s) whole, le-leb (length s) (n + 6) few)
 
 -- what a frame is written of: its parts within their limits, no type (0,1), and zero for the number of a type-B frame
 pub record Fits (bypass control number spacecraft channel : ℕ) (field : List ℕ) : Type 0 where
@@ -177,7 +177,7 @@ module _ (bypass control number spacecraft channel : ℕ) (field : List ℕ) (fi
         let w = rawFrame bypass control number spacecraft channel field in
         let z : syndromeOf (take (length field + 7) s) ≡ 0 =
         ap syndromeOf (take-at w fill (length field + 7) (length-frame bypass control number spacecraft channel field)) ∙ syndrome-frame in
-        lengths-right s (length field + 7) s′ c′ total-back (omega arith) (omega arith) (omega (arith, length-filled)) (omega (arith, length-filled))
+        lengths-right s (length field + 7) s′ c′ total-back (omega arith) (omega (arith, length-filled)) (omega (arith, length-filled))
         ∙ rw (eq-eqb (syndromeOf (take (length field + 7) s)) 0 z, valid-back, control-back, spacecraft-back, channel-back, field-back)
 
     -- the kind, by the flags, the number and the data

@@ -6,7 +6,7 @@ use lib.Dec.{leb, eqb}
 use lib.ListN.{length, take, drop, getD}
 use Rattle.base.specs.Choice.{pick, must}
 use Rattle.base.specs.Fields.{fieldAt}
-use Rattle.base.specs.Limits.{smallestFrame, largestFrame, largestUnit, largestSpacecraft, largestChannel}
+use Rattle.base.specs.Limits.{smallestFrame, largestUnit, largestSpacecraft, largestChannel}
 use Rattle.base.specs.Octets.{same}
 use Rattle.base.specs.Outcome.{Outcome, Outcome.done, Outcome.refused}
 use Rattle.fecf.specs.Fecf.{fecfOf, syndromeOf, fieldOctets}
@@ -111,15 +111,15 @@ unfoldable pub contentRefusal : List ℕ → ℕ → ℕ → ℕ → ℕ
 contentRefusal octets n spacecraft channel =
     must (eqb (syndromeOf (take n octets)) 0) 8 (headerRefusal octets n spacecraft channel)
 
--- document 01's order 4, 4, 10, 4, 5, 8, 6, 7, 9
+-- document 01's order 4, 4, 4, 5, 8, 6, 7, 9. Its 10, where the header says more than the largest frame, stood behind the second 4: document 02's
+-- order 7, "Refusal 10 moves to the new limits", and ten bits of length say no more than that one (proofs/TenBits).
 unfoldable pub refusalOf : List ℕ → ℕ → ℕ → ℕ
 refusalOf octets spacecraft channel =
     must (leb smallestFrame (length octets)) 4
     (must (leb smallestFrame (totalOf octets)) 4
-    (must (leb (totalOf octets) largestFrame) 10
     (must (leb (totalOf octets) (length octets)) 4
     (must (leb (length octets) (totalOf octets + 6)) 5
-    (contentRefusal octets (totalOf octets) spacecraft channel)))))
+    (contentRefusal octets (totalOf octets) spacecraft channel))))
 
 -- table 6-3: the kind of a valid frame, with N(S) or the command's value
 unfoldable pub kindOf : List ℕ → Kind

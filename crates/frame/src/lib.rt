@@ -1,5 +1,4 @@
 // Clauses 6.2 and 6.4 to 6.8: the TC Transfer Frame, read; the crate `frame_writer` writes it.
-use base::LARGEST_FRAME;
 use base::SMALLEST_FRAME;
 ghost use mathlib.Core.Path.{_≡_};
 ghost use Prim.Native.Nat.{_+_, _*_, _≤_};
@@ -118,9 +117,6 @@ pub fn refusal(octets: &[u8], spacecraft: u16, channel: u8) -> u8
     let n = total(octets) as usize;
     if n < SMALLEST_FRAME {
         return 4;
-    }
-    if LARGEST_FRAME < n {
-        return 10;
     }
     if octets.len() < n {
         return 4;

@@ -119,10 +119,10 @@ module _ (lent : List ℕ) (long : smallestStore ≤ length lent) where
   pub twice-begins : Begins twice (heldAfterAll initiating (freshHeld twice 0 lent))
   twice-begins = begins-after twice initiating (freshHeld twice 0 lent) (fresh-good twice twice-within 0 (leb→le _ _ tt) lent long) twice-reads
 
--- A start with V(S) 100 and NN(R) 0, further apart than any K: the first unit waits until Terminate; Set V(S) brings both to one number, and the
+-- A start with V(S) 200 and NN(R) 0, further apart than any K: the first unit waits until Terminate; Set V(S) brings both to one number, and the
 -- next unit is handed down, in a frame of 8 octets.
 abbrev far : Held
-far = record { sender = starting.startingOf (senderSettings set) 100 0 (length store) .sender; store = store }
+far = record { sender = starting.startingOf (senderSettings set) 200 0 (length store) .sender; store = store }
 
 -- the number of each event in table 7-8, and the count of octets handed down
 abbrev eventsOf : List SenderEvent → Held → List (ℕ × ℕ)

@@ -8,6 +8,6 @@ use Rattle.sender_values.specs.declared.SenderState.{SenderState}
 abbrev pub needOf : SenderState → ℕ
 needOf s = storeNeed (s .settings .k) (s .queues .sent)
 
--- "a lent store under 8,217 octets (32 units of 249 sent and one waiting) is 11": what every sender needs
+-- what a sender needs at the largest K: its units sent, and one waiting
 abbrev pub smallestStore : ℕ
 smallestStore = storeNeed largestK largestK

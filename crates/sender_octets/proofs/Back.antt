@@ -5,10 +5,10 @@ use mathlib.Core.List.{List}
 use Prim.Native.Nat.{ℕ, _+_, _*_, _/_, _%_}
 use native.Mathlib.Omega.{arith}
 use lib.Dec.{eqb}
-use lib.ListN.{length}
+use lib.ListN.{length, getD}
 use Rattle.base.specs.Choice.{both}
 use Rattle.base.specs.Octets.{same}
-use Rattle.base.proofs.Tests.{both-left, no, bit-le}
+use Rattle.base.proofs.Tests.{both-left, no, not-so, bit-le}
 use Rattle.base.proofs.Lists.{same-equal, same-self}
 use Rattle.base.specs.Flags.{bitOf, isSet}
 use Rattle.store.specs.Places.{places}
@@ -19,7 +19,7 @@ use Rattle.sender_values.specs.declared.Control.the-variants as control
 use Rattle.sender_values.specs.declared.SenderState.{SenderState}
 use Rattle.sender_state.specs.State.{wellFormed}
 use Rattle.sender.specs.Start.{refusedStart}
-use Rattle.sender_octets.specs.Kept.{numberOctets, octetsOf, stateIn, isState, senderIn, stateNumber, stateNumbered, controlNumber, controlValue, controlNumbered, pairsFrom}
+use Rattle.sender_octets.specs.Kept.{layout, numberOctets, octetsOf, stateIn, isState, senderIn, stateNumber, stateNumbered, controlNumber, controlValue, controlNumbered, pairsFrom}
 use Rattle.sender_octets.proofs.Pairs.{pair-back, pairs-back}
 use Rattle.sender_octets.proofs.Parts.{settings-by, variables-by, queues-by, state-by}
 
@@ -114,3 +114,8 @@ state-only o e = sym (same-equal o (octetsOf (stateIn o)) (both-left (same o (oc
 pub refused-no-state : (o : List ℕ) → isState o ≡ false → senderIn o ≡ refusedStart 12
 unfolding senderIn
 refused-no-state o e = no _ _ _ e
+
+-- octets of another layout are no state, so they are refused with 12: those of layout 1 too
+pub other-layout : (o : List ℕ) → (getD o 1 0 ≡ layout → ⊥) → senderIn o ≡ refusedStart 12
+unfolding octetsOf
+other-layout o h = refused-no-state o (not-so (isState o) (λ t. h (sym (ap (λ (x : List ℕ). getD x 1 0) (state-only o t)))))

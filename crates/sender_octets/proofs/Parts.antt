@@ -13,13 +13,13 @@ use Rattle.sender_values.specs.declared.Queues.{Queues}
 use Rattle.sender_values.specs.declared.Control.{Control}
 use Rattle.sender_values.specs.declared.SenderState.{SenderState}
 use Rattle.sender.specs.declared.Answer.{Answer}
-use Rattle.sender_octets.specs.Kept.{numberOctets, octetsOf, stateIn, stateNumber, stateNumbered, controlNumber, controlValue, controlNumbered, flagsOf, pairs, pairAt, pairsFrom}
+use Rattle.sender_octets.specs.Kept.{layout, numberOctets, octetsOf, stateIn, stateNumber, stateNumbered, controlNumber, controlValue, controlNumbered, flagsOf, pairs, pairAt, pairsFrom}
 use Rattle.sender_octets.specs.Answer.{octetsOfAnswer, alertNumber, kindNumber}
 
 -- the octets before the lengths, with the state's number, the flags and the type-BC frame given
 abbrev pub numbersWith : SenderState → ℕ → ℕ → ℕ → ℕ → List ℕ
 numbersWith s number flags control value =
-    0x53 ∷ 1 ∷ number
+    0x53 ∷ layout ∷ number
     ∷ s .settings .k ∷ s .settings .«t1_initial» / 256 ∷ s .settings .«t1_initial» % 256 ∷ s .settings .«transmission_limit» ∷ s .settings .«timeout_type»
     ∷ s .settings .spacecraft / 256 ∷ s .settings .spacecraft % 256 ∷ s .settings .channel
     ∷ s .variables .vs ∷ s .variables .nnr ∷ s .variables .timer / 256 ∷ s .variables .timer % 256 ∷ s .variables .«transmission_count»

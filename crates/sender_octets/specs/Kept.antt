@@ -1,11 +1,13 @@
 -- The sender's state as octets, so that a unit can keep it over a reset. Numbers of two octets have the most significant first.
 --
 --   0 53 hex          8-9 spacecraft     15 Transmission_Count                          18 units sent
---   1 layout, 1       10 channel         16 flags: 1 AD_Out, 2 BC_Out, 4 BD_Out Ready,   19 of these marked
+--   1 layout, 2       10 channel         16 flags: 1 AD_Out, 2 BC_Out, 4 BD_Out Ready,   19 of these marked
 --   2 state, 1 to 6   11 V(S)               8 a unit waits, 16 type-BC frame marked      20 type-BC frame: 0 none, 1 Unlock, 2 Set V(R)
 --   3 K               12 NN(R)           17 Suspend_State                               21 its value
 --   4-5 T1_Initial    13-14 timer                                                       22 on: the length of the unit at each place, two octets each
 --   6 Transmission_Limit, 7 Timeout_Type
+--
+-- Layout 1 had 33 places, of units to 249 octets (before document 02's order 7): its octets are no state.
 use Prim.Native.Nat.{ℕ, zero, suc, _+_, _*_, _/_, _%_}
 use mathlib.Core.Bool.{Bool}
 use mathlib.Core.List.{List, [], _∷_}
@@ -23,6 +25,10 @@ use Rattle.sender_values.specs.declared.SenderState.{SenderState}
 use Rattle.sender_state.specs.State.{wellFormed}
 use Rattle.sender.specs.Start.{restoredOf, refusedStart}
 use Rattle.sender.specs.declared.Start.{Start}
+
+-- the number of this layout
+abbrev pub layout : ℕ
+layout = 2
 
 -- the octets of a state before its lengths
 abbrev pub numberOctets : ℕ
@@ -85,7 +91,7 @@ flagsOf s =
 -- a state as octets
 unfoldable pub octetsOf : SenderState → List ℕ
 octetsOf s =
-    0x53 ∷ 1 ∷ stateNumber (s .state)
+    0x53 ∷ layout ∷ stateNumber (s .state)
     ∷ s .settings .k ∷ s .settings .«t1_initial» / 256 ∷ s .settings .«t1_initial» % 256 ∷ s .settings .«transmission_limit» ∷ s .settings .«timeout_type»
     ∷ s .settings .spacecraft / 256 ∷ s .settings .spacecraft % 256 ∷ s .settings .channel
     ∷ s .variables .vs ∷ s .variables .nnr ∷ s .variables .timer / 256 ∷ s .variables .timer % 256 ∷ s .variables .«transmission_count»

@@ -16,7 +16,7 @@ ghost use Rattle.sender_octets.specs.Kept.{stateOctets, octetsOf, stateN
 // The first octet of a state, and the number of its layout.
 const MARK: u8 = 0x53;
 
-const LAYOUT: u8 = 1;
+const LAYOUT: u8 = 2;
 
 // S1 to S6 by number.
 pub fn state_number(state: State) -> u8

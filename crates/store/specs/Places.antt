@@ -10,8 +10,7 @@ use Rattle.memory.specs.Placed.{placed}
 abbrev pub places : ℕ
 places = largestK + 1
 
--- the octets that a sender needs of the store, by its window K and its units outstanding: "a lent store under 8,217 octets (32 units of 249 sent
--- and one waiting) is 11", whatever these are
+-- the octets that a sender needs of the store, by its window K and its units outstanding: those of all places, whatever these are
 abbrev pub storeNeed : ℕ → ℕ → ℕ
 storeNeed k outstanding = largestUnit * places
 

@@ -36,20 +36,17 @@ returns-2 c = judged (search needs) (search tests)
 returns-3 : tie.Need-returns-3
 returns-3 c = judged (search needs) (search tests)
 
+add-if4 : tie.Need-add-if4
+add-if4 c = search needs
+
 returns-4 : tie.Need-returns-4
 returns-4 c = judged (search needs) (search tests)
-
-add-if5 : tie.Need-add-if5
-add-if5 c = search needs
-
-returns-5 : tie.Need-returns-5
-returns-5 c = judged (search needs) (search tests)
 
 content-refusal-requires : tie.Need-content-refusal-requires
 content-refusal-requires c κs = search needs
 
-returns-6 : tie.Need-returns-6
-returns-6 c = judged (search needs) (search (tests, c .content-refusal .ensures))
+returns-5 : tie.Need-returns-5
+returns-5 c = judged (search needs) (search (tests, c .content-refusal .ensures))
 
 pub refusal-spec : {M : Type 1} → statement M
 refusal-spec =
@@ -60,8 +57,7 @@ refusal-spec =
     cast-n
     returns-2
     returns-3
+    add-if4
     returns-4
-    add-if5
-    returns-5
     content-refusal-requires
-    returns-6)
+    returns-5)
