@@ -23,7 +23,7 @@ use Rattle.sender_table.specs.Rows.{done, doneAll, doneCell, rowOf}
 use Rattle.sender_events.specs.Events.{eventNumber, directiveNumber}
 use Rattle.session.proofs.Choices.{by-pick, upto, _also_}
 use Rattle.sender.specs.Answers.{Step, refusedStep}
-use Rattle.sender_frames.specs.Limits.{smallestStore}
+use Rattle.sender_frames.specs.Limits.{needOf}
 use Rattle.sender.specs.Events.{servedBy, served, directiveOf}
 use Rattle.our_session.proofs.Numbers.{row-event}
 use Rattle.our_session.proofs.Meets.{invalid-is-40}
@@ -87,9 +87,9 @@ module _ (s : SenderState) (store output : List ℕ) where
   both-invalid : (d v c u : ℕ) → validDirective d v ≡ false → validDirective c u ≡ false → step d v ≡ step c u
   both-invalid d v c u p q = refused-12 d v p ∙ sym (refused-12 c u q)
 
-  -- by its event
+  -- by its event, with the store judged by K
   abbrev stepAt : FopEvent → ℕ → Step
-  stepAt e v = pick (eqb (eventNumber e) 40) (refusedStep 12 s store output) (served (eventNumber e) v s s store output)
+  stepAt e v = pick (eqb (eventNumber e) 40) (refusedStep 12 s store output) (served (s .settings .k) (eventNumber e) v s s store output)
 
   module _ (v : ℕ) where
     abbrev Unread : FopEvent → Type 0
@@ -99,7 +99,7 @@ module _ (s : SenderState) (store output : List ℕ) where
     unfolding served rowOf
     unread e h =
         ap (λ (w : Work). pick (eqb (eventNumber e) 40) (refusedStep 12 s store output)
-        (must (leb smallestStore (length store)) (refusedStep 11 s store output) (servedBy (eventNumber e) s w store output)))
+        (must (leb (needOf s) (length store)) (refusedStep 11 s store output) (servedBy (eventNumber e) s w store output)))
         (row-event e 0 (begun s) ∙ h ∙ sym (row-event e v (begun s)))
 
     module _ (large : largestPair < v) where

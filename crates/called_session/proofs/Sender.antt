@@ -38,8 +38,8 @@ use Rattle.sender_octets.proofs.Back.{Sized, read-back, octets-back, state-only
 use Rattle.sender_octets.proofs.Answered.{Fits, answer-back}
 use Rattle.pondreszi_sender.specs.Senders.{Called, refusedCall, doneCall, calledBy, requestAdCall, requestBdCall, tickCall, wordCall, lowerCall, directiveCall, narrowNumber, narrowValue}
 use Rattle.our_session.specs.Ours.{Held, stepOf, heldAfter, handedDown, answerBy, lentOutput, reads}
-use Rattle.our_session.specs.Does.{Does}
-use Rattle.our_session.proofs.Events.{does}
+use Rattle.session.specs.Ends.{Brought}
+use Rattle.our_session.proofs.Theorem.{keeps-good, session-next, session-answer}
 use Rattle.our_session.proofs.Output.{output-content-free}
 use Rattle.our_session.proofs.Restored.{good-passes}
 use Rattle.called_session.specs.Called.{Kept, lentAnswer, lowerCalled, ifOctets, callOf, keptAfter, answerCalled, heldIn}
@@ -195,8 +195,9 @@ module _ (own : Own) (x : Kept) (g : GoodKept own x) (lent : ℕ) where
       ap length (sym (state-only (x .state) (g .is)))
       ∙ length-octets (stateIn (x .state)) (places-all own (stateIn (x .state)) (x .store) (g .good))
 
-  does-step : (e : SenderEvent) → Does own lent e (reads (heldIn x)) (stepOf e output (heldIn x))
-  does-step e = does own e lent (heldIn x) (g .good)
+  -- the sender after a step is well-formed with the store after it
+  good-step : (e : SenderEvent) → Good own (stepOf e output (heldIn x) .answer .next .fop) (stepOf e output (heldIn x) .store)
+  good-step e = keeps-good own e lent (heldIn x) (g .good)
 
   -- what is kept after a call: the octets of the step's next state, and its store
   pub after-is : (e : SenderEvent) → keptAfter (callOf e output x)
@@ -206,7 +207,7 @@ module _ (own : Own) (x : Kept) (g : GoodKept own x) (lent : ℕ) where
       let n : SenderState = y .answer .next .fop in
       ap keptAfter (call-is x (g .is) output e)
       ∙ ap (λ (o : List ℕ). record { state = o; store = y .store })
-      (placed-whole (x .state) (octetsOf n) (length-octets n (places-all own n (y .store) (does-step e .good)) ∙ sym state-length))
+      (placed-whole (x .state) (octetsOf n) (length-octets n (places-all own n (y .store) (good-step e)) ∙ sym state-length))
 
   -- it holds the sender after the step
   pub held-is : (e : SenderEvent) → heldIn (keptAfter (callOf e output x)) ≡ heldAfter (stepOf e output (heldIn x))
@@ -214,18 +215,18 @@ module _ (own : Own) (x : Kept) (g : GoodKept own x) (lent : ℕ) where
       let y : Step = stepOf e output (heldIn x) in
       let n : SenderState = y .answer .next .fop in
       ap heldIn (after-is e)
-      ∙ ap (λ (t : SenderState). record { sender = record { fop = t }; store = y .store }) (octets-kept own n (y .store) (does-step e .good) .1)
+      ∙ ap (λ (t : SenderState). record { sender = record { fop = t }; store = y .store }) (octets-kept own n (y .store) (good-step e) .1)
 
   pub keeps : (e : SenderEvent) → GoodKept own (keptAfter (callOf e output x))
   keeps e =
       let y : Step = stepOf e output (heldIn x) in
       let n : SenderState = y .answer .next .fop in
-      let k = octets-kept own n (y .store) (does-step e .good) in
+      let k = octets-kept own n (y .store) (good-step e) in
       subst (GoodKept own) (sym (after-is e))
-      (record { is = k .0; good = subst (λ (t : SenderState). Good own t (y .store)) (sym (k .1)) (does-step e .good) })
+      (record { is = k .0; good = subst (λ (t : SenderState). Good own t (y .store)) (sym (k .1)) (good-step e) })
 
-  pub next : (e : SenderEvent) → reads (heldIn (keptAfter (callOf e output x))) ≡ senderNext own e lent (reads (heldIn x))
-  next e = ap reads (held-is e) ∙ does-step e .next
+  pub next : (e : SenderEvent) → Brought e → reads (heldIn (keptAfter (callOf e output x))) ≡ senderNext own e lent (reads (heldIn x))
+  next e i = ap reads (held-is e) ∙ session-next own e i lent (heldIn x) (g .good)
 
-  pub answers : (e : SenderEvent) → answerCalled (callOf e output x) ≡ senderAnswer own e lent (reads (heldIn x))
-  answers e = answer-is x (g .is) output e ∙ does-step e .answer
+  pub answers : (e : SenderEvent) → Brought e → answerCalled (callOf e output x) ≡ senderAnswer own e lent (reads (heldIn x))
+  answers e i = answer-is x (g .is) output e ∙ session-answer own e i lent (heldIn x) (g .good)

@@ -29,7 +29,7 @@ use Rattle.session.proofs.Theorem.{demand3}
 use Rattle.session.proofs.Strong.{stronger-claims}
 use Rattle.session.proofs.Beyond.{beyond}
 use Rattle.sender.specs.declared.Start.{Start}
-use Rattle.sender_frames.specs.Limits.{smallestStore}
+use Rattle.fop.specs.Store.{storeNeed}
 use Rattle.sender.specs.Start.{startingOf}
 use Rattle.sender_octets.specs.Kept.{stateOctets, octetsOf, isState}
 use Rattle.sender_octets.proofs.Judged.{length-octets}
@@ -52,12 +52,12 @@ called-tied set within x b = record {
   GoodReceiver = GoodReceiver;
   good = record { is = b .is; good = b .begins .good };
   goodReceiver = start-good set within;
-  keeps = λ e lent y g. keeps (set .own) y g lent e;
+  keeps = λ e i lent y g. keeps (set .own) y g lent e;
   keepsReceiver = λ e state g. keeps-receiver state g e;
   start = b .begins .start;
   startReceiver = receiver-back (startReceiver set);
-  next = λ e lent y g. next (set .own) y g lent e;
-  answer = λ e lent y g. answers (set .own) y g lent e;
+  next = λ e i lent y g. next (set .own) y g lent e i;
+  answer = λ e i lent y g. answers (set .own) y g lent e i;
   nextReceiver = λ e state g. next-receiver state g e;
   answerReceiver = λ e state g. answer-receiver state g e;
   word = λ lent state g. word-receiver state g lent (lentOutput lent);
@@ -74,7 +74,7 @@ pub beyond-called : BeyondCalled
 beyond-called set within x b = beyond set within (called set x) (called-tied set within x b)
 
 -- a new sender, in a buffer of a state's length
-module _ (set : Settings) (within : Within set) (store : List ℕ) (long : smallestStore ≤ length store) (buffer : List ℕ)
+module _ (set : Settings) (within : Within set) (store : List ℕ) (long : storeNeed (set .k) 0 ≤ length store) (buffer : List ℕ)
     (sized : length buffer ≡ stateOctets) where
   abbrev first : SenderState
   first = startOf (senderSettings set) (set .n) (set .n)
@@ -90,7 +90,7 @@ module _ (set : Settings) (within : Within set) (store : List ℕ) (long : small
         eq-eqb (set .timeoutType) 0 (omega (arith, within .timeoutMost)),
         le-leb (set .own .spacecraft) largestSpacecraft (within .spacecraft),
         le-leb (set .own .channel) largestChannel (within .channel),
-        le-leb smallestStore (length store) long,
+        le-leb (storeNeed (set .k) 0) (length store) long,
       )
 
   given : sender.startGiven (set .k) (set .t1) (set .limit) (set .timeoutType) (set .own .spacecraft) (set .own .channel) (set .n) (set .n) (length store)
@@ -153,7 +153,7 @@ fresh-called set within one store long buffer sized = record {
 }
 
 -- so demand 3 holds from there
-pub demand3-fresh : (set : Settings) → Within set → set .count ≡ 1 → (store : List ℕ) → smallestStore ≤ length store → (buffer : List ℕ)
+pub demand3-fresh : (set : Settings) → Within set → set .count ≡ 1 → (store : List ℕ) → storeNeed (set .k) 0 ≤ length store → (buffer : List ℕ)
     → length buffer ≡ stateOctets → (es : List Event)
     → Claims set (called set (startKept set store buffer))
     (run set (called set (startKept set store buffer)) es (begins (called set (startKept set store buffer))))

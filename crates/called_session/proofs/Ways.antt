@@ -27,9 +27,10 @@ use Rattle.fop.specs.declared.Lower.{Lower}
 use Rattle.sender_events.specs.Events.{wordNumber, directiveNumber, adNumber, bdNumber, lowerNumber}
 use Rattle.sender.specs.declared.Answer.{Answer}
 use Rattle.sender.specs.Answers.{noResponses, answered, refusing, concluded, Step, stepBy, refusedStep}
-use Rattle.sender_frames.specs.Limits.{smallestStore}
+use Rattle.fop.specs.Store.{storeNeed}
+use Rattle.sender_frames.specs.Limits.{needOf}
 use Rattle.sender_frames.specs.Frames.{handedWriting, unitBefore, unitOffered, mustBeUnit}
-use Rattle.sender.specs.Events.{added, storeServed, lengthsServed, lengthsOffered, servedBy, served, offeredBy, bypassedBy, requestAdOf, requestBdOf, directiveOf, ticked, tickNumber, tickOf, lowerLayerOf, wordBy, controlWordOf}
+use Rattle.sender.specs.Events.{added, storeServed, lengthsServed, lengthsOffered, servedBy, served, offeredBy, bypassedBy, requestAdOf, requestBdOf, windowOf, directiveOf, ticked, tickNumber, tickOf, lowerLayerOf, wordBy, controlWordOf}
 use Rattle.sender_octets.proofs.Answered.{Fits, down-fits}
 use Rattle.called_session.proofs.Responses.{Four, with-four, four}
 
@@ -51,17 +52,17 @@ module _ (s : SenderState) (store output : List ℕ) where
   judged true number y p = p
   judged false number y p = refuses number
 
-  serves : (k n : ℕ) (g : SenderState) → W (served k n s g store output)
+  serves : (window k n : ℕ) (g : SenderState) → W (served window k n s g store output)
   unfolding served servedBy
-  serves k n g =
+  serves window k n g =
       let w : Work = rowNumbered k n (begun g) in
-      judged (leb smallestStore (length store)) 11 _ (writes k w (lengthsServed s w) (unitBefore s w store) (storeServed s w store) (four k n g))
+      judged (leb (storeNeed window (s .queues .sent)) (length store)) 11 _ (writes k w (lengthsServed s w) (unitBefore s w store) (storeServed s w store) (four k n g))
 
   -- a request, by its length
   asks : (o : List ℕ) (y : Step) → W y
-      → W (mustBeUnit o (refusedStep 10 s store output) (must (leb smallestStore (length store)) (refusedStep 11 s store output) y))
+      → W (mustBeUnit o (refusedStep 10 s store output) (must (leb (needOf s) (length store)) (refusedStep 11 s store output) y))
   asks o y p =
-      judged (leb 1 (length o)) 10 _ (judged (leb (length o) largestUnit) 10 _ (judged (leb smallestStore (length store)) 11 y p))
+      judged (leb 1 (length o)) 10 _ (judged (leb (length o) largestUnit) 10 _ (judged (leb (needOf s) (length store)) 11 y p))
 
   pub asks-ad : (o : List ℕ) → W (requestAdOf s o store output)
   unfolding requestAdOf offeredBy
@@ -76,19 +77,19 @@ module _ (s : SenderState) (store output : List ℕ) where
 
   pub directs : (d v : ℕ) → W (directiveOf d v s store output)
   unfolding directiveOf
-  directs d v = either (eqb (directiveNumber d v s) 40) _ _ (refuses 12) (serves (directiveNumber d v s) v s)
+  directs d v = either (eqb (directiveNumber d v s) 40) _ _ (refuses 12) (serves (windowOf d v s) (directiveNumber d v s) v s)
 
   pub ticks : W (tickOf s store output)
   unfolding tickOf
-  ticks = serves (tickNumber s) 0 (ticked s)
+  ticks = serves (s .settings .k) (tickNumber s) 0 (ticked s)
 
   pub lowers : (l : Lower) → W (lowerLayerOf l s store output)
   unfolding lowerLayerOf
-  lowers l = serves (lowerNumber l) 0 s
+  lowers l = serves (s .settings .k) (lowerNumber l) 0 s
 
   reads : (r : WordReading) → W (wordBy r s store output)
-  reads (reading.Word r) = serves (wordNumber (r .word) s) (r .word .report) s
-  reads reading.Invalid = serves 15 0 s
+  reads (reading.Word r) = serves (s .settings .k) (wordNumber (r .word) s) (r .word .report) s
+  reads reading.Invalid = serves (s .settings .k) 15 0 s
   reads reading.Address = refuses 7
   reads reading.Length = refuses 10
 

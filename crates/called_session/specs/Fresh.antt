@@ -6,7 +6,7 @@ use lib.ListN.{length}
 use Rattle.fop.specs.Events.{directive}
 use Rattle.receiver_octets.specs.Kept as farm
 use Rattle.session.specs.Ends.{Settings, Within, startReceiver}
-use Rattle.sender_frames.specs.Limits.{smallestStore}
+use Rattle.fop.specs.Store.{storeNeed}
 use Rattle.sender_octets.specs.Kept.{stateOctets}
 use Rattle.pondreszi_sender.specs.Senders as sender
 use Rattle.pondreszi_receiver.specs.Receivers as receiver
@@ -31,10 +31,10 @@ pub record Fresh (set : Settings) (store buffer : List ℕ) : Type 0 where
   pub number : newSender set store buffer .number ≡ 0
   pub begins : BeginsKept set (startKept set store buffer)
 
--- with every store that is long enough, whatever store and buffer hold; Transmission_Count is then 1
+-- with every store that suffices for its K, whatever store and buffer hold; Transmission_Count is then 1
 abbrev pub FreshSender : Type 0
 FreshSender =
-    (set : Settings) → Within set → set .count ≡ 1 → (store : List ℕ) → smallestStore ≤ length store → (buffer : List ℕ)
+    (set : Settings) → Within set → set .count ≡ 1 → (store : List ℕ) → storeNeed (set .k) 0 ≤ length store → (buffer : List ℕ)
     → length buffer ≡ stateOctets → Fresh set store buffer
 
 -- a new receiver is no refusal, and its octets are those of the session's receiver; its FARM-B counter is 0

@@ -6,3 +6,4 @@ pub mod Effective
 pub mod Machine
 pub mod Events
 pub mod Answers
+pub mod Store

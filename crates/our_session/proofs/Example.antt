@@ -11,6 +11,9 @@ use lib.Dec.{leb→le}
 use lib.ListN.{length, replicate}
 use Rattle.fop.specs.Units.{Fdu, SetVR, written}
 use Rattle.fop.specs.declared.Lower.the-variants.{AdAccept, BcAccept}
+use Rattle.fop.specs.Variables.{Fop}
+use Rattle.sender_view.specs.View.{fopOf}
+use Rattle.fop.specs.Store.{larger, storeNeed}
 use Rattle.fop.specs.Events.{SenderEvent, requestAd, tick, lower, directive, wordArrives}
 use Rattle.receiver.specs.Receiver.{atStart}
 use Rattle.receiver.specs.declared.Receiver.{Receiver}
@@ -27,19 +30,18 @@ use Rattle.sender_values.specs.Parts as parts
 use Rattle.sender_values.specs.Start as start
 use Rattle.sender_table.specs.Rows as rows
 use Rattle.sender_events.specs.Events as number
-use Rattle.sender_frames.specs.Limits.{smallestStore}
 use Rattle.sender.specs.Answers as answers
 use Rattle.sender.specs.Start as starting
 use Rattle.sender_frames.specs.Frames as frames
 use Rattle.sender.specs.Events as sender
 use Rattle.our_session.specs.Ours.{Held, senderSettings, lentOutput, stepOf, heldAfter, freshHeld, heldAfterAll, startHeld, reads, Begins, ours}
-use Rattle.our_session.proofs.Theorem.{nextAll, begins-after, fresh-good, fresh-reads}
+use Rattle.our_session.proofs.Theorem.{nextAll, tablesAll, Suffices, all-suffice, begins-after, fresh-good, fresh-reads}
 
 abbrev set : Settings
 set = settings 3 2 1 3
 
 abbrev store : List ℕ
-store = replicate smallestStore 0
+store = replicate (storeNeed (set .k) 0) 0
 
 abbrev events : List Event
 events =
@@ -58,7 +60,7 @@ unfolding computing rawWriting freshHeld stepOf starting.startingOf start.startO
     act.cancelTimer act.countOne act.adOutReady act.setSuspendState act.responsesWith act.respond act.handDown act.abort act.addToWaitQueue
     act.holdControl act.releaseBcFrame act.transmitAdFrame act.sendMarked act.inWindow act.lookForFdu act.again act.initiateAdRetransmission
     act.setVs act.setNnr act.notify act.alert act.removeAcknowledgedFrames act.emptied act.denyControl act.purgeSentQueue act.notWaiting
-    act.purgeWaitQueue act.initialise slide.slid stored.without place.placed
+    act.purgeWaitQueue act.initialise slide.slid stored.without place.placed larger
 computingOurs = tt
 
 pub our-session : (after set (ours set (startHeld set store)) events) .history
@@ -111,12 +113,26 @@ twice-within = record {
 }
 
 -- a store of any octets that is long enough
-module _ (lent : List ℕ) (long : smallestStore ≤ length lent) where
-  twice-reads : nextAll (set .own) initiating (reads (freshHeld twice 0 lent)) ≡ startSender twice
+module _ (lent : List ℕ) (long : storeNeed (twice .k) 0 ≤ length lent) where
+  -- K is 3 and no unit is outstanding at each of these events
+  abbrev first : Fop
+  first = fopOf (start.begun (start.startOf (senderSettings twice) 0 0)) (start.startOf (senderSettings twice) 0 0 .lengths) lent
+
+  twice-suffices : Suffices (set .own) (length lent) initiating first
+  unfolding computing start.startOf start.begun larger
+  twice-suffices = (long, (long, (long, (long, (long, tt)))))
+
+  twice-tables : tablesAll (set .own) initiating first ≡ startSender twice
   unfolding computing start.startOf start.begun
-  twice-reads = ap (nextAll (set .own) initiating) (fresh-reads twice twice-within 0 (leb→le _ _ tt) lent long) ∙ refl
+  twice-tables = refl
+
+  twice-reads : nextAll (set .own) (length lent) initiating (reads (freshHeld twice 0 lent)) ≡ startSender twice
+  twice-reads =
+      ap (nextAll (set .own) (length lent) initiating) (fresh-reads twice twice-within 0 (leb→le _ _ tt) lent long)
+      ∙ all-suffice (set .own) (length lent) initiating first twice-suffices ∙ twice-tables
 
   pub twice-begins : Begins twice (heldAfterAll initiating (freshHeld twice 0 lent))
+  unfolding freshHeld
   twice-begins = begins-after twice initiating (freshHeld twice 0 lent) (fresh-good twice twice-within 0 (leb→le _ _ tt) lent long) twice-reads
 
 -- A start with V(S) 200 and NN(R) 0, further apart than any K: the first unit waits until Terminate; Set V(S) brings both to one number, and the

@@ -4,6 +4,7 @@ pub mod Bypass
 pub mod Writing
 pub mod Concluding
 pub mod Judged
+pub mod Widened
 pub mod Shown
 pub mod Served
 pub mod Requested
@@ -13,5 +14,5 @@ pub mod Example
 pub mod Steps
 pub mod Refused
 pub mod Output
-pub mod Behind
 pub mod Restored
+pub mod Behind

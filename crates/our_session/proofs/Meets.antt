@@ -13,7 +13,7 @@ use Rattle.base.proofs.Tests.{apart, yes, no}
 use Rattle.base.proofs.Computed.{is-true}
 use Rattle.fop.specs.Limits.{largestK, largestTransmissionLimit, largestTimer, largestNumber, largestTimeoutType, largestSuspendState}
 use Rattle.fop.specs.Units.{Word}
-use Rattle.fop.specs.Table.{FopEvent, E18, E25, E26, E27, E28, E39, E40, E103}
+use Rattle.fop.specs.Table.{FopEvent, E18, E25, E26, E27, E28, E36, E39, E40, E103}
 use Rattle.fop.specs.Events.{Line, when, first, seen, wordLines, wordEvent, expiryLines, validDirective, directiveLines, directiveEvent}
 use Rattle.sender_values.specs.declared.SenderState.{SenderState}
 use Rattle.sender_values.specs.Start.{begun}
@@ -103,11 +103,11 @@ module _ (v : ℕ) (s : SenderState) (most : s .variables .«suspend_state» ≤
   DirectiveMeets e = Meets e [] v s
 
   abbrev ValidMeets : ℕ → Type 0
-  ValidMeets d = T (validDirective d v) → DirectiveMeets (validEvent d v s)
+  ValidMeets d = T (validDirective d v) → (d ≡ 8 → v ≡ s .settings .k) → DirectiveMeets (validEvent d v s)
 
   resumes : ValidMeets 6
   unfolding begun
-  resumes h =
+  resumes h _ =
       let n = s .variables .«suspend_state» in
       by-pick DirectiveMeets (eqb n 0) (λ t. tt)
       (λ a. by-pick DirectiveMeets (eqb n 1) (eqb-true n 1)
@@ -119,25 +119,32 @@ module _ (v : ℕ) (s : SenderState) (most : s .variables .«suspend_state» ≤
   valid-meets =
       let bc : Bool = s .variables .«bc_out» in
       upto ValidMeets 12
-      ((λ h. absurd h)
-      also (λ h. tt)
-      also (λ h. tt)
-      also (λ h. by-pick DirectiveMeets bc {x = E25} {y = E26} (λ t. tt) (λ t. tt))
-      also (λ h. by-pick DirectiveMeets bc {x = E27} {y = E28} (λ t. octet-below v h) (λ t. tt))
-      also (λ h. tt)
+      ((λ h k. absurd h)
+      also (λ h k. tt)
+      also (λ h k. tt)
+      also (λ h k. by-pick DirectiveMeets bc {x = E25} {y = E26} (λ t. tt) (λ t. tt))
+      also (λ h k. by-pick DirectiveMeets bc {x = E27} {y = E28} (λ t. octet-below v h) (λ t. tt))
+      also (λ h k. tt)
       also resumes
-      also octet-below v
-      also within-limits v largestK
-      also (λ h. within-limits v largestTimer h .0)
-      also within-limits v largestTransmissionLimit
-      also (λ h. omega (arith, eqb→eq v 0 h))
+      also (λ h k. octet-below v h)
+      also (λ h k. k refl)
+      also (λ h k. within-limits v largestTimer h .0)
+      also (λ h k. within-limits v largestTransmissionLimit h)
+      also (λ h k. omega (arith, eqb→eq v 0 h))
       also tt)
 
+-- Set K is met by the sender that has the new K already
 pub directive-meets : (d v : ℕ) (s : SenderState) → validDirective d v ≡ true → s .variables .«suspend_state» ≤ largestSuspendState
-    → Meets (directiveEvent d v (variablesOf s)) [] v s
-directive-meets d v s valid most =
+    → (d ≡ 8 → v ≡ s .settings .k) → Meets (directiveEvent d v (variablesOf s)) [] v s
+directive-meets d v s valid most same =
     let h : T (validDirective d v) = subst T (sym valid) tt in
-    subst (λ (e : FopEvent). Meets e [] v s) (sym (valid-event d v s valid)) (valid-meets v s most d (number-below d v h) h)
+    subst (λ (e : FopEvent). Meets e [] v s) (sym (valid-event d v s valid)) (valid-meets v s most d (number-below d v h) h same)
+
+pub set-k-event : (v : ℕ) (s : SenderState) → validDirective 8 v ≡ true → directiveEvent 8 v (variablesOf s) ≡ E36
+set-k-event v s valid = valid-event 8 v s valid
+
+pub window-limits : (v : ℕ) → validDirective 8 v ≡ true → (1 ≤ v) × (v ≤ largestK)
+window-limits v valid = within-limits v largestK (subst T (sym valid) tt)
 
 -- The expiry of the timer: E16 or E17 with Timeout_Type 0, else E104 or E18.
 pub expiry-meets : (s : SenderState) → s .settings .«timeout_type» ≤ largestTimeoutType → s .variables .timer ≡ 0

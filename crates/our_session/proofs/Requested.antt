@@ -14,6 +14,7 @@ use Rattle.store.specs.Slid.{slid}
 use Rattle.store.proofs.Parts.{slid-none}
 use Rattle.store.proofs.Moving.{without-none}
 use Rattle.store.proofs.Laws.{put-there, put-before}
+use Rattle.store.proofs.Need.{larger-second}
 use Rattle.fop.specs.Units.{Own}
 use Rattle.fop.specs.Table.{FopEvent, table78, cell78, E19, E20, E21, E22}
 use Rattle.fop.specs.Variables as machine
@@ -116,7 +117,7 @@ module _ (own : Own) (o : List ℕ) (s : SenderState) (store : List ℕ) (lent :
 
   fits-store : placeOffset (s .queues .sent) + length o ≤ length store
   unfolding begun
-  fits-store = omega (arith, good .formed .room, legal .1, good .formed .sent-most)
+  fits-store = omega (arith, good .formed .room, legal .1, larger-second (s .settings .k) (s .queues .sent))
 
   -- the unit at a place, before and after, in S1 to S3
   unit-is : inMain (s .state) ≡ true → (i : ℕ) → i < w .queues .sent

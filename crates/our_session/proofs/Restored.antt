@@ -26,7 +26,8 @@ use Rattle.sender_table.specs.Rows.{inMain, isFrame}
 use Rattle.sender_values.specs.Actions.{unitsHeld}
 use Rattle.sender_rows_view.specs.State.{Good, withFrame, effective}
 use Rattle.sender_rows_view.proofs.Theorem.{effective-state}
-use Rattle.sender_frames.specs.Limits.{smallestStore}
+use Rattle.fop.specs.Store.{storeNeed}
+use Rattle.sender_frames.specs.Limits.{needOf}
 use Rattle.sender_state.specs.State.{settingsHold, numbersHold, isEmpty, stateHolds, lengthsHold, wellFormed}
 
 -- two tests that hold
@@ -126,7 +127,7 @@ pub record Sized (s : SenderState) : Type 0 where
   pub lengths : length (s .lengths) ≡ places
 
 -- A state that passes is well-formed, with a store that is long enough.
-pub passes-good : (s : SenderState) (store : List ℕ) → Sized s → smallestStore ≤ length store → wellFormed s ≡ true
+pub passes-good : (s : SenderState) (store : List ℕ) → Sized s → needOf s ≤ length store → wellFormed s ≡ true
     → Good (record { spacecraft = s .settings .spacecraft; channel = s .settings .channel }) s store
 unfolding wellFormed begun
 passes-good s store z long t =
@@ -197,7 +198,7 @@ module _ (g : Settings) (vs nnr : ℕ) (limits : settingsHold g ≡ true) where
   unfolding wellFormed startOf
   start-passes = joined _ _ limits (rw (le-leb 0 (offset vs nnr) (omega arith)) refl)
 
-  pub start-good : (store : List ℕ) → vs < 256 → nnr < 256 → g .«transmission_limit» ≤ largestTransmissionLimit → smallestStore ≤ length store
+  pub start-good : (store : List ℕ) → vs < 256 → nnr < 256 → g .«transmission_limit» ≤ largestTransmissionLimit → storeNeed (g .k) 0 ≤ length store
       → Good (record { spacecraft = g .spacecraft; channel = g .channel }) (startOf g vs nnr) store
   unfolding startOf
   start-good store v n l long =

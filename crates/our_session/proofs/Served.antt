@@ -11,6 +11,7 @@ use Rattle.base.proofs.Tests.{no}
 use Rattle.store.specs.Places.{unitAt, without}
 use Rattle.store.specs.Slid.{slid}
 use Rattle.store.proofs.Laws.{without-unit}
+use Rattle.store.proofs.Need.{larger-second}
 use Rattle.fop.specs.Units.{Own, Unlock}
 use Rattle.fop.specs.Table.{FopEvent}
 use Rattle.fop.specs.Variables as machine
@@ -90,7 +91,7 @@ module _ (own : Own) (e : FopEvent) (n : ℕ) (s g : SenderState) (store : List 
       let few : count + (all-held - count) ≤ length (s .lengths) = omega (arith, before, stay, good .formed .all-places) in
       let turned : i + count ≡ count + i = omega arith in
       ap (λ (k : ℕ). unitAt (s .lengths) k store) turned
-      ∙ sym (without-unit (s .lengths) count store (good .formed .units) (all-held - count) i stay few (omega (arith, before, stay, good .formed .room)))
+      ∙ sym (without-unit (s .lengths) count store (good .formed .units) (all-held - count) i stay few (omega (arith, held-most (s .queues .sent) (s .queues .waiting), stay, larger-second (s .settings .k) (s .queues .sent), good .formed .room)))
 
   carried : (h : Handed) → w .told .handed ≡ h
       → Carries own (s .settings) (good .spacecraft) (good .channel) (good .spacecraft-most) (good .channel-most) lengths new [] (unitBefore s w store) lent h

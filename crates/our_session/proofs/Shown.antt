@@ -5,6 +5,7 @@ use mathlib.Core.Path.{_≡_, sym, ap, subst, _∙_}
 use mathlib.Core.Bool.{Bool, true, false}
 use mathlib.Core.List.{List, []}
 use mathlib.Core.Option.{some}
+use native.Mathlib.Nat.{le-trans}
 use native.Mathlib.Omega.{arith}
 use lib.ListN.{length, length-replicate}
 use Rattle.base.specs.Outcome.{Outcome}
@@ -24,6 +25,7 @@ use Rattle.sender_values.specs.Start.{begun}
 use Rattle.sender_view.specs.View.{fopOf, framesOf}
 use Rattle.sender_values.specs.Actions.{unitsHeld}
 use Rattle.store.specs.Places.{unitAt}
+use Rattle.store.proofs.Need.{need-units}
 use Rattle.sender_events.specs.Events.{eventNumber}
 use Rattle.sender_rows_view.specs.State.{Good}
 use Rattle.sender_rows_view.proofs.Rows.{Shows}
@@ -51,8 +53,8 @@ module _ (own : Own) where
 pub held-fits : (own : Own) (s : SenderState) (store : List ℕ) (i : ℕ) → Good own s store → i < s .queues .sent → Fits (unitAt (s .lengths) i store)
 unfolding begun
 held-fits own s store i g h =
-    unit-fits (s .lengths) store i (omega (arith, g .formed .sent-most, h)) (g .filled i (below (s .queues .sent) (s .queues .waiting) h))
-    (g .formed .units i) (g .formed .room) where
+    unit-fits (s .lengths) store i (g .filled i (below (s .queues .sent) (s .queues .waiting) h))
+    (g .formed .units i) (le-trans (need-units (s .settings .k) (s .queues .sent) i (omega (arith, h))) (g .formed .room)) where
       below : (sent : ℕ) (waiting : Bool) → i < sent → i < unitsHeld sent waiting
       below sent true k = omega arith
       below sent false k = k

@@ -1,7 +1,7 @@
 -- Every step of our sender is concluded by what writing the frame handed down comes to (crate sender, specs/Answers), and that looks at the
 -- length of the output lent and at none of its octets. A refused event is a writing that is refused.
 use Prim.Native.Nat.{ℕ, suc, _≤_}
-use mathlib.Core.Path.{_≡_, refl, ap}
+use mathlib.Core.Path.{_≡_, refl, ap, _∙_}
 use mathlib.Core.Bool.{Bool, true, false}
 use mathlib.Core.List.{List, []}
 use native.Mathlib.Omega.{arith}
@@ -11,11 +11,14 @@ use lib.ListN.{length}
 use Rattle.base.specs.Choice.{pick, must}
 use Rattle.base.specs.Limits.{largestUnit}
 use Rattle.base.specs.Outcome.{Outcome, Outcome.refused}
+use Rattle.base.specs.Outcome as outcome
 use Rattle.store.specs.Places.{unitPut, without}
+use Rattle.store.proofs.Laws.{put-length, without-length}
 use Rattle.clcw.specs.Answers.{readingOf}
 use Rattle.clcw.specs.declared.WordReading.{WordReading}
 use Rattle.clcw.specs.declared.WordReading.the-variants as reading
 use Rattle.fop.specs.Units.{areOctets}
+use Rattle.fop.specs.Store.{storeNeed}
 use Rattle.fop.specs.Events.{SenderEvent, requestAd, requestBd, tick, lower, directive, wordArrives}
 use Rattle.sender_values.specs.declared.SenderState.{SenderState}
 use Rattle.sender_values.specs.declared.Work.{Work}
@@ -23,10 +26,11 @@ use Rattle.sender_values.specs.Start.{begun}
 use Rattle.sender_view.proofs.SentQueue.{held-most}
 use Rattle.sender_table.specs.Rows.{rowNumbered}
 use Rattle.sender_events.specs.Events.{wordNumber, directiveNumber, adNumber, bdNumber, lowerNumber}
+use Rattle.sender.specs.Answers as ans
 use Rattle.sender.specs.Answers.{Step, stepBy, refusedStep}
-use Rattle.sender_frames.specs.Limits.{smallestStore}
+use Rattle.sender_frames.specs.Limits.{needOf}
 use Rattle.sender_frames.specs.Frames.{handedWriting, unitBefore, unitOffered, mustBeUnit}
-use Rattle.sender.specs.Events.{added, servedBy, served, offeredBy, bypassedBy, requestAdOf, requestBdOf, directiveOf, ticked, tickNumber, tickOf, lowerLayerOf, wordBy, controlWordOf}
+use Rattle.sender.specs.Events.{added, servedBy, served, offeredBy, bypassedBy, requestAdOf, requestBdOf, windowOf, directiveOf, ticked, tickNumber, tickOf, lowerLayerOf, wordBy, controlWordOf}
 use Rattle.our_session.specs.Ours.{Held, stepOf}
 
 -- the store that is left where the step is done: as it was, without its oldest units, or with the unit offered
@@ -95,22 +99,22 @@ module _ (x : Held) (lent : ℕ) where
   bypassed-by k w o = written k w _ o store same
 
   -- where the store is long enough
-  stored : (y : List ℕ → Step) → C y → C (λ output. must (leb smallestStore (length store)) (refusedStep 11 s store output) (y output))
-  stored y h = judged (leb smallestStore (length store)) (λ output. refusedStep 11 s store output) y (refused-with 11) h
+  stored : (need : ℕ) (y : List ℕ → Step) → C y → C (λ output. must (leb need (length store)) (refusedStep 11 s store output) (y output))
+  stored need y h = judged (leb need (length store)) (λ output. refusedStep 11 s store output) y (refused-with 11) h
 
-  serves : (k n : ℕ) (g : SenderState) → C (λ output. served k n s g store output)
+  serves : (window k n : ℕ) (g : SenderState) → C (λ output. served window k n s g store output)
   unfolding served
-  serves k n g = stored _ (served-by k (rowNumbered k n (begun g)))
+  serves window k n g = stored (storeNeed window (s .queues .sent)) _ (served-by k (rowNumbered k n (begun g)))
 
   -- a request, by its length
   asks : (o : List ℕ) (y : List ℕ → Step) → (length o ≤ largestUnit → C y)
-      → C (λ output. mustBeUnit o (refusedStep 10 s store output) (must (leb smallestStore (length store)) (refusedStep 11 s store output) (y output)))
+      → C (λ output. mustBeUnit o (refusedStep 10 s store output) (must (leb (needOf s) (length store)) (refusedStep 11 s store output) (y output)))
   asks o y h =
       judged (leb 1 (length o)) (λ output. refusedStep 10 s store output) _ (refused-with 10) (fits (leb (length o) largestUnit) refl)
     where
       fits : (b : Bool) → leb (length o) largestUnit ≡ b
-          → C (λ output. must b (refusedStep 10 s store output) (must (leb smallestStore (length store)) (refusedStep 11 s store output) (y output)))
-      fits true e = stored y (h (leb-true (length o) largestUnit e))
+          → C (λ output. must b (refusedStep 10 s store output) (must (leb (needOf s) (length store)) (refusedStep 11 s store output) (y output)))
+      fits true e = stored (needOf s) y (h (leb-true (length o) largestUnit e))
       fits false e = refused-with 10
 
   asks-ad : (o : List ℕ) → C (λ output. requestAdOf s o store output)
@@ -123,11 +127,11 @@ module _ (x : Held) (lent : ℕ) where
 
   directs : (d v : ℕ) → C (λ output. directiveOf d v s store output)
   unfolding directiveOf
-  directs d v = either (eqb (directiveNumber d v s) 40) (λ output. refusedStep 12 s store output) _ (refused-with 12) (serves (directiveNumber d v s) v s)
+  directs d v = either (eqb (directiveNumber d v s) 40) (λ output. refusedStep 12 s store output) _ (refused-with 12) (serves (windowOf d v s) (directiveNumber d v s) v s)
 
   reads : (r : WordReading) → C (λ output. wordBy r s store output)
-  reads (reading.Word r) = serves (wordNumber (r .word) s) (r .word .report) s
-  reads reading.Invalid = serves 15 0 s
+  reads (reading.Word r) = serves (s .settings .k) (wordNumber (r .word) s) (r .word .report) s
+  reads reading.Invalid = serves (s .settings .k) 15 0 s
   reads reading.Address = refused-with 7
   reads reading.Length = refused-with 10
 
@@ -143,7 +147,23 @@ module _ (x : Held) (lent : ℕ) where
   unfolding stepOf tickOf lowerLayerOf
   concluded (requestAd o) = as-octets o _ (asks-ad o)
   concluded (requestBd o) = as-octets o _ (asks-bd o)
-  concluded tick = serves (tickNumber s) 0 (ticked s)
-  concluded (lower l) = serves (lowerNumber l) 0 s
+  concluded tick = serves (s .settings .k) (tickNumber s) 0 (ticked s)
+  concluded (lower l) = serves (s .settings .k) (lowerNumber l) 0 s
   concluded (directive d v) = directs d v
   concluded (wordArrives octets) = as-octets octets _ (word-read octets)
+
+-- the store has its length after every event
+module _ (x : Held) where
+  left-length : (new : List ℕ) → Left x new → length new ≡ length (x .store)
+  left-length new same = refl
+  left-length new (fewer count staying few) = without-length (x .sender .fop .lengths) count (x .store) staying
+  left-length new (more o m) = put-length [] (x .store) o (x .sender .fop .queues .sent)
+
+  by-writing : (a : outcome.Answer (Unit {0})) (new : List ℕ) → Left x new → length (ans.stored a new (x .store)) ≡ length (x .store)
+  by-writing (outcome.Answer.done count told) new left = left-length new left
+  by-writing (outcome.Answer.refused number place) new left = refl
+
+  pub store-length : (e : SenderEvent) (output : List ℕ) → length (stepOf e output x .store) ≡ length (x .store)
+  store-length e output =
+      let c = concluded x (length output) e in
+      ap (λ (step : Step). length (step .store)) (c .is output refl) ∙ by-writing (outcome.answer (c .writing)) (c .new) (c .left)

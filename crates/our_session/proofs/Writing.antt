@@ -17,16 +17,14 @@ use Rattle.frame.specs.declared.Kind.{Kind}
 use Rattle.frame.specs.declared.Kind.the-variants as kind
 use Rattle.frame.proofs.Lengths.{length-frame}
 use Rattle.frame_writer.proofs.Emitted.{writing-room, writing-done}
-use Rattle.fop.specs.Limits.{largestK}
 use Rattle.fop.specs.Units.{Own, written}
 use Rattle.fop.specs.Answers.{octetsDown, room}
 use Rattle.sender_values.specs.declared.Settings.{Settings}
 use Rattle.sender_values.specs.declared.Handed.{Handed}
 use Rattle.sender_values.specs.declared.Handed.the-variants as handed
-use Rattle.store.specs.Places.{unitAt}
+use Rattle.store.specs.Places.{placeOffset, unitAt}
 use Rattle.sender_view.specs.View.{framesOf}
 use Rattle.sender_frames.specs.Frames.{handedWriting}
-use Rattle.sender_frames.specs.Limits.{smallestStore}
 
 -- the octets of a frame, none where there is none
 abbrev pub octetsIn : Option (List ℕ) → List ℕ
@@ -57,11 +55,11 @@ module _ (spacecraft channel : ℕ) (s : spacecraft ≤ largestSpacecraft) (c : 
         (omega (arith, leb-false (length (frameOf spacecraft channel k u)) lent e, long))
 
 -- a unit of the store, at a place that holds one
-pub unit-fits : (lengths store : List ℕ) (i : ℕ) → i ≤ largestK → 1 ≤ getD lengths i 0 → getD lengths i 0 ≤ largestUnit → smallestStore ≤ length store
+pub unit-fits : (lengths store : List ℕ) (i : ℕ) → 1 ≤ getD lengths i 0 → getD lengths i 0 ≤ largestUnit → placeOffset (i + 1) ≤ length store
     → Fits (unitAt lengths i store)
-unit-fits lengths store i p a b r =
+unit-fits lengths store i a b r =
     let l : length (drop (largestUnit * i) store) ≡ length store - largestUnit * i = length-drop (largestUnit * i) store in
-    let t : length (unitAt lengths i store) ≡ getD lengths i 0 = length-take-le (getD lengths i 0) (drop (largestUnit * i) store) (omega (arith, l, b, p, r)) in
+    let t : length (unitAt lengths i store) ≡ getD lengths i 0 = length-take-le (getD lengths i 0) (drop (largestUnit * i) store) (omega (arith, l, b, r)) in
     (omega (arith, t, a), omega (arith, t, b))
 
 -- the frame handed down: u is its unit, o that of a BD request

@@ -24,6 +24,7 @@ use Rattle.sender_values.specs.declared.Work.{Work}
 use Rattle.sender_values.specs.Start.{begun}
 use Rattle.sender_table.specs.Rows.{rowNumbered, inMain}
 use Rattle.fop.specs.declared.Lower.{Lower}
+use Rattle.fop.specs.Store.{storeNeed}
 use Rattle.sender_events.specs.Events.{wordNumber, directiveNumber, lowerNumber, adNumber, bdNumber}
 use Rattle.sender_frames.specs.Limits.{needOf}
 use Rattle.sender_frames.specs.Frames.{requestRefusal, unitBefore, mustBeUnit, unitOffered}
@@ -31,7 +32,7 @@ use Rattle.sender_frames.proofs.Written.{Writes}
 use Rattle.sender.specs.declared.Answer.{Answer}
 use Rattle.sender.specs.declared.Event.{Event}
 use Rattle.sender.specs.Answers.{Step, refusing, refusedStep, concluded}
-use Rattle.sender.specs.Events.{storeServed, lengthsServed, servedBy, served, added, lengthsOffered, offeredBy, bypassedBy, directiveOf, ticked, tickNumber, tickOf, lowerLayerOf, wordBy, controlWordOf, eventOf}
+use Rattle.sender.specs.Events.{storeServed, lengthsServed, servedBy, served, added, lengthsOffered, offeredBy, bypassedBy, windowOf, directiveOf, ticked, tickNumber, tickOf, lowerLayerOf, wordBy, controlWordOf, eventOf}
 use Rattle.sender.proofs.Steps.{Told, check, no-check, Meets, handing, holds, fails, same-step, refuses, stored-same, step-done, step-refused}
 
 -- an event that offers no unit: the frame of the unit that stood behind the units confirmed
@@ -51,13 +52,14 @@ module _ (event : ℕ) (s : SenderState) (w : Work) (store output : List ℕ) (x
   served-refused = step-refused event s w (lengthsServed s w) x a (unitBefore s w store) out (storeServed s w store) store output written measured
 
 -- by the event's row
-module _ (event n : ℕ) (s g : SenderState) (store output : List ℕ) {a : Answer} where
-  pub served-short : {t : Bool} → t ≡ leb (needOf s) (length store) → t ≡ false → a ≡ refusing 11 s → Meets a store output (served event n s g store output)
+module _ (k event n : ℕ) (s g : SenderState) (store output : List ℕ) {a : Answer} where
+  pub served-short : {t : Bool} → t ≡ leb (storeNeed k (s .queues .sent)) (length store) → t ≡ false → a ≡ refusing 11 s
+      → Meets a store output (served k event n s g store output)
   unfolding served
   served-short h t e = refuses 11 s (fails _ _ _ (sym h ∙ t)) e
 
-  pub served-row : {t : Bool} {new out : List ℕ} {b w : Work} → t ≡ leb (needOf s) (length store) → t ≡ true → b ≡ begun g → w ≡ rowNumbered event n b
-      → Meets a new out (servedBy event s w store output) → Meets a new out (served event n s g store output)
+  pub served-row : {t : Bool} {new out : List ℕ} {b w : Work} → t ≡ leb (storeNeed k (s .queues .sent)) (length store) → t ≡ true → b ≡ begun g
+      → w ≡ rowNumbered event n b → Meets a new out (servedBy event s w store output) → Meets a new out (served k event n s g store output)
   unfolding served
   served-row h t p q m =
       same-step
@@ -70,22 +72,22 @@ module _ (number value : ℕ) (s : SenderState) (store output : List ℕ) {a : A
   unfolding directiveOf
   directive-invalid h e = refuses 12 s (yes _ _ _ (eq-eqb _ 40 (sym of-event ∙ h))) e
 
-  pub directive-served : (event ≡ 40 → ⊥) → {new out : List ℕ} → Meets a new out (served event value s s store output)
-      → Meets a new out (directiveOf number value s store output)
+  pub directive-served : (event ≡ 40 → ⊥) → {k : ℕ} → k ≡ windowOf number value s → {new out : List ℕ}
+      → Meets a new out (served k event value s s store output) → Meets a new out (directiveOf number value s store output)
   unfolding directiveOf
-  directive-served h m =
-      same-step (no _ _ _ (ne-eqb _ 40 (λ e. h (of-event ∙ e))) ∙ ap (λ (k : ℕ). served k value s s store output) (sym of-event)) m
+  directive-served h q m =
+      same-step (no _ _ _ (ne-eqb _ 40 (λ e. h (of-event ∙ e))) ∙ ap₂ (λ (j k : ℕ). served j k value s s store output) (sym q) (sym of-event)) m
 
 -- a tick, and an answer of the lower layer
 pub tick-served : (s : SenderState) (store output : List ℕ) {g : SenderState} {a : Answer} {event : ℕ} {new out : List ℕ} → event ≡ tickNumber s → g ≡ ticked s
-    → Meets a new out (served event 0 s g store output) → Meets a new out (tickOf s store output)
+    → Meets a new out (served (s .settings .k) event 0 s g store output) → Meets a new out (tickOf s store output)
 unfolding tickOf
-tick-served s store output p q m = same-step (sym (ap₂ (λ (k : ℕ) (x : SenderState). served k 0 s x store output) p q)) m
+tick-served s store output p q m = same-step (sym (ap₂ (λ (k : ℕ) (x : SenderState). served (s .settings .k) k 0 s x store output) p q)) m
 
 pub lower-served : (l : Lower) (s : SenderState) (store output : List ℕ) {a : Answer} {event : ℕ} {new out : List ℕ} → event ≡ lowerNumber l
-    → Meets a new out (served event 0 s s store output) → Meets a new out (lowerLayerOf l s store output)
+    → Meets a new out (served (s .settings .k) event 0 s s store output) → Meets a new out (lowerLayerOf l s store output)
 unfolding lowerLayerOf
-lower-served l s store output p m = same-step (sym (ap (λ (k : ℕ). served k 0 s s store output) p)) m
+lower-served l s store output p m = same-step (sym (ap (λ (k : ℕ). served (s .settings .k) k 0 s s store output) p)) m
 
 -- a control word, by its reading
 module _ (octets : List ℕ) (s : SenderState) (store output : List ℕ) {a : Answer} {reading : WordReading}
@@ -95,8 +97,8 @@ module _ (octets : List ℕ) (s : SenderState) (store output : List ℕ) {a : An
   reading-told p m = same-step (ap (λ (x : WordReading). wordBy x s store output) (sym of-reading ∙ p)) m
 
   pub word-served : {r : ReceivedWord} {event : ℕ} → reading ≡ Word r → event ≡ wordNumber (r .word) s
-      → Meets a new out (served event (r .word .report) s s store output) → Meets a new out (controlWordOf octets s store output)
-  word-served {r} p q m = reading-told p (same-step (ap (λ (k : ℕ). served k (r .word .report) s s store output) (sym q)) m)
+      → Meets a new out (served (s .settings .k) event (r .word .report) s s store output) → Meets a new out (controlWordOf octets s store output)
+  word-served {r} p q m = reading-told p (same-step (ap (λ (k : ℕ). served (s .settings .k) k (r .word .report) s s store output) (sym q)) m)
 
 -- a unit requested: its length, then the store, then what the row gives
 abbrev pub Request : Type 0

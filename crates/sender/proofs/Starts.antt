@@ -7,7 +7,7 @@ use Rattle.base.proofs.Tests.{yes, no}
 use Rattle.sender_values.specs.declared.Settings.{Settings}
 use Rattle.sender_values.specs.declared.SenderState.{SenderState}
 use Rattle.sender_values.specs.Start.{startOf}
-use Rattle.store.specs.Places.{storeNeed}
+use Rattle.fop.specs.Store.{storeNeed}
 use Rattle.sender_state.specs.State.{settingsHold, wellFormed}
 use Rattle.sender.specs.declared.Start.{Start}
 use Rattle.sender.specs.Start.{refusedStart, startingOf, restoredOf}

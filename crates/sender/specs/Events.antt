@@ -18,6 +18,7 @@ use Rattle.sender_values.specs.Actions.{unitsHeld}
 use Rattle.sender_values.specs.Start.{begun}
 use Rattle.sender_table.specs.Rows.{rowNumbered, inMain}
 use Rattle.fop.specs.declared.Lower.{Lower}
+use Rattle.fop.specs.Store.{storeNeed}
 use Rattle.sender_events.specs.Events.{wordNumber, directiveNumber, expiryNumber, adNumber, bdNumber, lowerNumber}
 use Rattle.sender_frames.specs.Limits.{needOf}
 use Rattle.sender_frames.specs.Frames.{handedWriting, unitBefore, unitOffered, mustBeUnit}
@@ -39,10 +40,11 @@ unfoldable pub servedBy : ℕ → SenderState → Work → List ℕ → List ℕ
 servedBy event s w store output =
     stepBy event s w (lengthsServed s w) (handedWriting (s .settings) (w .told .handed) (unitBefore s w store) (length output)) (storeServed s w store) store output
 
--- the same by the event's row, with the value n that it brings; 11 where the lent store is too short
-unfoldable pub served : ℕ → ℕ → SenderState → SenderState → List ℕ → List ℕ → Step
-served event n s g store output =
-    must (leb (needOf s) (length store)) (refusedStep 11 s store output) (servedBy event s (rowNumbered event n (begun g)) store output)
+-- the same by the event's row, with the value n that it brings; 11 where the lent store is too short for the window k and the units sent
+unfoldable pub served : ℕ → ℕ → ℕ → SenderState → SenderState → List ℕ → List ℕ → Step
+served k event n s g store output =
+    must (leb (storeNeed k (s .queues .sent)) (length store)) (refusedStep 11 s store output)
+    (servedBy event s (rowNumbered event n (begun g)) store output)
 
 -- the unit offered is added to the Wait_Queue: E19 in S1 to S3
 abbrev pub added : ℕ → SenderState → Bool
@@ -77,10 +79,14 @@ requestBdOf s o store output =
     (must (leb (needOf s) (length store)) (refusedStep 11 s store output)
     (bypassedBy (bdNumber s) s (rowNumbered (bdNumber s) 0 (begun s)) o store output))
 
+-- the window that the store is judged by: K, "at Set K" (directive 8) "the new K"
+abbrev pub windowOf : ℕ → ℕ → SenderState → ℕ
+windowOf d v s = pick (eqb d 8) v (s .settings .k)
+
 -- a directive by its number d and value v: 12 for the invalid directive, E40
 unfoldable pub directiveOf : ℕ → ℕ → SenderState → List ℕ → List ℕ → Step
 directiveOf d v s store output =
-    pick (eqb (directiveNumber d v s) 40) (refusedStep 12 s store output) (served (directiveNumber d v s) v s s store output)
+    pick (eqb (directiveNumber d v s) 40) (refusedStep 12 s store output) (served (windowOf d v s) (directiveNumber d v s) v s s store output)
 
 -- "A tick lowers a running timer by one"
 abbrev pub ticked : SenderState → SenderState
@@ -98,16 +104,16 @@ tickNumber s = pick (eqb (s .variables .timer) 1) (expiryNumber (ticked s)) 0
 
 -- a tick
 unfoldable pub tickOf : SenderState → List ℕ → List ℕ → Step
-tickOf s store output = served (tickNumber s) 0 s (ticked s) store output
+tickOf s store output = served (s .settings .k) (tickNumber s) 0 s (ticked s) store output
 
 -- an answer of the lower layer
 unfoldable pub lowerLayerOf : Lower → SenderState → List ℕ → List ℕ → Step
-lowerLayerOf l s store output = served (lowerNumber l) 0 s s store output
+lowerLayerOf l s store output = served (s .settings .k) (lowerNumber l) 0 s s store output
 
 -- a control word as it was read: 10 where it is not of four octets, 7 where it is another channel's; an invalid one is E15
 abbrev pub wordBy : WordReading → SenderState → List ℕ → List ℕ → Step
-wordBy (reading.Word r) s store output = served (wordNumber (r .word) s) (r .word .report) s s store output
-wordBy reading.Invalid s store output = served 15 0 s s store output
+wordBy (reading.Word r) s store output = served (s .settings .k) (wordNumber (r .word) s) (r .word .report) s s store output
+wordBy reading.Invalid s store output = served (s .settings .k) 15 0 s s store output
 wordBy reading.Address s store output = refusedStep 7 s store output
 wordBy reading.Length s store output = refusedStep 10 s store output
 

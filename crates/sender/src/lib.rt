@@ -45,7 +45,7 @@ ghost use Rattle.base.specs.Outcome.{answer, after};
 ghost use Rattle.sender_frames.specs.Frames.{handedWriting};
 ghost use Rattle.sender.specs.Answers.{concluded};
 ghost use Rattle.sender.specs.Start.{refusedStart, startingOf, restoredOf};
-ghost use Rattle.sender.specs.Events.{servedBy, served, added, lengthsOffered, offeredBy, ticked, tickNumber, requestAdOf, requestBdOf, directiveOf, tickOf, lowerLayerOf, controlWordOf, eventOf};
+ghost use Rattle.sender.specs.Events.{servedBy, served, added, lengthsOffered, offeredBy, ticked, tickNumber, requestAdOf, requestBdOf, windowOf, directiveOf, tickOf, lowerLayerOf, controlWordOf, eventOf};
 
 // The sender's state. No other crate can write one: a start gives one, and each answer the next.
 pub struct Sender {
@@ -121,25 +121,36 @@ fn serve_work(
     answer
 }
 
-// The same by the event's row, of the state `by`, with the value that the event brings.
+// The same by the event's row, of the state `by`, with the value that the event brings; the store is judged by the window k.
 fn serve(
     sender: sender_values::SenderState,
     by: sender_values::SenderState,
+    k: u16,
     event: u8,
     value: u16,
     store: &mut [u8],
     output: &mut [u8],
 ) -> Answer
-    ensures answer { λ r. ⌜ r ≡ served event value sender by (now (store .entry)) (now (output .entry)) .answer ⌝ }
-    ensures store { λ r. ⌜ now (store .exit) ≡ served event value sender by (now (store .entry)) (now (output .entry)) .store ⌝ }
-    ensures output { λ r. ⌜ now (output .exit) ≡ served event value sender by (now (store .entry)) (now (output .entry)) .output ⌝ }
+    ensures answer { λ r. ⌜ r ≡ served k event value sender by (now (store .entry)) (now (output .entry)) .answer ⌝ }
+    ensures store { λ r. ⌜ now (store .exit) ≡ served k event value sender by (now (store .entry)) (now (output .entry)) .store ⌝ }
+    ensures output { λ r. ⌜ now (output .exit) ≡ served k event value sender by (now (store .entry)) (now (output .entry)) .output ⌝ }
 {
-    let suffices = suffices(store, sender.settings.k, sender.queues.sent);
+    let suffices = suffices(store, k, sender.queues.sent);
     if !suffices {
         return refused(sender, 11);
     }
     let work = row(begin(by), event, value);
     serve_work(sender, event, work, store, output)
+}
+
+// The window that the store is judged by at a directive: K, at Set K the new K.
+fn window_of(sender: sender_values::SenderState, number: u8, value: u16) -> u16
+    ensures { λ r. ⌜ r ≡ windowOf number value sender ⌝ }
+{
+    if number == 8 {
+        return value;
+    }
+    sender.settings.k as u16
 }
 
 // Whether the unit offered is added to the wait queue: E19 in S1 to S3.
@@ -296,7 +307,7 @@ impl Sender {
         if !settings_hold(settings) {
             return refused_start(12);
         }
-        let suffices = suffices(store, settings.k, 0);
+        let suffices = suffices(store, settings.k as u16, 0);
         if !suffices {
             return refused_start(11);
         }
@@ -352,7 +363,8 @@ impl Sender {
         if event == 40 {
             return refused(sender, 12);
         }
-        serve(sender, sender, event, value, store, output)
+        let k = window_of(sender, number, value);
+        serve(sender, sender, k, event, value, store, output)
     }
 
     // A tick of the timer.
@@ -364,7 +376,15 @@ impl Sender {
         let sender = self.fop;
         let event = tick_event(sender);
         let lowered = lower_timer(sender);
-        serve(sender, lowered, event, 0, store, output)
+        serve(
+            sender,
+            lowered,
+            sender.settings.k as u16,
+            event,
+            0,
+            store,
+            output,
+        )
     }
 
     // An answer of the lower layer.
@@ -375,7 +395,15 @@ impl Sender {
     {
         let sender = self.fop;
         let event = lower_event(answer);
-        serve(sender, sender, event, 0, store, output)
+        serve(
+            sender,
+            sender,
+            sender.settings.k as u16,
+            event,
+            0,
+            store,
+            output,
+        )
     }
 
     // A control word, any octets; 10 where it is not of four octets, 7 where it is another channel's.
@@ -385,14 +413,15 @@ impl Sender {
         ensures output { λ r. ⌜ now (output .exit) ≡ controlWordOf (now (octets .entry)) (self .fop) (now (store .entry)) (now (output .entry)) .output ⌝ }
     {
         let sender = self.fop;
+        let k = sender.settings.k as u16;
         let reading = Clcw::read(octets, sender.settings.channel);
         match reading {
             WordReading::Word(received) => {
                 let word = received.word;
                 let event = word_event(sender, word);
-                serve(sender, sender, event, word.report as u16, store, output)
+                serve(sender, sender, k, event, word.report as u16, store, output)
             }
-            WordReading::Invalid => serve(sender, sender, 15, 0, store, output),
+            WordReading::Invalid => serve(sender, sender, k, 15, 0, store, output),
             WordReading::Address => refused(sender, 7),
             WordReading::Length => refused(sender, 10),
         }

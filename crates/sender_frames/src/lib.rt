@@ -36,7 +36,7 @@ pub fn request_refusal(sender: SenderState, unit: &[u8], store: &[u8]) -> u8
     if LARGEST_UNIT < n {
         return 10;
     }
-    let suffices = suffices(store, sender.settings.k, sender.queues.sent);
+    let suffices = suffices(store, sender.settings.k as u16, sender.queues.sent);
     if suffices {
         return 0;
     }

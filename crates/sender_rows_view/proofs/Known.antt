@@ -69,8 +69,9 @@ LengthsIs x p count lengths =
     let s = x .sender in
     Left p count (s .lengths) (λ k. slid k (s .lengths)) (set (s .lengths) (s .queues .sent) (length (x .octets))) lengths
 
--- the settings
-pub record Settled (own : Own) (g : Settings) : Type 0 where
+-- the settings; k is the sender's K before the event, which no event changes (Set K is done to a sender that has the new K)
+pub record Settled (own : Own) (k : ℕ) (g : Settings) : Type 0 where
+  pub same-window : g .k ≡ k
   pub window-least : 1 ≤ g .k
   pub in-window : g .k ≤ largestK
   pub clock-least : 1 ≤ g .«t1_initial»
@@ -113,7 +114,7 @@ NoMore x p count sent waiting = count + unitsHeld sent waiting ≤ most x p
 -- what is known all along
 pub record Ended (x : Case) (p : Stored) (z : Idle) (store : List ℕ) (c d : List Fdu) (g : Settings) (timer count suspend sent : ℕ)
     (waiting : Bool) (bc : Control) (lengths : List ℕ) (down : Handed) (confirmed denied : Run) : Type 0 where
-  pub settled : Settled (x .own) g
+  pub settled : Settled (x .own) (x .sender .settings .k) g
   pub counted : Counted count
   pub filled : (i : ℕ) → i < unitsHeld sent waiting → 1 ≤ getD lengths i 0
   pub no-more : NoMore x p (confirmed .count) sent waiting
@@ -164,7 +165,7 @@ pub record Half (x : Case) (p : Stored) (z : Idle) (u : Bool) (l : ℕ) (w : Wor
   pub is : m ≡ seen x c d w lengths store
   pub octet : x .value < 256
   pub numbered : w .variables .vs ≡ x .value % 256
-  pub formed : Formed (x .value % 256) (x .value % 256) (w .queues .sent) (w .queues .marked) lengths store
+  pub formed : Formed (w .settings .k) (x .value % 256) (x .value % 256) (w .queues .sent) (w .queues .marked) lengths store
   pub ended : EndedOf x p z lengths store c d w
   pub going : GoingOf false u l d w
 
@@ -224,7 +225,7 @@ module _ {z : Idle} {timer sent : ℕ} {waiting : Bool} {bc : Control} {suspend 
 -- other settings; another Transmission_Count, timer or type-BC frame
 module _ {x : Case} {p : Stored} {z : Idle} {store : List ℕ} {c d : List Fdu} {g : Settings} {timer count suspend sent : ℕ} {waiting : Bool} {bc : Control} {lengths : List ℕ}
     {down : Handed} {confirmed denied : Run} (e : Ended x p z store c d g timer count suspend sent waiting bc lengths down confirmed denied) where
-  pub resettled : {g' : Settings} → Settled (x .own) g' → Ended x p z store c d g' timer count suspend sent waiting bc lengths down confirmed denied
+  pub resettled : {g' : Settings} → Settled (x .own) (x .sender .settings .k) g' → Ended x p z store c d g' timer count suspend sent waiting bc lengths down confirmed denied
   resettled s = record { settled = s; counted = e .counted; filled = e .filled; no-more = e .no-more; runs = e .runs; idle = e .idle; below = e .below }
 
   pub idle-again : {z' : Idle} {t n s : ℕ} {k : Control} → Counted n → IdleIs z' t sent waiting k s
@@ -232,8 +233,9 @@ module _ {x : Case} {p : Stored} {z : Idle} {store : List ℕ} {c d : List Fdu} 
   idle-again n q = record { settled = e .settled; counted = n; filled = e .filled; no-more = e .no-more; runs = e .runs; idle = q; below = e .below }
 
 -- the settings and the count of a well-formed sender
-pub good-settled : {own : Own} {s : SenderState} {store : List ℕ} → Good own s store → Settled own (s .settings)
+pub good-settled : {own : Own} {s : SenderState} {store : List ℕ} → Good own s store → Settled own (s .settings .k) (s .settings)
 good-settled g = record {
+  same-window = refl;
   window-least = g .window-least;
   in-window = g .window;
   clock-least = g .clock-least;

@@ -10,7 +10,7 @@ use Rattle.base.specs.Limits.{largestUnit}
 use Rattle.base.specs.Modulo.{offset}
 use Rattle.store.specs.Places.{unitPut, without}
 use Rattle.store.specs.Slid.{slid}
-use Rattle.fop.specs.Limits.{largestK, largestTransmissionLimit, largestTimeoutType}
+use Rattle.fop.specs.Limits.{largestTransmissionLimit, largestTimeoutType}
 use Rattle.fop.specs.Units.{Own}
 use Rattle.fop.specs.Table.{FopEvent, E1, E2, E3, E4, E5, E6, E7, E8, E9, E10, E11, E12, E13, E14, E15, E16, E17, E18, E19, E20, E21, E22, E23, E24, E25, E26, E27, E28, E29, E30, E31, E32, E33, E34}
 use Rattle.fop.specs.Table.{E35, E36, E37, E38, E39, E40, E41, E42, E43, E44, E45, E46, E101, E102, E103, E104}
@@ -35,7 +35,7 @@ pub data Brings : Type 0 where
   again : Brings
   -- a unit for the empty Wait_Queue
   offering : Brings
-  -- V*, K, T1_Initial, Transmission_Limit, Timeout_Type within their limits
+  -- V*, T1_Initial, Transmission_Limit, Timeout_Type within their limits; K, of a sender that has it already
   numbering widening clocking limiting timing : Brings
   -- the timer has expired, with Timeout_Type 1; the same with Transmission_Count < Transmission_Limit
   expiring expiringAgain : Brings
@@ -102,7 +102,7 @@ Needed acknowledging o n s = (n < 256) × (offset n (s .variables .nnr) ≤ offs
 Needed again o n s = s .variables .«transmission_count» < s .settings .«transmission_limit»
 Needed offering o n s = (1 ≤ length o) × (length o ≤ largestUnit)
 Needed numbering o n s = n < 256
-Needed widening o n s = (1 ≤ n) × (n ≤ largestK)
+Needed widening o n s = n ≡ s .settings .k
 Needed clocking o n s = 1 ≤ n
 Needed limiting o n s = (1 ≤ n) × (n ≤ largestTransmissionLimit)
 Needed timing o n s = n ≤ largestTimeoutType

@@ -5,7 +5,7 @@ use mathlib.Core.Path.{_≡_, refl, sym, ap, subst, _∙_}
 use mathlib.Core.Bool.{Bool, true, false}
 use mathlib.Core.List.{List}
 use native.Mathlib.Omega.{arith}
-use Rattle.fop.specs.Limits.{largestK, largestTransmissionLimit, largestTimeoutType}
+use Rattle.fop.specs.Limits.{largestTransmissionLimit, largestTimeoutType}
 use Rattle.fop.specs.Units.{Fdu}
 use Rattle.fop.specs.Table as table
 use Rattle.fop.specs.Table.{Action}
@@ -79,16 +79,18 @@ module _ (x : Case) (w : Work) (m : machine.Work) {p : Stored} {f : Bool} {z : I
       (idle-again e (e .counted) (suspends (starts (e .idle)) 0)) (h .going)
 
   -- The settings, within their limits.
-  pub set-k : (1 ≤ x .value) × (x .value ≤ largestK) → Open x p f z u l (act.setK (x .value % 256) w) (perform table.SetK m)
+  pub set-k : x .value ≡ x .sender .settings .k → Open x p f z u l (act.setK (x .value % 256) w) (perform table.SetK m)
   unfolding act.setK withSettings
   set-k n =
       let s = e .settled in
+      let octet : x .value % 256 ≡ x .value = octet-is (x .value) (omega (arith, n, s .same-window, s .in-window)) in
       goes-on h table.SetK (act.setK (x .value % 256) w) (h .d)
-      (values.set-k _ _ _ _ _ w (h .lengths) (h .store) ∙ ap (λ (k : ℕ). seen x (h .c) (h .d) (act.setK k w) (h .lengths) (h .store)) (sym (octet-is (x .value) (omega (arith, n .1)))))
-      (h .formed)
+      (values.set-k _ _ _ _ _ w (h .lengths) (h .store) ∙ ap (λ (k : ℕ). seen x (h .c) (h .d) (act.setK k w) (h .lengths) (h .store)) (sym octet))
+      (well.set-k w (h .lengths) (h .store) (h .formed) (x .value % 256) (s .same-window ∙ sym n ∙ sym octet))
       (resettled e (record {
-        window-least = omega (arith, n .0, n .1);
-        in-window = omega (arith, n .1);
+        same-window = octet ∙ n;
+        window-least = omega (arith, octet, n, s .same-window, s .window-least);
+        in-window = omega (arith, octet, n, s .same-window, s .in-window);
         clock-least = s .clock-least;
         limit-least = s .limit-least;
         in-limit = s .in-limit;
@@ -103,6 +105,7 @@ module _ (x : Case) (w : Work) (m : machine.Work) {p : Stored} {f : Bool} {z : I
       let s = e .settled in
       goes-on h table.SetT1Initial (act.setT1Initial (x .value) w) (h .d) (values.set-t1-initial _ _ _ _ _ w (h .lengths) (h .store)) (h .formed)
       (resettled e (record {
+        same-window = s .same-window;
         window-least = s .window-least;
         in-window = s .in-window;
         clock-least = n;
@@ -123,6 +126,7 @@ module _ (x : Case) (w : Work) (m : machine.Work) {p : Stored} {f : Bool} {z : I
       ∙ ap (λ (k : ℕ). seen x (h .c) (h .d) (act.setTransmissionLimit k w) (h .lengths) (h .store)) (sym (octet-is (x .value) (omega (arith, n .1)))))
       (h .formed)
       (resettled e (record {
+        same-window = s .same-window;
         window-least = s .window-least;
         in-window = s .in-window;
         clock-least = s .clock-least;
@@ -142,6 +146,7 @@ module _ (x : Case) (w : Work) (m : machine.Work) {p : Stored} {f : Bool} {z : I
       ∙ ap (λ (k : ℕ). seen x (h .c) (h .d) (act.setTimeoutType k w) (h .lengths) (h .store)) (sym (octet-is (x .value) (omega (arith, n)))))
       (h .formed)
       (resettled e (record {
+        same-window = s .same-window;
         window-least = s .window-least;
         in-window = s .in-window;
         clock-least = s .clock-least;
@@ -216,7 +221,7 @@ set-nnr x w m h = record {
       ap (perform table.SetNnr) (h .is) ∙ values.set-nnr _ _ _ _ _ w (h .lengths) (h .store)
       ∙ ap (λ (k : ℕ). seen x (h .c) (h .d) (act.setNnr k w) (h .lengths) (h .store)) (sym (octet-is (x .value) (h .octet)));
   formed =
-      subst (λ (k : ℕ). Formed k (x .value % 256) (w .queues .sent) (w .queues .marked) (h .lengths) (h .store)) (sym (h .numbered)) (h .formed);
+      subst (λ (k : ℕ). Formed (w .settings .k) k (x .value % 256) (w .queues .sent) (w .queues .marked) (h .lengths) (h .store)) (sym (h .numbered)) (h .formed);
   ended = h .ended;
   going = h .going;
 }

@@ -1,6 +1,6 @@
 -- Every action keeps the work well formed. Most leave V(S), NN(R), the counts and the lengths alone; the others change them within their
 -- bounds.
-use mathlib.Core.Path.{_≡_, refl, _∙_}
+use mathlib.Core.Path.{_≡_, refl, subst, _∙_}
 use mathlib.Core.Bool.{Bool, true, false}
 use mathlib.Core.List.{List}
 use Prim.Native.Nat.{ℕ, _+_, _≤_, _<_}
@@ -15,6 +15,7 @@ use Rattle.base.specs.Modulo.{advanced, offset}
 use Rattle.store.specs.Slid.{slid}
 use Rattle.store.specs.Places.{unitPut, without}
 use Rattle.store.proofs.Parts.{slid-length}
+use Rattle.store.proofs.Need.{need-fewer, need-window}
 use Rattle.store.proofs.Laws.{put-length, without-length, slid-short, set-short}
 use Rattle.fop.specs.Limits.{largestK}
 use Rattle.fop.specs.declared.Alert.{Alert}
@@ -65,9 +66,10 @@ module _ (w : Work) (lengths store : List ℕ) (well : WellFormed w lengths stor
   unfolding act.resumed act.setSuspendState act.startTimer withVariables
   resume = well
 
-  pub set-k : (n : ℕ) → WellFormed (act.setK n w) lengths store
+  -- K set to the one that it is
+  pub set-k : (n : ℕ) → w .settings .k ≡ n → WellFormed (act.setK n w) lengths store
   unfolding act.setK withSettings
-  set-k n = well
+  set-k n e = subst (λ (k : ℕ). Formed k (w .variables .vs) (w .variables .nnr) (w .queues .sent) (w .queues .marked) lengths store) e well
 
   pub set-t1-initial : (n : ℕ) → WellFormed (act.setT1Initial n w) lengths store
   unfolding act.setT1Initial withSettings
@@ -132,7 +134,7 @@ module _ (w : Work) (lengths store : List ℕ) (well : WellFormed w lengths stor
 
   -- Other counts of units, within their bounds.
   counted : (sent marked : ℕ) → sent ≤ w .queues .sent → marked ≤ sent
-      → Formed (w .variables .vs) (w .variables .nnr) sent marked lengths store
+      → Formed (w .settings .k) (w .variables .vs) (w .variables .nnr) sent marked lengths store
   counted sent marked few last = record {
     vs-octet = well .vs-octet;
     nnr-octet = well .nnr-octet;
@@ -141,7 +143,7 @@ module _ (w : Work) (lengths store : List ℕ) (well : WellFormed w lengths stor
     last = last;
     all-places = well .all-places;
     units = well .units;
-    room = well .room;
+    room = le-trans (need-fewer (w .settings .k) sent (w .queues .sent) few) (well .room);
   }
 
   -- The marks.
@@ -171,7 +173,8 @@ module _ (w : Work) (lengths store : List ℕ) (well : WellFormed w lengths stor
   transmit-ad : w .settings .k ≤ largestK → act.inWindow w ≡ true → WellFormed (act.transmitAdFrame (act.respond AcceptAdUnit w)) lengths store
   unfolding act.transmitAdFrame act.inWindow act.respond act.startTimer act.handDown withVariables withQueues withTold
   transmit-ad k i =
-      let a : offset (w .variables .vs) (w .variables .nnr) < largestK = omega (arith, ltb-true (offset (w .variables .vs) (w .variables .nnr)) (w .settings .k) i, k) in
+      let inside : offset (w .variables .vs) (w .variables .nnr) < w .settings .k = ltb-true (offset (w .variables .vs) (w .variables .nnr)) (w .settings .k) i in
+      let a : offset (w .variables .vs) (w .variables .nnr) < largestK = omega (arith, inside, k) in
       let b : offset (advanced (w .variables .vs) 1) (w .variables .nnr) ≡ offset (w .variables .vs) (w .variables .nnr) + 1 =
       next-offset (w .variables .vs) (w .variables .nnr) (well .vs-octet) (well .nnr-octet) a in
       let c : advanced (w .queues .sent) 1 ≡ w .queues .sent + 1 = next-count (w .queues .sent) (well .sent-most) in
@@ -183,7 +186,7 @@ module _ (w : Work) (lengths store : List ℕ) (well : WellFormed w lengths stor
         last = rw c (omega (arith, well .last));
         all-places = well .all-places;
         units = well .units;
-        room = well .room;
+        room = le-trans (need-window (w .settings .k) (w .queues .sent) (advanced (w .queues .sent) 1) (rw c (omega (arith, inside, well .outstanding)))) (well .room);
       }
 
   pub look-for-fdu : w .settings .k ≤ largestK → WellFormed (act.lookForFdu w) lengths store
@@ -198,7 +201,7 @@ module _ (w : Work) (lengths store : List ℕ) (well : WellFormed w lengths stor
     by true false x false r g = well
 
   -- No unit.
-  empty : Formed (w .variables .vs) (w .variables .nnr) 0 0 lengths store
+  empty : Formed (w .settings .k) (w .variables .vs) (w .variables .nnr) 0 0 lengths store
   empty = counted 0 0 (omega arith) (omega arith)
 
   sent-purged : (k : Control) → WellFormed (act.denyControl k (act.emptied w)) lengths store
@@ -262,7 +265,8 @@ module _ (w : Work) (lengths store : List ℕ) (well : WellFormed w lengths stor
     last = least-second (w .queues .marked) (staying n w);
     all-places = slid-length gone lengths ∙ well .all-places;
     units = slid-short gone lengths (well .units);
-    room = rw (without-length lengths gone store kept) (well .room);
+    room = rw (without-length lengths gone store kept)
+        (le-trans (need-fewer (w .settings .k) _ (w .queues .sent) (least-first (w .queues .sent) (offset (w .variables .vs) n))) (well .room));
   }
 
   -- Add to Wait_Queue.

@@ -12,6 +12,7 @@ use lib.ListN.{length, take, drop}
 use Rattle.base.specs.Choice.{pick}
 use Rattle.base.specs.Modulo.{advanced, offset}
 use Rattle.store.specs.Slid.{slid}
+use Rattle.store.proofs.Need.{larger-second}
 use Rattle.store.specs.Places.{placeOffset, unitAt, without}
 use Rattle.store.proofs.Laws.{without-unit}
 use Rattle.fop.specs.Units.{Fdu, Frame}
@@ -81,7 +82,7 @@ module _ (e : Option FopEvent) (o : List ℕ) (n : ℕ) (d : List Fdu) (w : Work
   kept-few = omega (arith, well .all-places, well .sent-most, held-most (w .queues .sent) (w .queues .waiting))
 
   kept-room : placeOffset (gone + kept) ≤ length store
-  kept-room = omega (arith, well .room, well .all-places, kept-few)
+  kept-room = omega (arith, well .room, larger-second (w .settings .k) (w .queues .sent), held-most (w .queues .sent) (w .queues .waiting))
 
   rest-kept : rest ≤ kept
   rest-kept = omega (arith, rest-few, held-least (w .queues .sent) (w .queues .waiting))

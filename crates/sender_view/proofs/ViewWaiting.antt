@@ -9,6 +9,7 @@ use lib.Dec.{leb}
 use lib.ListN.{length, getD, set}
 use Rattle.base.specs.Limits.{largestUnit}
 use Rattle.base.specs.Modulo.{advanced, offset}
+use Rattle.store.proofs.Need.{larger-second}
 use Rattle.store.specs.Places.{placeOffset, unitPut}
 use Rattle.store.proofs.Laws.{put-there, put-before}
 use Rattle.fop.specs.Units.{Fdu, Frame}
@@ -49,7 +50,7 @@ module _ (e : Option FopEvent) (o : List ℕ) (n : ℕ) (c d : List Fdu) (w : Wo
       let q = w .queues in
       let v = w .variables in
       let few : q .sent < length lengths = omega (arith, well .sent-most, well .all-places) in
-      let room : placeOffset (q .sent) + length o ≤ length store = omega (arith, well .room, well .sent-most, legal) in
+      let room : placeOffset (q .sent) + length o ≤ length store = omega (arith, well .room, larger-second (w .settings .k) (q .sent), legal) in
       let more = set lengths (q .sent) (length o) in
       let after = unitPut (q .sent) o store in
       let F : List Frame → List Entry → List ℕ → machine.Work = λ fr xs u.

@@ -9,8 +9,9 @@ use lib.ListN.{length, take, getD}
 use Rattle.base.specs.Choice.{pick}
 use Rattle.base.specs.Limits.{largestUnit}
 use Rattle.base.specs.Modulo.{advanced, offset}
-use Rattle.store.specs.Places.{places, placeOffset, unitAt}
+use Rattle.store.specs.Places.{places, unitAt}
 use Rattle.fop.specs.Limits.{largestK}
+use Rattle.fop.specs.Store.{storeNeed}
 use Rattle.fop.specs.Units.{Fdu, Frame, AD, BD, Unlock, SetVR}
 use Rattle.fop.specs.Table as table
 use Rattle.fop.specs.Variables as machine
@@ -101,10 +102,10 @@ view e o n c d w lengths store = record {
   notices = record { abort = w .told .abort; alert = w .told .alert; suspended = w .told .suspended };
 }
 
--- What the laws need of V(S), NN(R), the counts, the lengths and the store: the numbers are octets; the AD units are the last `sent` numbers
+-- What the laws need of K, V(S), NN(R), the counts, the lengths and the store: the numbers are octets; the AD units are the last `sent` numbers
 -- below V(S), no more than the largest K and no more than V(S) - NN(R); the marked ones are the last of them; each place has the length of a
--- unit, and the store has room for all.
-pub record Formed (vs nnr sent marked : ℕ) (lengths store : List ℕ) : Type 0 where
+-- unit, and the store suffices for K and the units sent.
+pub record Formed (k vs nnr sent marked : ℕ) (lengths store : List ℕ) : Type 0 where
   pub vs-octet : vs < 256
   pub nnr-octet : nnr < 256
   pub sent-most : sent ≤ largestK
@@ -112,8 +113,8 @@ pub record Formed (vs nnr sent marked : ℕ) (lengths store : List ℕ) : Type 0
   pub last : marked ≤ sent
   pub all-places : length lengths ≡ places
   pub units : (i : ℕ) → getD lengths i 0 ≤ largestUnit
-  pub room : placeOffset places ≤ length store
+  pub room : storeNeed k sent ≤ length store
 
 -- the same of a work, the lengths and the store
 abbrev pub WellFormed : Work → List ℕ → List ℕ → Type 0
-WellFormed w lengths store = Formed (w .variables .vs) (w .variables .nnr) (w .queues .sent) (w .queues .marked) lengths store
+WellFormed w lengths store = Formed (w .settings .k) (w .variables .vs) (w .variables .nnr) (w .queues .sent) (w .queues .marked) lengths store

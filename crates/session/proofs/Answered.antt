@@ -14,7 +14,7 @@ use Rattle.fop.specs.Units.{Frame, Word, legal, written, wordOctets}
 use Rattle.fop.specs.Variables.{Fop, Work}
 use Rattle.fop.specs.Events.{SenderEvent, requestAd, requestBd, lower, directive, wordArrives, work, fopWord}
 use Rattle.fop.specs.Answers.{Answer, judged, needed, senderRefusal, senderAnswer, refused}
-use Rattle.session.specs.Ends.{Settings, Within, Ends, Tied, tables}
+use Rattle.session.specs.Ends.{Settings, Within, Ends, Brought, Tied, tables}
 use Rattle.session.specs.Session.{Linked}
 use Rattle.session.specs.Stronger.{LimitOnly, InSession}
 use Rattle.fop.specs.Events as fop
@@ -59,21 +59,30 @@ limit-known : (l : ℕ) (r : Alert) → LimitOnly l r → KnownAlert l r
 limit-known l r (inl e) = inl e
 limit-known l r (inr e) = inr (inr (inr (inr e)))
 
+-- an event of the session is one that it brings
+pub brought : (ws : List (List ℕ)) (e : SenderEvent) → InSession ws e → Brought e
+brought ws (requestAd o) h = tt
+brought ws (requestBd o) h = tt
+brought ws fop.tick h = tt
+brought ws (lower l) h = tt
+brought ws (directive d v) h = h
+brought ws (wordArrives s) h = tt
+
 by-legal : (b : Bool) → (_≡_ {A = ℕ} (pick b 0 10) 0) ⊎ (_≡_ {A = ℕ} (pick b 0 10) 10)
 by-legal true = inl refl
 by-legal false = inr refl
 
 module _ (set : Settings) (vw : Within set) (m : Ends) (t : Tied set m) (σ : Linked m) (γ : Linked (tables set)) (κ : Session)
     (R : Rel set vw m t σ κ) (G : Rel set vw (tables set) (tables-tied set) γ κ) (I : Inv set κ) (Q : Tidy (set .n) κ) where
-  pub answer-is : (e : SenderEvent) (lent : ℕ) → m .answer e lent (σ .sender) ≡ senderAnswer (set .own) e lent (κ .fop)
-  answer-is e lent = t .answer e lent (σ .sender) (R .good) ∙ ap (λ (f : Fop). senderAnswer (set .own) e lent f) (R .fop)
+  pub answer-is : (e : SenderEvent) → Brought e → (lent : ℕ) → m .answer e lent (σ .sender) ≡ senderAnswer (set .own) e lent (κ .fop)
+  answer-is e i lent = t .answer e i lent (σ .sender) (R .good) ∙ ap (λ (f : Fop). senderAnswer (set .own) e lent f) (R .fop)
 
   -- what holds of the answer where the event goes through, and where it is refused
-  pub answer-ways : (P : Answer → Type 0) (e : SenderEvent) (lent : ℕ)
+  pub answer-ways : (P : Answer → Type 0) (e : SenderEvent) → Brought e → (lent : ℕ)
       → (goes (set .own) e lent (κ .fop) ≡ true → P (ans.answered (set .own) (work (set .own) e (κ .fop))))
       → P (refused (senderRefusal (set .own) e lent (κ .fop)) (κ .fop)) → P (m .answer e lent (σ .sender))
   unfolding senderAnswer
-  answer-ways P e lent h r = subst P (sym (answer-is e lent)) (by-pick P (goes (set .own) e lent (κ .fop)) h (λ b. r))
+  answer-ways P e i lent h r = subst P (sym (answer-is e i lent)) (by-pick P (goes (set .own) e lent (κ .fop)) h (λ b. r))
 
   -- the oldest word, as it was reported
   pub oldest-read : (s : List ℕ) (ws : List (List ℕ)) → σ .words ≡ s ∷ ws
@@ -95,22 +104,22 @@ module _ (set : Settings) (vw : Within set) (m : Ends) (t : Tied set m) (σ : Li
   pub word-alert : (s : List ℕ) (ws : List (List ℕ)) (lent : ℕ) → σ .words ≡ s ∷ ws → LimitOnly (set .limit) ((m .answer (wordArrives s) lent (σ .sender)) .alert)
   word-alert s ws lent e =
       let l = oldest-read s ws e in
-      answer-ways (λ a. LimitOnly (set .limit) (a .alert)) (wordArrives s) lent
+      answer-ways (λ a. LimitOnly (set .limit) (a .alert)) (wordArrives s) tt lent
       (λ g. subst (λ (w : Work). LimitOnly (set .limit) (w .notices .alert)) (sym (l .5)) (word-alerts set κ I Q (l .0) (l .1) (l .2))) (inl refl)
 
   -- the alerts
-  known : (e : SenderEvent) (lent : ℕ) → Allowed ownAlert ((work (set .own) e (κ .fop)) .notices .alert) → KnownAlert (set .limit) ((m .answer e lent (σ .sender)) .alert)
-  known e lent h = answer-ways (λ a. KnownAlert (set .limit) (a .alert)) e lent (λ g. own-known (set .limit) _ h) (inl refl)
+  known : (e : SenderEvent) → Brought e → (lent : ℕ) → Allowed ownAlert ((work (set .own) e (κ .fop)) .notices .alert) → KnownAlert (set .limit) ((m .answer e lent (σ .sender)) .alert)
+  known e i lent h = answer-ways (λ a. KnownAlert (set .limit) (a .alert)) e i lent (λ g. own-known (set .limit) _ h) (inl refl)
 
   pub alerts : (e : SenderEvent) (lent : ℕ) → InSession (σ .words) e → KnownAlert (set .limit) ((m .answer e lent (σ .sender)) .alert)
   unfolding work
-  alerts (requestAd o) lent h = known (requestAd o) lent (ad-alerts (κ .fop) (in-mode set κ I) o)
-  alerts (requestBd o) lent h = known (requestBd o) lent (bd-alerts (κ .fop) (in-mode set κ I) o)
-  alerts fop.tick lent h = known fop.tick lent (tick-alerts (κ .fop) (in-mode set κ I))
-  alerts (lower l) lent h = known (lower l) lent (lower-alerts (κ .fop) (in-mode set κ I) l)
+  alerts (requestAd o) lent h = known (requestAd o) tt lent (ad-alerts (κ .fop) (in-mode set κ I) o)
+  alerts (requestBd o) lent h = known (requestBd o) tt lent (bd-alerts (κ .fop) (in-mode set κ I) o)
+  alerts fop.tick lent h = known fop.tick tt lent (tick-alerts (κ .fop) (in-mode set κ I))
+  alerts (lower l) lent h = known (lower l) tt lent (lower-alerts (κ .fop) (in-mode set κ I) l)
   alerts (directive d v) lent h =
       subst (λ (x : ℕ). KnownAlert (set .limit) ((m .answer (directive x v) lent (σ .sender)) .alert)) (sym h)
-      (known (directive 5 v) lent (terminate-alerts (κ .fop) (in-mode set κ I) v))
+      (known (directive 5 v) refl lent (terminate-alerts (κ .fop) (in-mode set κ I) v))
   alerts (wordArrives s) lent h = limit-known (set .limit) _ (word-alert s (h .0) lent (h .1))
 
   judge : (e : SenderEvent) → InSession (σ .words) e → (judged (set .own) e ≡ 0) ⊎ (judged (set .own) e ≡ 10)
@@ -125,7 +134,7 @@ module _ (set : Settings) (vw : Within set) (m : Ends) (t : Tied set m) (σ : Li
   pub refusals : (e : SenderEvent) (lent : ℕ) → InSession (σ .words) e → Mild ((m .answer e lent (σ .sender)) .refusal)
   unfolding senderRefusal
   refusals e lent h =
-      subst Mild (sym (ap (λ (a : Answer). a .refusal) (answer-is e lent) ∙ refusal-is (set .own) e lent (κ .fop)))
+      subst Mild (sym (ap (λ (a : Answer). a .refusal) (answer-is e (brought (σ .words) e h) lent) ∙ refusal-is (set .own) e lent (κ .fop)))
       (mild (judged (set .own) e) (needed (set .own) e (κ .fop)) lent (judge e h))
 
   oldest : (l : List Frame) (s : List ℕ) (fs : List (List ℕ)) → Reads l → s ∷ fs ≡ map (written (set .own)) l

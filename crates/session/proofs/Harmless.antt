@@ -61,7 +61,7 @@ module _ (set : Settings) (vw : Within set) (m : Ends) (t : Tied set m) (kept : 
   module _ (o : List ℕ) (lent n : ℕ) (h : readWord (set .own) o ≡ other n) where
     word-answer-is : m .answer (wordArrives o) lent (σ .sender) ≡ refused n (κ .fop)
     word-answer-is =
-        t .answer (wordArrives o) lent (σ .sender) (R .good) ∙ ap (senderAnswer (set .own) (wordArrives o) lent) (R .fop)
+        t .answer (wordArrives o) tt lent (σ .sender) (R .good) ∙ ap (senderAnswer (set .own) (wordArrives o) lent) (R .fop)
         ∙ word-answer (set .own) o n h lent (κ .fop)
 
     sender-stays : senderNext (set .own) (wordArrives o) lent (γ .sender) ≡ γ .sender

@@ -25,7 +25,7 @@ use Rattle.receiver.specs.declared.Released.the-variants.{Done, NoneTaken}
 use Rattle.session.specs.Receiver as rcv
 use Rattle.session.specs.Receiver.{frameArrives, releaseBuffer, ReceiverAnswer, receiverNext, releaseAnswer, receiverAnswer, wordLength, receiverWord}
 use Rattle.session.specs.Frames.{read}
-use Rattle.session.specs.Ends.{Settings, Within, Ends, Tied, tables, startReceiver}
+use Rattle.session.specs.Ends.{Settings, Within, Ends, Brought, Tied, tables, startReceiver}
 use Rattle.session.specs.Session.{Linked, History, Event, adRequest, bdRequest, ticks, lowerSays, terminate, wordIn, wordLost, wordMade, frameIn, frameLost, release}
 use Rattle.session.specs.Session.{begins, toSender, afterSender, afterFrame, afterRelease, enters, sentAfter, sentBdAfter, locks}
 use Rattle.session.specs.Session.{addSent, addBd, rest}
@@ -157,17 +157,17 @@ module _ (set : Settings) (vw : Within set) where
         }
 
     -- an event of the sender, with ws the words left; b says whether it goes through
-    chosen : (b : Bool) (w : Work) (r : ℕ) (σ : Linked m) (κ : Session) (e : SenderEvent) (lent : ℕ) (ws : List Word) → Rel σ κ
+    chosen : (b : Bool) (w : Work) (r : ℕ) (σ : Linked m) (κ : Session) (e : SenderEvent) → Brought e → (lent : ℕ) (ws : List Word) → Rel σ κ
         → (b ≡ true → (length (w .frames) ≤ 1) × Reads (w .frames))
         → t .fop (m .next e lent (σ .sender)) ≡ pick b (w .fop) (κ .fop)
         → m .answer e lent (σ .sender) ≡ pick b (ans.answered (set .own) w) (refused r (κ .fop))
         → Rel (toSender set m e lent (map (wordOctets (set .own)) ws) σ)
         (pick b (core.answered (set .n) w (core.channels (κ .frames) ws κ)) (core.channels (κ .frames) ws κ))
     unfolding toSender core.channels core.answered
-    chosen true w r σ κ e lent ws R h f a =
+    chosen true w r σ κ e i lent ws R h f a =
         let g = h refl in
         record {
-          good = t .keeps e lent (σ .sender) (R .good);
+          good = t .keeps e i lent (σ .sender) (R .good);
           goodReceiver = R .goodReceiver;
           fop = f;
           farm = R .farm;
@@ -176,9 +176,9 @@ module _ (set : Settings) (vw : Within set) where
           words = refl;
           history = rw (a, R .history) (answer-through w κ (g .0) (g .1));
         }
-    chosen false w r σ κ e lent ws R h f a =
+    chosen false w r σ κ e i lent ws R h f a =
         record {
-          good = t .keeps e lent (σ .sender) (R .good);
+          good = t .keeps e i lent (σ .sender) (R .good);
           goodReceiver = R .goodReceiver;
           fop = f;
           farm = R .farm;
@@ -189,22 +189,22 @@ module _ (set : Settings) (vw : Within set) where
         }
 
     -- an event of the sender
-    to-sender : (σ : Linked m) (κ : Session) (e : SenderEvent) (lent : ℕ) (ws : List Word) → Rel σ κ
+    to-sender : (σ : Linked m) (κ : Session) (e : SenderEvent) → Brought e → (lent : ℕ) (ws : List Word) → Rel σ κ
         → Inv set (core.sender set e lent (core.channels (κ .frames) ws κ))
         → Rel (toSender set m e lent (map (wordOctets (set .own)) ws) σ) (core.sender set e lent (core.channels (κ .frames) ws κ))
     unfolding core.sender core.channels senderAnswer senderNext core.answered
-    to-sender σ κ e lent ws R J =
-        chosen (goes (set .own) e lent (κ .fop)) (work (set .own) e (κ .fop)) (senderRefusal (set .own) e lent (κ .fop)) σ κ e lent ws R
+    to-sender σ κ e i lent ws R J =
+        chosen (goes (set .own) e lent (κ .fop)) (work (set .own) e (κ .fop)) (senderRefusal (set .own) e lent (κ .fop)) σ κ e i lent ws R
         (λ b. (work-few (set .own) e (κ .fop), reads-of set e lent (core.channels (κ .frames) ws κ) b J))
-        (t .next e lent (σ .sender) (R .good) ∙ ap (λ (f : Fop). senderNext (set .own) e lent f) (R .fop))
-        (t .answer e lent (σ .sender) (R .good) ∙ ap (λ (f : Fop). senderAnswer (set .own) e lent f) (R .fop))
+        (t .next e i lent (σ .sender) (R .good) ∙ ap (λ (f : Fop). senderNext (set .own) e lent f) (R .fop))
+        (t .answer e i lent (σ .sender) (R .good) ∙ ap (λ (f : Fop). senderAnswer (set .own) e lent f) (R .fop))
 
     -- the oldest word to the sender
     pub word-in : (σ : Linked m) (κ : Session) (lent : ℕ) (ws : List Word) → Rel σ κ → Inv set (core.wordCome set lent ws κ)
         → Rel (ses.wordCome set m lent (map (wordOctets (set .own)) ws) σ) (core.wordCome set lent ws κ)
     unfolding ses.wordCome core.wordCome
     word-in σ κ lent [] R J = R
-    word-in σ κ lent (w ∷ ws) R J = to-sender σ κ (wordArrives (wordOctets (set .own) w)) lent ws R J
+    word-in σ κ lent (w ∷ ws) R J = to-sender σ κ (wordArrives (wordOctets (set .own) w)) tt lent ws R J
 
     -- no frame of the session locks the receiver out
     unlocks : (κ : Session) (x : Frame) (fs : List Frame) → Inv set κ → Fly (set .w / 2) (κ .sent) (length (κ .accepted)) (length (κ .accepted)) (x ∷ fs)
@@ -300,10 +300,10 @@ module _ (set : Settings) (vw : Within set) where
         }
 
     -- an event of the sender that is no word
-    pub plain : (σ : Linked m) (κ : Session) (e : SenderEvent) (lent : ℕ) → Rel σ κ → Inv set (core.sender set e lent κ)
+    pub plain : (σ : Linked m) (κ : Session) (e : SenderEvent) → Brought e → (lent : ℕ) → Rel σ κ → Inv set (core.sender set e lent κ)
         → Rel (toSender set m e lent (σ .words) σ) (core.sender set e lent κ)
     unfolding core.channels toSender core.sender
-    plain σ κ e lent R J = rw (R .words) (to-sender σ κ e lent (κ .words) R J)
+    plain σ κ e i lent R J = rw (R .words) (to-sender σ κ e i lent (κ .words) R J)
 
     -- other channels
     pub relink : (σ : Linked m) (κ : Session) (fs : List Frame) (ws : List Word) (fs' ws' : List (List ℕ)) → Rel σ κ → fs' ≡ map (written (set .own)) fs
@@ -323,11 +323,11 @@ module _ (set : Settings) (vw : Within set) where
     -- every event
     pub same-step : (e : Event) (σ : Linked m) (κ : Session) → Rel σ κ → Inv set κ → Rel (ses.step set m e σ) (core.step set e κ)
     unfolding ses.step core.step core.stepWith receiverNext receiverAnswer
-    same-step (adRequest o lent) σ κ R I = plain σ κ (requestAd o) lent R (step-keeps set vw (adRequest o lent) κ I)
-    same-step (bdRequest o lent) σ κ R I = plain σ κ (requestBd o) lent R (step-keeps set vw (bdRequest o lent) κ I)
-    same-step (ticks lent) σ κ R I = plain σ κ fop.tick lent R (step-keeps set vw (ticks lent) κ I)
-    same-step (lowerSays l lent) σ κ R I = plain σ κ (fop.lower l) lent R (step-keeps set vw (lowerSays l lent) κ I)
-    same-step (terminate v lent) σ κ R I = plain σ κ (directive 5 v) lent R (step-keeps set vw (terminate v lent) κ I)
+    same-step (adRequest o lent) σ κ R I = plain σ κ (requestAd o) tt lent R (step-keeps set vw (adRequest o lent) κ I)
+    same-step (bdRequest o lent) σ κ R I = plain σ κ (requestBd o) tt lent R (step-keeps set vw (bdRequest o lent) κ I)
+    same-step (ticks lent) σ κ R I = plain σ κ fop.tick tt lent R (step-keeps set vw (ticks lent) κ I)
+    same-step (lowerSays l lent) σ κ R I = plain σ κ (fop.lower l) tt lent R (step-keeps set vw (lowerSays l lent) κ I)
+    same-step (terminate v lent) σ κ R I = plain σ κ (directive 5 v) refl lent R (step-keeps set vw (terminate v lent) κ I)
     same-step (wordIn lent) σ κ R I =
         subst (λ (l : List (List ℕ)). Rel (ses.wordCome set m lent l σ) (core.wordCome set lent (κ .words) κ)) (sym (R .words))
         (word-in σ κ lent (κ .words) R (step-keeps set vw (wordIn lent) κ I))
@@ -358,12 +358,12 @@ tables-tied set =
       GoodReceiver = λ f. Unit {0};
       good = tt;
       goodReceiver = tt;
-      keeps = λ e lent x g. tt;
+      keeps = λ e i lent x g. tt;
       keepsReceiver = λ e x g. tt;
       start = refl;
       startReceiver = refl;
-      next = λ e lent x g. refl;
-      answer = λ e lent x g. refl;
+      next = λ e i lent x g. refl;
+      answer = λ e i lent x g. refl;
       nextReceiver = λ e x g. refl;
       answerReceiver = λ e x g. refl;
       word = λ lent x g. refl;

@@ -97,7 +97,7 @@ module _ (set : Settings) (vw : Within set) where
     unfolding ses.wordCome core.sender
     word-noise-in σ κ o lent r ws R I e q =
         let same : core.sender set (wordArrives o) lent κ ≡ κ = rw (refuses (set .own) o r q lent (κ .fop)) in
-        rw e (subst (Rel set vw m t _) same (plain set vw m t σ κ (wordArrives o) lent R (subst (Inv set) (sym same) I)))
+        rw e (subst (Rel set vw m t _) same (plain set vw m t σ κ (wordArrives o) tt lent R (subst (Inv set) (sym same) I)))
 
     noise-arrives : (b : Bool) (σ : Linked m) (κ : Session) (o : List ℕ) → Rel set vw m t σ κ → isRefused (read (set .own) o) ≡ b
         → Rel set vw m t (ses.frameCome set m (arriving b o (σ .frames)) σ) κ

@@ -21,7 +21,7 @@ use Rattle.fop.specs.Events.{fopTick, first, when, fopAd, fopBd, fopLower, fopD
 use Rattle.fop.specs.Events.{fopWord, SenderEvent, requestAd, requestBd, lower, directive, wordArrives, work}
 use Rattle.fop.specs.Answers.{octetsDown, Answer, judged, needed, senderAnswer}
 use Rattle.session.specs.Frames.{read}
-use Rattle.session.specs.Ends.{Settings, Within, Ends, Tied, tables}
+use Rattle.session.specs.Ends.{Settings, Within, Ends, Brought, Tied, tables}
 use Rattle.session.specs.Session.{Linked, History, Event, adRequest, bdRequest, wordIn, frameIn, begins, run, noUnit}
 use Rattle.session.specs.Claims.{unitsAt, outstanding, IsOutstanding, nextNumber, Resends, Marked}
 use Rattle.session.specs.Stronger.{unitsOf, somes, inService, InSession, Stronger, Sub}
@@ -73,7 +73,7 @@ module _ (set : Settings) (vw : Within set) (m : Ends) (t : Tied set m) (σ : Li
   st-is : γ .sender .state ≡ κ .fop .state
   st-is = ap (λ (f : Fop). f .state) (G .fop)
 
-  answer-is : (e : SenderEvent) (lent : ℕ) → m .answer e lent (σ .sender) ≡ senderAnswer (set .own) e lent (κ .fop)
+  answer-is : (e : SenderEvent) → Brought e → (lent : ℕ) → m .answer e lent (σ .sender) ≡ senderAnswer (set .own) e lent (κ .fop)
   answer-is = A.answer-is set vw m t σ γ κ R G I Q
 
   -- each AD frame of the list is a unit sent, not confirmed
@@ -142,7 +142,7 @@ module _ (set : Settings) (vw : Within set) (m : Ends) (t : Tied set m) (σ : Li
       → (m .answer e lent (σ .sender)) .down ≡ some o → read (set .own) o ≡ AD u
       → Handed u
   handed e lent h o u d q =
-      A.answer-ways set vw m t σ γ κ R G I Q (λ a. a .down ≡ some o → Handed u) e lent
+      A.answer-ways set vw m t σ γ κ R G I Q (λ a. a .down ≡ some o → Handed u) e (A.brought (σ .words) e h) lent
       (λ g x. let k = given-by e lent h g in
       is-handed set κ I u (subst SentFrom (down-is ((work (set .own) e (κ .fop)) .frames) o u (work-few (set .own) e (κ .fop)) (k .0) x q) (k .1)))
       (λ x. absurd (none-some x)) d
@@ -159,7 +159,7 @@ module _ (set : Settings) (vw : Within set) (m : Ends) (t : Tied set m) (σ : Li
   once : set .limit ≡ 1 → (e : SenderEvent) (lent : ℕ) → InSession (σ .words) e → (o : List ℕ) (u : Fdu)
       → (m .answer e lent (σ .sender)) .down ≡ some o → read (set .own) o ≡ AD u → u .ns ≡ advanced (set .n) (length (κ .sent))
   once l e lent h o u d q =
-      A.answer-ways set vw m t σ γ κ R G I Q (λ a. a .down ≡ some o → u .ns ≡ advanced (set .n) (length (κ .sent))) e lent
+      A.answer-ways set vw m t σ γ κ R G I Q (λ a. a .down ≡ some o → u .ns ≡ advanced (set .n) (length (κ .sent))) e (A.brought (σ .words) e h) lent
       (λ g x.
       let k = given-by e lent h g in
       let w = work (set .own) e (κ .fop) in
@@ -185,7 +185,7 @@ module _ (set : Settings) (vw : Within set) (m : Ends) (t : Tied set m) (σ : Li
   serving-only : (e : SenderEvent) (lent : ℕ) → InSession (σ .words) e → (o : List ℕ) (u : Fdu)
       → (m .answer e lent (σ .sender)) .down ≡ some o → read (set .own) o ≡ AD u → serves ((m .answer e lent (σ .sender)) .state) ≡ true
   serving-only e lent h o u d q =
-      A.answer-ways set vw m t σ γ κ R G I Q (λ a. a .down ≡ some o → serves (a .state) ≡ true) e lent (λ g x. by-serving (work-serving e h) g x)
+      A.answer-ways set vw m t σ γ κ R G I Q (λ a. a .down ≡ some o → serves (a .state) ≡ true) e (A.brought (σ .words) e h) lent (λ g x. by-serving (work-serving e h) g x)
       (λ x. absurd (none-some x)) d
     where
       by-serving : Serving (work (set .own) e (κ .fop)) → goes (set .own) e lent (κ .fop) ≡ true
@@ -220,7 +220,7 @@ module _ (set : Settings) (vw : Within set) (m : Ends) (t : Tied set m) (σ : Li
             (ap (λ (x : List (Option ℕ)). unitsAt (κ .sent) (κ .confirmed ++ x)) (initial-denied set κ I (effective (κ .fop)) (I .side) (effective-is (κ .fop) (I .suspension .serving) ∙ sym st-is ∙ e)) ∙ all-units set κ I);
         states = subst (λ (s : State). (inService s ≡ true) ⊎ (s ≡ S6)) (sym st-is) (states-are set κ I);
         responds = λ o lent g r a b c d k.
-            ap (λ (x : Answer). x .responses) (answer-is (requestAd o) lent)
+            ap (λ (x : Answer). x .responses) (answer-is (requestAd o) tt lent)
             ∙ responds set κ I o lent g (subst (λ (f : Fop). needed (set .own) (requestAd o) f ≤ lent) (G .fop) r) (rw (G .fop) at a)
             (rw (G .fop) at b) (rw (G .fop) at c) (rw (G .fop) at d) (rw (R .history) at k);
         starts = λ o lent g r a b c d k.

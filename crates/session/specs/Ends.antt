@@ -7,7 +7,7 @@ use Rattle.fop.specs.Limits.{largestK, largestTransmissionLimit, largestTimer, 
 use Rattle.fop.specs.Units.{Own}
 use Rattle.fop.specs.declared.State.the-variants.{S1}
 use Rattle.fop.specs.Variables.{Fop, atStart, setState, setClock}
-use Rattle.fop.specs.Events.{SenderEvent}
+use Rattle.fop.specs.Events.{SenderEvent, requestAd, requestBd, tick, lower, directive, wordArrives}
 use Rattle.fop.specs.Answers.{Answer, senderNext, senderAnswer}
 use Rattle.receiver.specs.Receiver.{largestBuffers}
 use Rattle.farm.specs.declared.State.the-variants.{Open}
@@ -104,8 +104,17 @@ tables s = record {
   word = receiverWord;
 }
 
--- What the contracts of the ends' functions give: of a well-formed state, which every event keeps well-formed, the state seen as the
--- tables' state, and the answer, are what the tables give.
+-- what a session brings to its sender: of the directives Terminate alone (directive 5)
+abbrev pub Brought : SenderEvent → Type 0
+Brought (requestAd o) = Unit {0}
+Brought (requestBd o) = Unit {0}
+Brought tick = Unit {0}
+Brought (lower l) = Unit {0}
+Brought (directive d v) = d ≡ 5
+Brought (wordArrives s) = Unit {0}
+
+-- What the contracts of the ends' functions give: of a well-formed state, which every event of a session keeps well-formed, the state seen as
+-- the tables' state, and the answer, are what the tables give.
 pub record Tied (s : Settings) (m : Ends) : Type 1 where
   pub fop : m .Sender → Fop
   pub farm : m .Receiver → Receiver
@@ -113,12 +122,12 @@ pub record Tied (s : Settings) (m : Ends) : Type 1 where
   pub GoodReceiver : m .Receiver → Type 0
   pub good : Good (m .sender)
   pub goodReceiver : GoodReceiver (m .receiver)
-  pub keeps : (e : SenderEvent) (lent : ℕ) (x : m .Sender) → Good x → Good (m .next e lent x)
+  pub keeps : (e : SenderEvent) → Brought e → (lent : ℕ) (x : m .Sender) → Good x → Good (m .next e lent x)
   pub keepsReceiver : (e : ReceiverEvent) (x : m .Receiver) → GoodReceiver x → GoodReceiver (m .nextReceiver e x)
   pub start : fop (m .sender) ≡ startSender s
   pub startReceiver : farm (m .receiver) ≡ startReceiver s
-  pub next : (e : SenderEvent) (lent : ℕ) (x : m .Sender) → Good x → fop (m .next e lent x) ≡ senderNext (s .own) e lent (fop x)
-  pub answer : (e : SenderEvent) (lent : ℕ) (x : m .Sender) → Good x → m .answer e lent x ≡ senderAnswer (s .own) e lent (fop x)
+  pub next : (e : SenderEvent) → Brought e → (lent : ℕ) (x : m .Sender) → Good x → fop (m .next e lent x) ≡ senderNext (s .own) e lent (fop x)
+  pub answer : (e : SenderEvent) → Brought e → (lent : ℕ) (x : m .Sender) → Good x → m .answer e lent x ≡ senderAnswer (s .own) e lent (fop x)
   pub nextReceiver : (e : ReceiverEvent) (x : m .Receiver) → GoodReceiver x → farm (m .nextReceiver e x) ≡ receiverNext e (farm x)
   pub answerReceiver : (e : ReceiverEvent) (x : m .Receiver) → GoodReceiver x → m .answerReceiver e x ≡ receiverAnswer e (farm x)
   pub word : (lent : ℕ) (x : m .Receiver) → GoodReceiver x → m .word lent x ≡ receiverWord lent (farm x)

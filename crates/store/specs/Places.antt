@@ -10,10 +10,6 @@ use Rattle.memory.specs.Placed.{placed}
 abbrev pub places : ℕ
 places = largestK + 1
 
--- the octets that a sender needs of the store, by its window K and its units outstanding: those of all places, whatever these are
-abbrev pub storeNeed : ℕ → ℕ → ℕ
-storeNeed k outstanding = largestUnit * places
-
 -- the octet at which a place begins
 abbrev pub placeOffset : ℕ → ℕ
 placeOffset place = largestUnit * place

@@ -9,20 +9,31 @@ use base::LARGEST_UNIT;
 ghost use mathlib.Core.Path.{_≡_};
 ghost use lib.Dec.{leb};
 ghost use lib.ListN.{length};
-ghost use Rattle.store.specs.Places.{storeNeed};
+ghost use Rattle.fop.specs.Store.{larger, storeNeed};
 
 // The sent units of the largest K, and the unit waiting. The store has a place for each.
 pub const PLACES: usize = LARGEST_K as usize + 1;
 
-// The octets of the store that a sender needs whose window is K and which has so many units outstanding.
-pub fn store_need(_k: u8, _outstanding: u8) -> usize
-    ensures { λ r. ⌜ r ≡ storeNeed «_k» «_outstanding» ⌝ }
+// The larger of two numbers.
+fn larger(a: u16, b: u16) -> u16
+    ensures { λ r. ⌜ r ≡ larger a b ⌝ }
 {
-    LARGEST_UNIT * PLACES
+    if a <= b {
+        return b;
+    }
+    a
+}
+
+// The octets of the store that a sender needs: units for its window K, or for all outstanding if more, and one waiting.
+pub fn store_need(k: u16, outstanding: u8) -> usize
+    ensures { λ r. ⌜ r ≡ storeNeed k outstanding ⌝ }
+{
+    let most = larger(k, outstanding as u16);
+    LARGEST_UNIT * (most as usize + 1)
 }
 
 // Whether the lent store has them.
-pub fn suffices(store: &[u8], k: u8, outstanding: u8) -> bool
+pub fn suffices(store: &[u8], k: u16, outstanding: u8) -> bool
     ensures { λ r. ⌜ r ≡ leb (storeNeed k outstanding) (length (now (store .entry))) ⌝ }
 {
     store_need(k, outstanding) <= store.len()

@@ -19,7 +19,7 @@ returns c =
     let t = c .before in
     let f = t .before in
     let a = f .before .before .before .before .args in
-    served-short (a .event) (a .value) (a .sender) (a .by) (a .store .now) (a .output .now) (f .suffices .ensures)
+    served-short (a .k) (a .event) (a .value) (a .sender) (a .by) (a .store .now) (a .output .now) (f .suffices .ensures)
     (not-true (f .suffices .result) (t .if1 .taken)) (c .refused .ensures)
 
 begin-requires : tie.Need-begin-requires
@@ -45,7 +45,7 @@ returns-2 c =
     let t = b .before in
     let f = t .before in
     let a = f .before .before .before .before .args in
-    served-row (a .event) (a .value) (a .sender) (a .by) (a .store .now) (a .output .now)
+    served-row (a .k) (a .event) (a .value) (a .sender) (a .by) (a .store .now) (a .output .now)
     (f .suffices .ensures) (not-false (f .suffices .result) (t .if1 .left)) (b .begin .ensures) (r .row .ensures) (w .serve-work .ensures)
 
 pub serve-spec : {M : Type 1} → statement M

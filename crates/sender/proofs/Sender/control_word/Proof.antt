@@ -5,6 +5,9 @@ use Rattle.sender.proofs.Judged.{reading-told, word-served}
 use Rattle.sender.proofs.Sender.control_word.Statement.{statement}
 use Rattle.sender.proofs.Sender.control_word.Tie as tie
 
+cast-k : tie.Need-cast-k
+cast-k c = search needs
+
 read-requires : tie.Need-read-requires
 read-requires c κs = search needs
 
@@ -50,7 +53,7 @@ returns c =
     let e = w .before .before .before .before in
     let k = e .before .before .before in
     let d = k .before .before in
-    let a = d .before .before .before .before .before .args in
+    let a = d .before .before .before .before .before .before .args in
     word-served (a .octets .now) (a .self .fop) (a .store .now) (a .output .now) (d .read .ensures .0)
     (k .reading .given .1) (e .word-event .ensures) (w .serve .ensures)
 
@@ -65,7 +68,7 @@ returns-2 c =
     let w = c .before .before .before .before in
     let k = w .before .before .before in
     let d = k .before .before in
-    let a = d .before .before .before .before .before .args in
+    let a = d .before .before .before .before .before .before .args in
     reading-told (a .octets .now) (a .self .fop) (a .store .now) (a .output .now) (d .read .ensures .0)
     (k .enum-told .given .1) (w .serve2 .ensures)
 
@@ -73,7 +76,7 @@ returns-3 : tie.Need-returns-3
 returns-3 c =
     let k = c .before in
     let d = k .before .before in
-    let a = d .before .before .before .before .before .args in
+    let a = d .before .before .before .before .before .before .args in
     reading-told (a .octets .now) (a .self .fop) (a .store .now) (a .output .now) (d .read .ensures .0)
     (k .enum-told2 .given .1) (c .refused .ensures, (refl, refl))
 
@@ -81,7 +84,7 @@ returns-4 : tie.Need-returns-4
 returns-4 c =
     let k = c .before in
     let d = k .before .before in
-    let a = d .before .before .before .before .before .args in
+    let a = d .before .before .before .before .before .before .args in
     reading-told (a .octets .now) (a .self .fop) (a .store .now) (a .output .now) (d .read .ensures .0)
     (k .enum-told3 .given .1) (c .refused2 .ensures, (refl, refl))
 
@@ -89,6 +92,7 @@ pub control-word-spec : {M : Type 1} → statement M
 control-word-spec =
     tie.close
     (tie.spec
+    cast-k
     read-requires
     enum-known-reading
     word-event-requires

@@ -18,6 +18,9 @@ returns c =
     directive-invalid (a .number) (a .value) (a .self .fop) (a .store .now) (a .output .now)
     (d .directive-event .ensures) (t .if1 .taken) (c .refused .ensures)
 
+window-of-requires : tie.Need-window-of-requires
+window-of-requires c κs = search needs
+
 serve-requires : tie.Need-serve-requires
 serve-requires c κs = search needs
 
@@ -30,11 +33,12 @@ same-length-2 c = search needs
 returns-2 : tie.Need-returns-2
 returns-2 c =
     let w = c .before .before .before .before in
-    let t = w .before .before .before in
+    let k = w .before .before .before in
+    let t = k .before in
     let d = t .before in
     let a = d .before .before .before .before .args in
     directive-served (a .number) (a .value) (a .self .fop) (a .store .now) (a .output .now)
-    (d .directive-event .ensures) (t .if1 .left) (w .serve .ensures)
+    (d .directive-event .ensures) (t .if1 .left) (k .window-of .ensures) (w .serve .ensures)
 
 pub directive-spec : {M : Type 1} → statement M
 directive-spec =
@@ -43,6 +47,7 @@ directive-spec =
     directive-event-requires
     refused-requires
     returns
+    window-of-requires
     serve-requires
     same-length
     same-length-2

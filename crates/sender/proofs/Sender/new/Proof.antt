@@ -20,6 +20,9 @@ returns c =
     start-setting (a .settings) (a .vs) (a .nnr) (length (a .store .now)) (l .settings-hold .result) (l .settings-hold .ensures)
     (c .refused-start .result) (not-true (l .settings-hold .result) (t .if1 .taken)) (c .refused-start .ensures)
 
+cast-suffices : tie.Need-cast-suffices
+cast-suffices c = search needs
+
 suffices-requires : tie.Need-suffices-requires
 suffices-requires c κs = search needs
 
@@ -30,7 +33,7 @@ returns-2 : tie.Need-returns-2
 returns-2 c =
     let q = c .before in
     let f = q .before in
-    let t = f .before in
+    let t = f .before .before in
     let l = t .before in
     let a = l .before .before .args in
     start-store (a .settings) (a .vs) (a .nnr) (length (a .store .now)) (l .settings-hold .result) (l .settings-hold .ensures)
@@ -44,7 +47,7 @@ returns-3 : tie.Need-returns-3
 returns-3 c =
     let q = c .before in
     let f = q .before in
-    let t = f .before in
+    let t = f .before .before in
     let l = t .before in
     let a = l .before .before .args in
     start-done (a .settings) (a .vs) (a .nnr) (length (a .store .now)) (l .settings-hold .result) (l .settings-hold .ensures) (c .start .result)
@@ -57,6 +60,7 @@ new-spec =
     settings-hold-requires
     refused-start-requires
     returns
+    cast-suffices
     suffices-requires
     refused-start-requires-2
     returns-2

@@ -10,6 +10,9 @@ tick-event-requires c κs = search needs
 lower-timer-requires : tie.Need-lower-timer-requires
 lower-timer-requires c κs = search needs
 
+cast-serve : tie.Need-cast-serve
+cast-serve c = search needs
+
 serve-requires : tie.Need-serve-requires
 serve-requires c κs = search needs
 
@@ -22,7 +25,7 @@ same-length-2 c = search needs
 returns : tie.Need-returns
 returns c =
     let w = c .before .before .before .before in
-    let l = w .before .before .before in
+    let l = w .before .before .before .before in
     let e = l .before in
     let a = e .before .before .before .before .args in
     tick-served (a .self .fop) (a .store .now) (a .output .now) (e .tick-event .ensures) (l .lower-timer .ensures) (w .serve .ensures)
@@ -33,6 +36,7 @@ tick-spec =
     (tie.spec
     tick-event-requires
     lower-timer-requires
+    cast-serve
     serve-requires
     same-length
     same-length-2
