@@ -24,13 +24,13 @@ use Rattle.sender_values.specs.Limits.{largestResponses}
 use Rattle.sender_values.specs.Start.{begun}
 use Rattle.sender_table.specs.Rows.{rowNumbered}
 use Rattle.fop.specs.declared.Lower.{Lower}
-use Rattle.sender_events.specs.Events.{wordNumber, directiveNumber, adNumber, bdNumber, lowerNumber}
+use Rattle.sender_events.specs.Events.{wordNumber, directiveNumber, windowOf, adNumber, bdNumber, lowerNumber}
 use Rattle.sender.specs.declared.Answer.{Answer}
 use Rattle.sender.specs.Answers.{noResponses, answered, refusing, concluded, Step, stepBy, refusedStep}
 use Rattle.fop.specs.Store.{storeNeed}
 use Rattle.sender_frames.specs.Limits.{needOf}
 use Rattle.sender_frames.specs.Frames.{handedWriting, unitBefore, unitOffered, mustBeUnit}
-use Rattle.sender.specs.Events.{added, storeServed, lengthsServed, lengthsOffered, servedBy, served, offeredBy, bypassedBy, requestAdOf, requestBdOf, windowOf, directiveOf, ticked, tickNumber, tickOf, lowerLayerOf, wordBy, controlWordOf}
+use Rattle.sender.specs.Events.{added, storeServed, lengthsServed, lengthsOffered, servedBy, served, offeredBy, bypassedBy, requestAdOf, requestBdOf, directiveOf, ticked, tickNumber, tickOf, lowerLayerOf, wordBy, controlWordOf}
 use Rattle.sender_octets.proofs.Answered.{Fits, down-fits}
 use Rattle.called_session.proofs.Responses.{Four, with-four, four}
 
@@ -77,7 +77,7 @@ module _ (s : SenderState) (store output : List ℕ) where
 
   pub directs : (d v : ℕ) → W (directiveOf d v s store output)
   unfolding directiveOf
-  directs d v = either (eqb (directiveNumber d v s) 40) _ _ (refuses 12) (serves (windowOf d v s) (directiveNumber d v s) v s)
+  directs d v = either (eqb (directiveNumber d v s) 40) _ _ (refuses 12) (serves (windowOf d v (s .settings .k)) (directiveNumber d v s) v s)
 
   pub ticks : W (tickOf s store output)
   unfolding tickOf

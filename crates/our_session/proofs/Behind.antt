@@ -39,11 +39,11 @@ use Rattle.sender_values.specs.Start.{begun}
 use Rattle.sender_view.specs.View.{entriesFrom, fopOf}
 use Rattle.sender_view.proofs.SentQueue.{held-most}
 use Rattle.sender_table.specs.Rows.{rowNumbered}
-use Rattle.sender_events.specs.Events.{wordNumber, directiveNumber, adNumber, bdNumber, lowerNumber}
+use Rattle.sender_events.specs.Events.{wordNumber, directiveNumber, windowOf, adNumber, bdNumber, lowerNumber}
 use Rattle.sender_frames.specs.Limits.{needOf}
 use Rattle.sender_frames.specs.Frames.{handedWriting, unitBefore, unitOffered, mustBeUnit}
 use Rattle.sender.specs.Answers.{Step, answered, refusing, stepBy, refusedStep}
-use Rattle.sender.specs.Events.{added, storeServed, lengthsServed, lengthsOffered, servedBy, served, offeredBy, bypassedBy, requestAdOf, requestBdOf, windowOf, directiveOf, ticked, tickNumber, tickOf, lowerLayerOf, wordBy, controlWordOf}
+use Rattle.sender.specs.Events.{added, storeServed, lengthsServed, lengthsOffered, servedBy, served, offeredBy, bypassedBy, requestAdOf, requestBdOf, directiveOf, ticked, tickNumber, tickOf, lowerLayerOf, wordBy, controlWordOf}
 use Rattle.our_session.specs.Ours.{Held, stepOf, handedDown, answerBy, reads}
 use Rattle.our_session.specs.Does.{Well}
 use Rattle.our_session.proofs.Events.{entries-count}
@@ -280,7 +280,7 @@ module _ (s : SenderState) (output front behind : List ℕ) where
     windowFor (requestBd o) = s .settings .k
     windowFor tick = s .settings .k
     windowFor (lower l) = s .settings .k
-    windowFor (directive d v) = windowOf d v s
+    windowFor (directive d v) = windowOf d v (s .settings .k)
     windowFor (wordArrives o) = s .settings .k
 
     alike : (e : SenderEvent) → storeNeed (windowFor e) (s .queues .sent) ≤ length front
@@ -293,7 +293,7 @@ module _ (s : SenderState) (output front behind : List ℕ) where
     alike tick room = serves units (s .settings .k) room (tickNumber s) 0 (ticked s)
     alike (lower l) room = serves units (s .settings .k) room (lowerNumber l) 0 s
     alike (directive d v) room =
-        either (eqb (directiveNumber d v s) 40) _ _ _ _ (refused-with 12 (λ e. omega arith)) (serves units (windowOf d v s) room (directiveNumber d v s) v s)
+        either (eqb (directiveNumber d v s) 40) _ _ _ _ (refused-with 12 (λ e. omega arith)) (serves units (windowOf d v (s .settings .k)) room (directiveNumber d v s) v s)
     alike (wordArrives o) room = either (areOctets o) _ _ _ _ (words room (readingOf o (s .settings .channel))) ten
 
     -- the need, by the table's variables

@@ -46,7 +46,7 @@ use Rattle.sender_values.specs.Start.{begun, noneTold, senderOf}
 use Rattle.sender_view.specs.View.{entriesFrom, fopOf}
 use Rattle.sender_values.specs.Actions.{unitsHeld}
 use Rattle.sender_table.specs.Rows.{eventOf, rowIf, rowOf, rowNumbered}
-use Rattle.sender_events.specs.Events.{eventNumber, variablesOf, expiryNumber, adNumber, bdNumber, lowerNumber, directiveNumber, wordNumber, told}
+use Rattle.sender_events.specs.Events.{eventNumber, variablesOf, expiryNumber, adNumber, bdNumber, lowerNumber, directiveNumber, windowOf, wordNumber, told}
 use Rattle.sender_rows_view.specs.State.{Good}
 use Rattle.sender_rows_view.proofs.Rows.{brings, Meets, isOffering}
 use Rattle.session.proofs.Test.{first-all}
@@ -54,7 +54,7 @@ use Rattle.session.proofs.Octets.{octets-are}
 use Rattle.sender.specs.Answers.{Step, stepBy, refusedStep}
 use Rattle.sender_frames.specs.Limits.{needOf}
 use Rattle.sender_frames.specs.Frames.{handedWriting, unitBefore}
-use Rattle.sender.specs.Events.{storeServed, lengthsServed, servedBy, served, offeredBy, bypassedBy, requestAdOf, requestBdOf, windowOf, directiveOf, ticked, tickOf, lowerLayerOf, wordBy, controlWordOf}
+use Rattle.sender.specs.Events.{storeServed, lengthsServed, servedBy, served, offeredBy, bypassedBy, requestAdOf, requestBdOf, directiveOf, ticked, tickOf, lowerLayerOf, wordBy, controlWordOf}
 use Rattle.our_session.specs.Ours.{Held, stepOf, answerBy, lentOutput, reads}
 use Rattle.our_session.specs.Does.{Does, Well}
 use Rattle.our_session.proofs.Numbers.{row-event}
@@ -191,7 +191,7 @@ module _ (own : Own) (s : SenderState) (store : List ℕ) (lent : ℕ) (well : W
       (serves own E36 v g g store lent good good refl refl refl refl refl)))
 
   -- a valid directive is served
-  directive-served : (d v : ℕ) → validDirective d v ≡ true → directiveOf d v s store output ≡ served (windowOf d v s) (directiveNumber d v s) v s s store output
+  directive-served : (d v : ℕ) → validDirective d v ≡ true → directiveOf d v s store output ≡ served (windowOf d v (s .settings .k)) (directiveNumber d v s) v s s store output
   unfolding directiveOf directiveNumber
   directive-served d v t = no _ _ _ (valid-not-40 d v s t)
 

@@ -25,12 +25,12 @@ use Rattle.sender_values.specs.declared.Work.{Work}
 use Rattle.sender_values.specs.Start.{begun}
 use Rattle.sender_view.proofs.SentQueue.{held-most}
 use Rattle.sender_table.specs.Rows.{rowNumbered}
-use Rattle.sender_events.specs.Events.{wordNumber, directiveNumber, adNumber, bdNumber, lowerNumber}
+use Rattle.sender_events.specs.Events.{wordNumber, directiveNumber, windowOf, adNumber, bdNumber, lowerNumber}
 use Rattle.sender.specs.Answers as ans
 use Rattle.sender.specs.Answers.{Step, stepBy, refusedStep}
 use Rattle.sender_frames.specs.Limits.{needOf}
 use Rattle.sender_frames.specs.Frames.{handedWriting, unitBefore, unitOffered, mustBeUnit}
-use Rattle.sender.specs.Events.{added, servedBy, served, offeredBy, bypassedBy, requestAdOf, requestBdOf, windowOf, directiveOf, ticked, tickNumber, tickOf, lowerLayerOf, wordBy, controlWordOf}
+use Rattle.sender.specs.Events.{added, servedBy, served, offeredBy, bypassedBy, requestAdOf, requestBdOf, directiveOf, ticked, tickNumber, tickOf, lowerLayerOf, wordBy, controlWordOf}
 use Rattle.our_session.specs.Ours.{Held, stepOf}
 
 -- the store that is left where the step is done: as it was, without its oldest units, or with the unit offered
@@ -127,7 +127,7 @@ module _ (x : Held) (lent : ℕ) where
 
   directs : (d v : ℕ) → C (λ output. directiveOf d v s store output)
   unfolding directiveOf
-  directs d v = either (eqb (directiveNumber d v s) 40) (λ output. refusedStep 12 s store output) _ (refused-with 12) (serves (windowOf d v s) (directiveNumber d v s) v s)
+  directs d v = either (eqb (directiveNumber d v s) 40) (λ output. refusedStep 12 s store output) _ (refused-with 12) (serves (windowOf d v (s .settings .k)) (directiveNumber d v s) v s)
 
   reads : (r : WordReading) → C (λ output. wordBy r s store output)
   reads (reading.Word r) = serves (s .settings .k) (wordNumber (r .word) s) (r .word .report) s

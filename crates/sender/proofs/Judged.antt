@@ -25,14 +25,14 @@ use Rattle.sender_values.specs.Start.{begun}
 use Rattle.sender_table.specs.Rows.{rowNumbered, inMain}
 use Rattle.fop.specs.declared.Lower.{Lower}
 use Rattle.fop.specs.Store.{storeNeed}
-use Rattle.sender_events.specs.Events.{wordNumber, directiveNumber, lowerNumber, adNumber, bdNumber}
+use Rattle.sender_events.specs.Events.{wordNumber, directiveNumber, windowOf, lowerNumber, adNumber, bdNumber}
 use Rattle.sender_frames.specs.Limits.{needOf}
 use Rattle.sender_frames.specs.Frames.{requestRefusal, unitBefore, mustBeUnit, unitOffered}
 use Rattle.sender_frames.proofs.Written.{Writes}
 use Rattle.sender.specs.declared.Answer.{Answer}
 use Rattle.sender.specs.declared.Event.{Event}
 use Rattle.sender.specs.Answers.{Step, refusing, refusedStep, concluded}
-use Rattle.sender.specs.Events.{storeServed, lengthsServed, servedBy, served, added, lengthsOffered, offeredBy, bypassedBy, windowOf, directiveOf, ticked, tickNumber, tickOf, lowerLayerOf, wordBy, controlWordOf, eventOf}
+use Rattle.sender.specs.Events.{storeServed, lengthsServed, servedBy, served, added, lengthsOffered, offeredBy, bypassedBy, directiveOf, ticked, tickNumber, tickOf, lowerLayerOf, wordBy, controlWordOf, eventOf}
 use Rattle.sender.proofs.Steps.{Told, check, no-check, Meets, handing, holds, fails, same-step, refuses, stored-same, step-done, step-refused}
 
 -- an event that offers no unit: the frame of the unit that stood behind the units confirmed
@@ -72,7 +72,7 @@ module _ (number value : ℕ) (s : SenderState) (store output : List ℕ) {a : A
   unfolding directiveOf
   directive-invalid h e = refuses 12 s (yes _ _ _ (eq-eqb _ 40 (sym of-event ∙ h))) e
 
-  pub directive-served : (event ≡ 40 → ⊥) → {k : ℕ} → k ≡ windowOf number value s → {new out : List ℕ}
+  pub directive-served : (event ≡ 40 → ⊥) → {k : ℕ} → k ≡ windowOf number value (s .settings .k) → {new out : List ℕ}
       → Meets a new out (served k event value s s store output) → Meets a new out (directiveOf number value s store output)
   unfolding directiveOf
   directive-served h q m =

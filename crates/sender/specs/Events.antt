@@ -19,7 +19,7 @@ use Rattle.sender_values.specs.Start.{begun}
 use Rattle.sender_table.specs.Rows.{rowNumbered, inMain}
 use Rattle.fop.specs.declared.Lower.{Lower}
 use Rattle.fop.specs.Store.{storeNeed}
-use Rattle.sender_events.specs.Events.{wordNumber, directiveNumber, expiryNumber, adNumber, bdNumber, lowerNumber}
+use Rattle.sender_events.specs.Events.{wordNumber, directiveNumber, windowOf, expiryNumber, adNumber, bdNumber, lowerNumber}
 use Rattle.sender_frames.specs.Limits.{needOf}
 use Rattle.sender_frames.specs.Frames.{handedWriting, unitBefore, unitOffered, mustBeUnit}
 use Rattle.sender.specs.declared.Event.{Event}
@@ -79,14 +79,10 @@ requestBdOf s o store output =
     (must (leb (needOf s) (length store)) (refusedStep 11 s store output)
     (bypassedBy (bdNumber s) s (rowNumbered (bdNumber s) 0 (begun s)) o store output))
 
--- the window that the store is judged by: K, "at Set K" (directive 8) "the new K"
-abbrev pub windowOf : ℕ → ℕ → SenderState → ℕ
-windowOf d v s = pick (eqb d 8) v (s .settings .k)
-
 -- a directive by its number d and value v: 12 for the invalid directive, E40
 unfoldable pub directiveOf : ℕ → ℕ → SenderState → List ℕ → List ℕ → Step
 directiveOf d v s store output =
-    pick (eqb (directiveNumber d v s) 40) (refusedStep 12 s store output) (served (windowOf d v s) (directiveNumber d v s) v s s store output)
+    pick (eqb (directiveNumber d v s) 40) (refusedStep 12 s store output) (served (windowOf d v (s .settings .k)) (directiveNumber d v s) v s s store output)
 
 -- "A tick lowers a running timer by one"
 abbrev pub ticked : SenderState → SenderState

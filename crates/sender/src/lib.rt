@@ -16,6 +16,7 @@ use fop::State;
 use sender_events::ad_event;
 use sender_events::bd_event;
 use sender_events::directives::directive_event;
+use sender_events::directives::window_of;
 use sender_events::expiry_event;
 use sender_events::lower_event;
 use sender_events::words::word_event;
@@ -45,7 +46,7 @@ ghost use Rattle.base.specs.Outcome.{answer, after};
 ghost use Rattle.sender_frames.specs.Frames.{handedWriting};
 ghost use Rattle.sender.specs.Answers.{concluded};
 ghost use Rattle.sender.specs.Start.{refusedStart, startingOf, restoredOf};
-ghost use Rattle.sender.specs.Events.{servedBy, served, added, lengthsOffered, offeredBy, ticked, tickNumber, requestAdOf, requestBdOf, windowOf, directiveOf, tickOf, lowerLayerOf, controlWordOf, eventOf};
+ghost use Rattle.sender.specs.Events.{servedBy, served, added, lengthsOffered, offeredBy, ticked, tickNumber, requestAdOf, requestBdOf, directiveOf, tickOf, lowerLayerOf, controlWordOf, eventOf};
 
 // The sender's state. No other crate can write one: a start gives one, and each answer the next.
 pub struct Sender {
@@ -141,16 +142,6 @@ fn serve(
     }
     let work = row(begin(by), event, value);
     serve_work(sender, event, work, store, output)
-}
-
-// The window that the store is judged by at a directive: K, at Set K the new K.
-fn window_of(sender: sender_values::SenderState, number: u8, value: u16) -> u16
-    ensures { λ r. ⌜ r ≡ windowOf number value sender ⌝ }
-{
-    if number == 8 {
-        return value;
-    }
-    sender.settings.k as u16
 }
 
 // Whether the unit offered is added to the wait queue: E19 in S1 to S3.
@@ -363,7 +354,7 @@ impl Sender {
         if event == 40 {
             return refused(sender, 12);
         }
-        let k = window_of(sender, number, value);
+        let k = window_of(sender.settings.k, number, value);
         serve(sender, sender, k, event, value, store, output)
     }
 

@@ -2,6 +2,7 @@
 use Prim.Native.Nat.{ℕ}
 use mathlib.Core.List.{[], _∷_}
 use lib.Dec.{ltb, eqb}
+use Rattle.base.specs.Choice.{pick}
 use Rattle.fop.specs.Table.{FopEvent, E1, E2, E3, E4, E5, E6, E7, E8, E9, E10, E11, E12, E13, E14, E15, E16, E17, E18, E19, E20, E21, E22, E23, E24, E25, E26, E27, E28, E29, E30, E31, E32, E33, E34}
 use Rattle.fop.specs.Table.{E35, E36, E37, E38, E39, E40, E41, E42, E43, E44, E45, E46, E101, E102, E103, E104}
 use Rattle.fop.specs.Units.{Word}
@@ -81,6 +82,10 @@ wordNumber w s = eventNumber (wordEvent (seen (told w) (variablesOf s)))
 -- E23 to E40
 unfoldable pub directiveNumber : ℕ → ℕ → SenderState → ℕ
 directiveNumber d v s = eventNumber (directiveEvent d v (variablesOf s))
+
+-- the window that the lent store is judged by at a directive (crate fop, specs/Store, `windowAt`): K, "at Set K" (directive 8) "the new K"
+abbrev pub windowOf : ℕ → ℕ → ℕ → ℕ
+windowOf d v k = pick (eqb d 8) v k
 
 -- E16, E17, E18, E104
 unfoldable pub expiryNumber : SenderState → ℕ

@@ -1,7 +1,7 @@
 // A directive by its number, 1 to 11: E23 to E40. Any other number, or a value outside its limit, is the invalid directive, E40.
 use sender_values::SenderState;
 ghost use mathlib.Core.Path.{_≡_};
-ghost use Rattle.sender_events.specs.Events.{directiveNumber};
+ghost use Rattle.sender_events.specs.Events.{directiveNumber, windowOf};
 ghost use Rattle.sender_events.specs.Rows.{initiate, resume, setNumber, setLimit};
 
 // Document 01, "Limits".
@@ -103,4 +103,14 @@ pub fn directive_event(sender: SenderState, number: u8, value: u16) -> u8
         9..=11 => set_limit_event(number, value),
         _ => 40,
     }
+}
+
+// The window that the lent store is judged by: K, at Set K (8) the new K.
+pub fn window_of(k: u8, number: u8, value: u16) -> u16
+    ensures { λ r. ⌜ r ≡ windowOf number value k ⌝ }
+{
+    if number == 8 {
+        return value;
+    }
+    k as u16
 }

@@ -35,6 +35,8 @@ pub fn lengths_left(lengths: [u16; PLACES], count: u8) -> [u16; PLACES]
     ensures { λ r. ⌜ r ≡ slid count lengths ⌝ }
 {
     let mut next = lengths;
-    slide_lengths(&mut next, count as usize);
+    if 0 < count {
+        slide_lengths(&mut next, count as usize);
+    }
     next
 }

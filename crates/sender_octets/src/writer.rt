@@ -8,10 +8,10 @@ use store::PLACES;
 ghost use mathlib.Core.Path.{_≡_};
 ghost use mathlib.Core.List.{_++_};
 ghost use Prim.Native.Nat.{_*_, _<_, _≤_, _/_, _%_};
-ghost use lib.ListN.{getD};
+ghost use lib.ListN.{length, getD};
 ghost use Rattle.base.specs.Flags.{bitOf};
 ghost use Rattle.store.specs.Places.{places};
-ghost use Rattle.sender_octets.specs.Kept.{stateOctets, octetsOf, stateNumber, controlNumber, controlValue, flagsOf, pairs};
+ghost use Rattle.sender_octets.specs.Kept.{numberOctets, stateOctets, octetsOf, stateNumber, controlNumber, controlValue, flagsOf, pairs};
 
 // The first octet of a state, and the number of its layout.
 const MARK: u8 = 0x53;
@@ -115,9 +115,9 @@ pub fn numbers_of(state: SenderState) -> [u8; NUMBER_OCTETS]
 }
 
 // The octet at a place of the lengths as octets.
-fn length_octet(lengths: [u16; PLACES], place: usize) -> u8
+fn length_octet(lengths: &[u16; PLACES], place: usize) -> u8
     requires { ⌜ place < 2 * places ⌝ }
-    ensures { λ r. ⌜ r ≡ getD (pairs lengths) place 0 ⌝ }
+    ensures { λ r. ⌜ r ≡ getD (pairs (now (lengths .entry))) place 0 ⌝ }
 {
     let length = lengths[place / 2];
     if place % 2 == 0 {
@@ -140,9 +140,9 @@ fn low(number: u16) -> u8
 }
 
 // The octet at a place of a state.
-fn octet_at(numbers: [u8; NUMBER_OCTETS], lengths: [u16; PLACES], place: usize) -> u8
-    requires { ⌜ place < stateOctets ⌝ }
-    ensures { λ r. ⌜ r ≡ getD (numbers ++ pairs lengths) place 0 ⌝ }
+fn octet_at(numbers: &[u8; NUMBER_OCTETS], lengths: &[u16; PLACES], place: usize) -> u8
+    requires { ⌜ (place < stateOctets) × (length (now numbers) ≡ numberOctets) ⌝ }
+    ensures { λ r. ⌜ r ≡ getD (now (numbers .entry) ++ pairs (now (lengths .entry))) place 0 ⌝ }
 {
     if place < NUMBER_OCTETS {
         return numbers[place];
@@ -157,7 +157,7 @@ pub fn join(numbers: [u8; NUMBER_OCTETS], lengths: [u16; PLACES]) -> [u8; STATE_
     let mut octets = [0u8; STATE_OCTETS];
     let mut i = 0;
     while i < STATE_OCTETS {
-        let octet = octet_at(numbers, lengths, i);
+        let octet = octet_at(&numbers, &lengths, i);
         octets[i] = octet;
         i += 1;
     }

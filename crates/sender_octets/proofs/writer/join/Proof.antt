@@ -25,7 +25,8 @@ loop-holds : tie.Need-loop-holds Inv-loop μ-loop
 loop-holds c = (search needs, refl, refl)
 
 octet-at-requires : tie.Need-octet-at-requires Inv-loop μ-loop
-octet-at-requires c κs = search needs
+octet-at-requires c κs =
+    let s = c .before .before .before .before in (search needs, good-length (eInt w8) numberOctets (s .args .t1) _ (s .good .0))
 
 array-write-octets : tie.Need-array-write-octets Inv-loop μ-loop
 array-write-octets c = search needs
@@ -38,13 +39,13 @@ loop-less c = search needs
 
 loop-again : tie.Need-loop-again Inv-loop μ-loop
 loop-again c =
-    let l = c .before .before in
+    let l = c .before .before .before .before in
     let a = l .before .args in
-    let n = good-length (eInt w8) numberOctets (a .numbers) _ (l .before .good .0) in
-    let m = good-length (eInt w16) places (a .lengths) _ (l .before .good .1 .0) in
-    let k = length-joined (a .numbers) (a .lengths) in (
+    let n = good-length (eInt w8) numberOctets (a .t1) _ (l .before .good .0) in
+    let m = good-length (eInt w16) places (a .t2) _ (l .before .good .1 .0) in
+    let k = length-joined (a .t1) (a .t2) in (
       search needs,
-      store-by (a .numbers ++ pairs (a .lengths)) (replicate stateOctets 0) (l .loop .octets) (l .loop .i) (c .octet-at .result) (l .loop .inv .1)
+      store-by (a .t1 ++ pairs (a .t2)) (replicate stateOctets 0) (l .loop .octets) (l .loop .i) (c .octet-at .result) (l .loop .inv .1)
           (c .octet-at .ensures) (omega arith) (omega arith),
       simp length-set (search needs),
     )
@@ -53,10 +54,10 @@ returns : tie.Need-returns Inv-loop μ-loop
 returns c =
     let l = c .before in
     let a = l .before .args in
-    let n = good-length (eInt w8) numberOctets (a .numbers) _ (l .before .good .0) in
-    let m = good-length (eInt w16) places (a .lengths) _ (l .before .good .1 .0) in
-    let k = length-joined (a .numbers) (a .lengths) in
-    filled (a .numbers ++ pairs (a .lengths)) (replicate stateOctets 0) (l .loop .octets) (l .loop .i) (l .loop .inv .1) (omega arith) (omega arith)
+    let n = good-length (eInt w8) numberOctets (a .t1) _ (l .before .good .0) in
+    let m = good-length (eInt w16) places (a .t2) _ (l .before .good .1 .0) in
+    let k = length-joined (a .t1) (a .t2) in
+    filled (a .t1 ++ pairs (a .t2)) (replicate stateOctets 0) (l .loop .octets) (l .loop .i) (l .loop .inv .1) (omega arith) (omega arith)
 
 pub join-spec : {M : Type 1} → statement M
 join-spec =
