@@ -1,12 +1,12 @@
 -- A session of our own two ends, computed: the first frame is lost and sent again when the timer expires, a second unit waits until the lower
 -- layer is ready, both are accepted, and one control word confirms both (`our-session`). And two ends that come to the session's start by
 -- Initiate with Set V(R), its frame sent twice: Transmission_Count and the FARM-B counter are 2 there (`twice-begins`, `twice-received`). And a
--- sender at a start with two numbers far apart (`far-start`).
+-- sender at a start with two numbers far apart (`far-start`). And Set K with units outstanding, judged by the new K (`set-k`).
 use mathlib.Core.Path.{_≡_, refl, ap, _∙_}
 use mathlib.Core.Bool.{false}
 use mathlib.Core.List.{List, [], _∷_}
 use mathlib.Core.Option.{some}
-use Prim.Native.Nat.{ℕ, _≤_}
+use Prim.Native.Nat.{ℕ, _-_, _≤_}
 use lib.Dec.{leb→le}
 use lib.ListN.{length, replicate}
 use Rattle.fop.specs.Units.{Fdu, SetVR, written}
@@ -154,3 +154,23 @@ pub far-start : eventsOf (directive 1 0 ∷ offering ∷ directive 5 0 ∷ direc
     ≡ (23, 0) ∷ (19, 0) ∷ (29, 0) ∷ (35, 0) ∷ (23, 0) ∷ (19, 8) ∷ []
 unfolding computingOurs
 far-start = refl
+
+-- Set K with two units outstanding, K being 3: the refusal, and K after it. Downwards with a store that suffices for the new K and the two, which
+-- is less than the former K needs; with an octet less; upwards with the former K's store; upwards with one that suffices; an invalid value.
+abbrev outstanding : Held
+outstanding =
+    heldAfterAll ((requestAd (17 ∷ []), 8) ∷ (lower AdAccept, 0) ∷ (requestAd (34 ∷ []), 8) ∷ []) (startHeld set store)
+
+abbrev setK : ℕ → ℕ → ℕ × ℕ
+setK k lent =
+    let step = stepOf (directive 8 k) [] (record { sender = outstanding .sender; store = replicate lent 0 }) in
+    (step .answer .refusal, step .answer .next .fop .settings .k)
+
+pub set-k : (outstanding .sender .fop .queues .sent ≡ 2)
+    × (setK 1 (storeNeed 1 2) ≡ (0, 1))
+    × (setK 1 (storeNeed 1 2 - 1) ≡ (11, 3))
+    × (setK 4 (storeNeed 3 2) ≡ (11, 3))
+    × (setK 4 (storeNeed 4 2) ≡ (0, 4))
+    × (setK 0 0 ≡ (12, 3))
+unfolding computingOurs act.setK
+set-k = (refl, refl, refl, refl, refl, refl)
