@@ -39,7 +39,10 @@ use Rattle.sender_octets.proofs.Answered.{Fits, answer-back}
 use Rattle.pondreszi_sender.specs.Senders.{Called, refusedCall, doneCall, calledBy, requestAdCall, requestBdCall, tickCall, wordCall, lowerCall, directiveCall, narrowNumber, narrowValue}
 use Rattle.our_session.specs.Ours.{Held, stepOf, heldAfter, handedDown, answerBy, lentOutput, reads}
 use Rattle.session.specs.Ends.{Brought}
+use Rattle.fop.specs.Store as judged
+use Rattle.our_session.proofs.Events.{does}
 use Rattle.our_session.proofs.Theorem.{keeps-good, session-next, session-answer}
+use Rattle.our_session.proofs.Widened.{good-well}
 use Rattle.our_session.proofs.Output.{output-content-free}
 use Rattle.our_session.proofs.Restored.{good-passes}
 use Rattle.called_session.specs.Called.{Kept, lentAnswer, lowerCalled, ifOctets, callOf, keptAfter, answerCalled, heldIn}
@@ -225,6 +228,14 @@ module _ (own : Own) (x : Kept) (g : GoodKept own x) (lent : ℕ) where
       subst (GoodKept own) (sym (after-is e))
       (record { is = k .0; good = subst (λ (t : SenderState). Good own t (y .store)) (sym (k .1)) (good-step e) })
 
+  -- every event, directives too, is the table machine's with the store lent
+  pub next-any : (e : SenderEvent) → reads (heldIn (keptAfter (callOf e output x))) ≡ judged.lentNext own e (length (x .store)) lent (reads (heldIn x))
+  next-any e = ap reads (held-is e) ∙ does own e lent (heldIn x) (good-well (g .good)) .next
+
+  pub answers-any : (e : SenderEvent) → answerCalled (callOf e output x) ≡ judged.lentAnswer own e (length (x .store)) lent (reads (heldIn x))
+  answers-any e = answer-is x (g .is) output e ∙ does own e lent (heldIn x) (good-well (g .good)) .answer
+
+  -- and a session's as the tables'
   pub next : (e : SenderEvent) → Brought e → reads (heldIn (keptAfter (callOf e output x))) ≡ senderNext own e lent (reads (heldIn x))
   next e i = ap reads (held-is e) ∙ session-next own e i lent (heldIn x) (g .good)
 
