@@ -16,9 +16,10 @@ const TOUCHED: i32 = 5;
 
 const PAGE: usize = 4096;
 
-/// The octets of an area, and of the pages before and behind it that may not be touched.
-const AREA: usize = 18 * PAGE;
-const FORBIDDEN: usize = 16 * PAGE;
+/// The octets of an area, and of the pages before and behind it that may not be touched: so many
+/// that no place of the longest store lies behind them.
+const AREA: usize = 36 * PAGE;
+const FORBIDDEN: usize = 36 * PAGE;
 
 /// The octets of a known value beside a piece, and how many they are.
 const KNOWN: u8 = 0xA5;

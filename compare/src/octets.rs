@@ -2,19 +2,26 @@
 //! the state of a receiver. Numbers of two octets have the most significant first.
 
 use independent::farm1::{self, Farm1};
+use independent::fault::Fault;
 use independent::fop1::{Answer, Response, Sender, K_MOST, UNIT_MOST};
 use independent::frame::Content;
 use independent::table_7_8::Reason;
 
-pub const SENDER_STATE: usize = 88;
+pub const SENDER_STATE: usize = LENGTHS + 2 * PLACES;
 pub const ANSWER: usize = 18;
 pub const RECEIVER_STATE: usize = 12;
 
 const SENDER_MARK: u8 = 0x53;
 const RECEIVER_MARK: u8 = 0x52;
-const LAYOUT: u8 = 1;
+const RECEIVER_LAYOUT: u8 = 1;
+const SENDER_LAYOUT: u8 = 2;
 
-/// The units of the store: 32 sent, one waiting.
+/// The former layout of a sender's state, of 32 units sent and one waiting, whose store had another
+/// stride: refused with 12.
+const FORMER_LAYOUT: u8 = 1;
+const FORMER_SENDER_STATE: usize = LENGTHS + 2 * 33;
+
+/// The units of the longest store: 127 sent, one waiting.
 const PLACES: usize = K_MOST + 1;
 /// Where the lengths of these begin in the state.
 pub const LENGTHS: usize = 22;
@@ -102,7 +109,7 @@ impl SenderState {
     pub fn read(octets: &[u8]) -> Option<SenderState> {
         let laid_out = octets.len() == SENDER_STATE
             && octets[0] == SENDER_MARK
-            && octets[1] == LAYOUT
+            && octets[1] == SENDER_LAYOUT
             && (1..=6).contains(&octets[2])
             && octets[16] < 32
             && octets[18] as usize <= K_MOST
@@ -161,8 +168,29 @@ impl SenderState {
     }
 }
 
+/// The octets of a sender's state with the number of the former layout, and cut to its length or
+/// whole.
+pub fn in_former_layout(octets: &[u8], cut: bool) -> Vec<u8> {
+    let length = if cut {
+        FORMER_SENDER_STATE
+    } else {
+        SENDER_STATE
+    };
+    let mut octets = octets[..length].to_vec();
+    octets[1] = FORMER_LAYOUT;
+    octets
+}
+
+/// The octets have the number of the former layout.
+pub fn is_former_layout(octets: &[u8]) -> bool {
+    octets.len() > 1 && octets[1] == FORMER_LAYOUT
+}
+
 /// Octets that no sender's state has.
-pub fn no_sender_state(octets: &[u8]) -> bool {
+pub fn no_sender_state(octets: &[u8], fault: Fault) -> bool {
+    if fault == Fault::FormerLayoutTaken && is_former_layout(octets) {
+        return false;
+    }
     match SenderState::read(octets) {
         None => true,
         Some(state) => {
@@ -243,7 +271,7 @@ pub fn receiver_state(farm: &Farm1, spacecraft: u32, channel: u32) -> [u8; RECEI
     let flags = 4 * farm.lockout_flag as u8 + 2 * farm.wait_flag as u8 + farm.retransmit_flag as u8;
     [
         RECEIVER_MARK,
-        LAYOUT,
+        RECEIVER_LAYOUT,
         state,
         high,
         low,
@@ -272,7 +300,7 @@ pub fn no_receiver_state(octets: &[u8]) -> bool {
         _ => false,
     };
     let holds = octets[0] == RECEIVER_MARK
-        && octets[1] == LAYOUT
+        && octets[1] == RECEIVER_LAYOUT
         && u32::from(two(octets, 3)) <= SPACECRAFT_MOST
         && u32::from(octets[5]) <= CHANNEL_MOST
         && (2..=254).contains(&window)
@@ -289,8 +317,8 @@ pub fn no_receiver_state(octets: &[u8]) -> bool {
 #[cfg(test)]
 mod tests {
     use super::*;
-    use independent::fault::Fault;
-    use independent::fop1::{Event, Settings, STORE};
+    use independent::fop1::{store, Event, Settings};
+    use independent::frame::FRAME_MOST;
 
     const DIRECTIVE: fn(usize, usize) -> Event = |number, value| Event::Directive { number, value };
 
@@ -305,12 +333,12 @@ mod tests {
             transmission_limit: 5,
             timeout_type: 0,
         };
-        Sender::start(&settings, STORE).unwrap()
+        Sender::start(&settings, store(2, 0)).unwrap()
     }
 
     /// Takes an event with room, and answers its octets.
     fn take(sender: &mut Sender, event: Event) -> [u8; ANSWER] {
-        answer(&sender.take(&event, 256, Fault::None))
+        answer(&sender.take(&event, FRAME_MOST, Fault::None))
     }
 
     /// The first octets of a state, the others zero.
@@ -323,16 +351,16 @@ mod tests {
     #[test]
     fn state_at_the_start() {
         let octets = whole(&[
-            0x53, 1, 6, 2, 0x12, 0x34, 5, 0, 0x02, 0xA5, 3, 255, 255, 0, 0, 1, 7, 0, 0, 0, 0, 0,
+            0x53, 2, 6, 2, 0x12, 0x34, 5, 0, 0x02, 0xA5, 3, 255, 255, 0, 0, 1, 7, 0, 0, 0, 0, 0,
         ]);
         assert_eq!(
             SenderState::read(&octets),
             Some(SenderState::of(&started()))
         );
-        assert!(!no_sender_state(&octets));
+        assert!(!no_sender_state(&octets, Fault::None));
     }
 
-    // Two units of 3 and 249 octets sent and resent in part, one of 1 octet waiting.
+    // Two units of 3 and 1,017 octets sent and resent in part, one of 1 octet waiting.
     #[test]
     fn state_with_units() {
         let mut sender = started();
@@ -342,11 +370,11 @@ mod tests {
             sent,
             [0, 19, 1, 0, 10, 0, 0, 0, 1, 1, 0, 0, 0, 0, 0, 0, 0, 1]
         );
-        take(&mut sender, Event::AdRequest(vec![8; 249]));
+        take(&mut sender, Event::AdRequest(vec![8; UNIT_MOST]));
         let sent = take(&mut sender, Event::AdAccept);
         assert_eq!(
             sent,
-            [0, 41, 1, 1, 0, 0, 0, 0, 1, 1, 0, 0, 0, 0, 0, 0, 0, 1]
+            [0, 41, 1, 4, 0, 0, 0, 0, 1, 1, 0, 0, 0, 0, 0, 0, 0, 1]
         );
         take(&mut sender, Event::AdRequest(vec![9]));
         take(&mut sender, Event::AdAccept);
@@ -356,17 +384,18 @@ mod tests {
             [0, 10, 2, 0, 10, 1, 0, 0, 0, 0, 0, 0, 0, 0, 0, 0, 0, 1]
         );
         let octets = whole(&[
-            0x53, 1, 2, 2, 0x12, 0x34, 5, 0, 0x02, 0xA5, 3, 1, 255, 0x12, 0x34, 2, 14, 0, 2, 1, 0,
-            0, 0, 3, 0, 249, 0, 1,
+            0x53, 2, 2, 2, 0x12, 0x34, 5, 0, 0x02, 0xA5, 3, 1, 255, 0x12, 0x34, 2, 14, 0, 2, 1, 0,
+            0, 0, 3, 3, 249, 0, 1,
         ]);
         let state = SenderState::of(&sender);
         assert_eq!(SenderState::read(&octets), Some(state.clone()));
         assert_eq!(state.marks, [false, true]);
-        assert!(!no_sender_state(&octets));
-        let mut store = vec![0; STORE];
+        assert!(!no_sender_state(&octets, Fault::None));
+        let mut store = vec![0; sender.store()];
         put_stored(&sender, &mut store);
         assert_eq!(store[..5], [7, 7, 7, 0, 0]);
-        assert_eq!(store[248..500], [&[0][..], &[8; 249], &[9, 0]].concat());
+        let next = [&[0][..], &[8; UNIT_MOST], &[9, 0]].concat();
+        assert_eq!(store[UNIT_MOST - 1..2 * UNIT_MOST + 2], next);
 
         let ended = take(&mut sender, DIRECTIVE(5, 0));
         assert_eq!(
@@ -384,26 +413,31 @@ mod tests {
             [0, 27, 5, 0, 10, 0, 0, 0, 1, 5, 0, 0, 0, 0, 0, 0, 0, 4]
         );
         let mut octets = whole(&[
-            0x53, 1, 5, 2, 0x12, 0x34, 5, 0, 0x02, 0xA5, 3, 200, 200, 0x12, 0x34, 1, 5, 0, 0, 0, 2,
+            0x53, 2, 5, 2, 0x12, 0x34, 5, 0, 0x02, 0xA5, 3, 200, 200, 0x12, 0x34, 1, 5, 0, 0, 0, 2,
             200,
         ]);
         let state = SenderState::of(&sender);
         assert_eq!(SenderState::read(&octets), Some(state));
         let bad_octets = [
-            [(0, 0x52), (1, 2), (2, 0), (2, 7), (3, 0), (3, 33)],
+            [(0, 0x52), (1, 1), (2, 0), (2, 7), (3, 0), (3, 128)],
             [(6, 0), (8, 4), (10, 64), (16, 64), (16, 32), (18, 1)],
-            [(7, 1), (15, 0), (17, 1), (19, 1), (20, 3), (22, 1)],
+            [(7, 1), (15, 0), (17, 1), (19, 1), (20, 3), (22, 4)],
         ];
         for (place, octet) in bad_octets.into_iter().flatten() {
             let good = std::mem::replace(&mut octets[place], octet);
-            assert!(no_sender_state(&octets));
+            assert!(no_sender_state(&octets, Fault::None));
             octets[place] = good;
         }
-        assert!(!no_sender_state(&octets));
-        assert!(no_sender_state(&octets[..87]));
+        assert!(!no_sender_state(&octets, Fault::None));
+        assert!(no_sender_state(&octets[..SENDER_STATE - 1], Fault::None));
+        assert_eq!(SENDER_STATE, 278);
+        for cut in [true, false] {
+            let former = in_former_layout(&octets, cut);
+            assert!(no_sender_state(&former, Fault::None) && is_former_layout(&former));
+        }
         // Any two numbers are a sender's.
         octets[11] = 233;
-        assert!(!no_sender_state(&octets));
+        assert!(!no_sender_state(&octets, Fault::None));
     }
 
     #[test]

@@ -8,6 +8,7 @@ use crate::random::Random;
 use independent::cltu::{self, Read, START_SEQUENCE, TAIL_SEQUENCE};
 use independent::codeblock::{CORRECTING, DETECTING};
 use independent::fault::Fault;
+use independent::frame::FRAME_MOST;
 use independent::refusal::{DONE, LENGTH, NO_BLOCK, NO_END, NO_START, ROOM, SETTING};
 
 pub const READ: Operation = Operation {
@@ -27,7 +28,7 @@ pub const READ: Operation = Operation {
     random: read_random,
 };
 
-/// Document 01, Limits, Refusals and Codeblock and CLTU, as document 02, orders 2 and 3, amend them.
+/// Document 01, Limits, Refusals and Codeblock and CLTU, as document 02, orders 2, 3 and 7, amend them.
 fn read_fixed(tally: &mut Tally, fault: Fault) {
     let codeblock = inputs::cltu::with_error_control(&[0; 7]);
     let start_and_tail = [&START_SEQUENCE[..], &TAIL_SEQUENCE].concat();
@@ -37,7 +38,9 @@ fn read_fixed(tally: &mut Tally, fault: Fault) {
     let too_long = [&longest[..], &[0]].concat();
     let hidden = [&[0xEA, 0x90][..], &whole].concat();
 
-    let fixed: [(&[u8], usize, u8, u64, u64); 19] = [
+    let of_longest_frame = cltu::encode(&[0x3C; FRAME_MOST], Fault::None);
+
+    let fixed: [(&[u8], usize, u8, u64, u64); 22] = [
         (&[], 0, NO_START, 0, 0),
         (&[0xEB], 20, NO_START, 0, 1),
         (&[0; 4096], 20, NO_START, 0, 4096),
@@ -54,6 +57,9 @@ fn read_fixed(tally: &mut Tally, fault: Fault) {
         (&whole[..17], 0, NO_END, 0, 10),
         (&whole, 7, DONE, 7, 10),
         (&whole, 6, ROOM, 0, 0),
+        (&of_longest_frame, 1029, DONE, 1029, 1178),
+        (&of_longest_frame, 1028, ROOM, 0, 0),
+        (&of_longest_frame[..1185], 1029, NO_END, 0, 1178),
         (&longest, 7, DONE, 7, 10),
         (&too_long, 7, LENGTH, 0, 0),
         (&[0; 65_536], 20, LENGTH, 0, 0),

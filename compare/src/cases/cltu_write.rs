@@ -1,11 +1,12 @@
 //! Writing a CLTU.
 
-use super::{Operation, ROOMS};
+use super::{every_length, Operation, ROOMS};
 use crate::check::{agree, show_answers, show_first_difference, show_octets, Tally};
 use crate::library;
 use crate::random::Random;
 use independent::cltu;
 use independent::fault::Fault;
+use independent::frame::FRAME_MOST;
 use independent::output::Written;
 use independent::refusal::{DONE, LENGTH, ROOM};
 
@@ -19,16 +20,19 @@ pub const WRITE: Operation = Operation {
 };
 
 /// Frame length, lent output, number, count: document 01, Limits, Refusals and
-/// Codeblock and CLTU.
-const FIXED: [(usize, usize, u8, u64); 9] = [
+/// Codeblock and CLTU; document 02, order 7.
+const FIXED: [(usize, usize, u8, u64); 12] = [
     (8, 26, DONE, 26),
     (256, 306, DONE, 306),
+    (257, 306, DONE, 306),
+    (1024, 1186, DONE, 1186),
     (8, 25, ROOM, 0),
     (256, 305, ROOM, 0),
+    (1024, 1185, ROOM, 0),
     (0, 400, LENGTH, 0),
     (7, 0, LENGTH, 0),
-    (257, 400, LENGTH, 0),
-    (256 + 8, 400, LENGTH, 0),
+    (1025, 1200, LENGTH, 0),
+    (1024 + 8, 1200, LENGTH, 0),
     (65_536 + 8, 400, LENGTH, 0),
 ];
 
@@ -45,11 +49,11 @@ fn write_fixed(tally: &mut Tally, fault: Fault) {
     }
 }
 
-/// Every length from 0 to 300 with every kind of room, one after the other.
+/// Every length up to 1,030, one after the other, the short ones more often, with any kind of
+/// room.
 fn write_random(random: &mut Random, tally: &mut Tally, fault: Fault) {
-    let turn = tally.inputs as usize;
-    let length = turn % 301;
-    let room = ROOMS[(turn / 301) % ROOMS.len()];
+    let length = every_length(tally, FRAME_MOST + 6);
+    let room = random.pick(&ROOMS);
     let need = 2 + 8 * length.div_ceil(7) + 8;
     let lent = room.octets(need, random);
 

@@ -1,12 +1,13 @@
 //! The Frame Error Control Field.
 
-use super::Operation;
+use super::{every_length, Operation};
 use crate::check::{agree, show_answers, show_octets, Tally, TwoOctets};
 use crate::library;
 use crate::random::Random;
 use independent::bits;
 use independent::fault::Fault;
 use independent::fecf;
+use independent::frame::FRAME_MOST;
 
 pub const FECF: Operation = Operation {
     name: "fecf",
@@ -28,12 +29,9 @@ fn fecf_fixed(tally: &mut Tally, fault: Fault) {
     }
 }
 
-/// Every length from 0 to 260, one after the other, and some beyond.
+/// Every length up to 1,030, one after the other, the short ones more often.
 fn fecf_random(random: &mut Random, tally: &mut Tally, fault: Fault) {
-    let length = match random.below(20) {
-        0 => random.between(0, 1100),
-        _ => tally.inputs as usize % 261,
-    };
+    let length = every_length(tally, FRAME_MOST + 6);
     let mut message = match random.below(4) {
         0 => vec![*random.pick(&[0x00, 0xFF]); length],
         _ => random.octets(length),

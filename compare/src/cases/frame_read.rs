@@ -8,10 +8,10 @@ use crate::random::Random;
 use independent::bits::Field;
 use independent::fault::Fault;
 use independent::frame::{
-    self, Read, AD, BC_SET_VR, BC_UNLOCK, BD, BYPASS_FLAG, FRAME_LENGTH, FRAME_SEQUENCE_NUMBER,
-    RESERVED_SPARE, VERSION_NUMBER,
+    self, Read, AD, BC_SET_VR, BC_UNLOCK, BD, BYPASS_FLAG, FRAME_LENGTH, FRAME_MOST,
+    FRAME_SEQUENCE_NUMBER, RESERVED_SPARE, UNIT_MOST, VERSION_NUMBER,
 };
-use independent::refusal::{ADDRESS, CHECK, COMMAND, DONE, FILL, HEADER, LENGTH, SHORT};
+use independent::refusal::{ADDRESS, CHECK, COMMAND, DONE, FILL, HEADER, SHORT};
 
 pub const READ: Operation = Operation {
     name: "frame_read",
@@ -24,14 +24,14 @@ pub const READ: Operation = Operation {
         (ADDRESS, "address"),
         (CHECK, "check"),
         (COMMAND, "command"),
-        (LENGTH, "length"),
     ],
     kinds: &["AD", "BD", "Unlock", "Set V(R)"],
     fixed: read_fixed,
     random: read_random,
 };
 
-/// Document 01, Limits, Refusals and Frame; document 02, order 10.
+/// Document 01, Limits, Refusals and Frame; document 02, orders 7 and 10. No input is refused with 10:
+/// a header says at most 1,024 octets.
 fn read_fixed(tally: &mut Tally, fault: Fault) {
     three_frames(tally, fault);
     accepted(tally, fault);
@@ -154,8 +154,19 @@ fn each_number(tally: &mut Tally, fault: Fault) {
 }
 
 fn accepted(tally: &mut Tally, fault: Fault) {
-    let longest = to_us(bd_frame(&[7; 249]));
-    read(&longest, Some(done(BD, 0, 256, 249)), tally, fault);
+    for unit in [248, 249, 250, 251, 256 + 1, 512 + 1, 1016, UNIT_MOST] {
+        let frame = to_us(bd_frame(&vec![7; unit]));
+        let paper = done(BD, 0, unit as u16 + 7, unit as u16);
+        read(&frame, Some(paper), tally, fault);
+    }
+    for fill in 0..=8 {
+        let longest = filled(bd_frame(&[7; UNIT_MOST]), fill);
+        let paper = match fill {
+            0..=6 => done(BD, 0, FRAME_MOST as u16, UNIT_MOST as u16),
+            _ => Read::refused(FILL),
+        };
+        read(&to_us(longest), Some(paper), tally, fault);
+    }
 }
 
 fn one_rule_broken(tally: &mut Tally, fault: Fault) {
@@ -171,10 +182,12 @@ fn one_rule_broken(tally: &mut Tally, fault: Fault) {
         let too_short = changed(&unlock, FRAME_LENGTH, total - 1);
         refused(to_us(too_short), SHORT, tally, fault);
     }
-    for unit in [250, 251, 256 + 1, 512 + 1, 1017] {
-        refused(to_us(bd_frame(&vec![7; unit])), LENGTH, tally, fault);
+    // Of 1,025 octets the ten bits say 1, of 1,032 eight, and then the rest is more than fill.
+    for total in [1025, 1026, 1031] {
+        refused(to_us(bd_frame(&vec![7; total - 7])), SHORT, tally, fault);
     }
-    for total in [9, 10, 255, 256] {
+    refused(to_us(bd_frame(&[7; 1025])), FILL, tally, fault);
+    for total in [9, 10, 255, 256, 257, 1023, FRAME_MOST] {
         let too_much = changed(&unlock, FRAME_LENGTH, total - 1);
         refused(to_us(too_much), SHORT, tally, fault);
     }
@@ -231,8 +244,10 @@ fn one_rule_broken(tally: &mut Tally, fault: Fault) {
         &[0x02, 0x00, 0x05],
         &[0x82, 0x00, 0x05, 0x00],
         &[0x82; 249],
+        &[0x82; UNIT_MOST],
     ] {
-        let header = [0x30, 0x01, 0x00, 6 + data.len() as u8, 0x00];
+        let length = (6 + data.len() as u16).to_be_bytes();
+        let header = [0x30, 0x01, length[0], length[1], 0x00];
         let no_command = with_fecf(&[&header, data].concat());
         refused(to_us(no_command), COMMAND, tally, fault);
     }
@@ -246,11 +261,11 @@ fn two_rules_broken(tally: &mut Tally, fault: Fault) {
     let no_spare = changed(&no_command, RESERVED_SPARE, 1);
     let no_type = changed(&no_command, BYPASS_FLAG, 0);
     let no_data = bd_frame(&[]);
-    let too_long = bd_frame(&[7; 250]);
+    let longest = bd_frame(&[7; UNIT_MOST]);
     let too_much = changed(&no_command, FRAME_LENGTH, 9);
 
-    // Fewer than eight lent, and the header says over 256.
-    refused(to_us(too_long[..7].to_vec()), SHORT, tally, fault);
+    // Fewer than eight lent, and the header says more.
+    refused(to_us(longest[..7].to_vec()), SHORT, tally, fault);
     // The header says fewer than eight, and 5, 8, 6 or 7.
     refused(to_us(filled(no_data.clone(), 7)), SHORT, tally, fault);
     let wrong = filled(wrong_check(no_data.clone()), 1);
@@ -258,18 +273,16 @@ fn two_rules_broken(tally: &mut Tally, fault: Fault) {
     let wrong = filled(changed(&no_data, VERSION_NUMBER, 1), 1);
     refused(to_us(wrong), SHORT, tally, fault);
     refused(to_others(filled(no_data, 1)), SHORT, tally, fault);
-    // The header says over 256, and 4, 5, 8, 6, 7 or 9.
-    refused(to_us(too_long[..256].to_vec()), LENGTH, tally, fault);
-    refused(to_us(too_long[..8].to_vec()), LENGTH, tally, fault);
-    let wrong = changed(&unlock, FRAME_LENGTH, 1023);
-    refused(to_us(wrong), LENGTH, tally, fault);
-    refused(to_us(filled(too_long.clone(), 7)), LENGTH, tally, fault);
-    refused(to_us(wrong_check(too_long.clone())), LENGTH, tally, fault);
-    let wrong = changed(&too_long, VERSION_NUMBER, 1);
-    refused(to_us(wrong), LENGTH, tally, fault);
-    refused(to_others(too_long.clone()), LENGTH, tally, fault);
-    let wrong = changed(&too_long, frame::CONTROL_COMMAND_FLAG, 1);
-    refused(to_us(wrong), LENGTH, tally, fault);
+    // The longest frame, and 4, 5, 8, 6, 7 or 9.
+    refused(to_us(longest[..1023].to_vec()), SHORT, tally, fault);
+    refused(to_us(longest[..8].to_vec()), SHORT, tally, fault);
+    refused(to_us(filled(longest.clone(), 7)), FILL, tally, fault);
+    refused(to_us(wrong_check(longest.clone())), CHECK, tally, fault);
+    let wrong = changed(&longest, VERSION_NUMBER, 1);
+    refused(to_us(wrong), HEADER, tally, fault);
+    refused(to_others(longest.clone()), ADDRESS, tally, fault);
+    let wrong = changed(&longest, frame::CONTROL_COMMAND_FLAG, 1);
+    refused(to_us(wrong), COMMAND, tally, fault);
     // The header says more than lent, and 8, 6 or 7, and 9.
     refused(to_us(wrong_check(too_much.clone())), SHORT, tally, fault);
     let wrong = changed(&too_much, VERSION_NUMBER, 1);

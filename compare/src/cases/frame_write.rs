@@ -1,12 +1,12 @@
 //! Writing frames of the four contents.
 
-use super::{Operation, ROOMS};
+use super::{every_length, Operation, ROOMS};
 use crate::check::{agree, show_answers, show_first_difference, show_octets, Tally};
 use crate::inputs;
 use crate::library;
 use crate::random::Random;
 use independent::fault::Fault;
-use independent::frame::{self, Content};
+use independent::frame::{self, Content, FRAME_MOST, UNIT_MOST};
 use independent::output::Written;
 use independent::refusal::{DONE, LENGTH, ROOM, SETTING};
 
@@ -59,17 +59,20 @@ const COMMAND_NUMBERS: &[(u8, &str)] = &[(DONE, "done"), (ROOM, "room"), (SETTIN
 const OVERHEAD: usize = 7;
 
 /// Spacecraft, channel, length of the unit, lent output, number: document 01, Limits
-/// and Refusals. The last ones break several rules.
-const UNIT_FIXED: [(u32, u32, usize, usize, u8); 28] = [
+/// and Refusals; document 02, order 7. The last ones break several rules.
+const UNIT_FIXED: [(u32, u32, usize, usize, u8); 31] = [
     (0, 0, 1, 8, DONE),
     (1023, 63, 249, 256, DONE),
+    (1023, 63, 250, 257, DONE),
+    (1023, 63, 256 + 1, 256 + 8, DONE),
+    (1023, 63, 1016, 1023, DONE),
+    (1023, 63, 1017, 1024, DONE),
     (1, 1, 1, 7, ROOM),
-    (1, 1, 249, 255, ROOM),
+    (1, 1, 1017, 1023, ROOM),
     (1, 1, 1, 0, ROOM),
     (1, 1, 0, 400, LENGTH),
-    (1, 1, 250, 400, LENGTH),
-    (1, 1, 256 + 1, 400, LENGTH),
-    (1, 1, 1017, 1024, LENGTH),
+    (1, 1, 1018, 1100, LENGTH),
+    (1, 1, 1024 + 1, 1100, LENGTH),
     (1, 1, 65_536 + 1, 400, LENGTH),
     (1024, 1, 1, 8, SETTING),
     (65_535, 1, 1, 8, SETTING),
@@ -84,11 +87,11 @@ const UNIT_FIXED: [(u32, u32, usize, usize, u8); 28] = [
     (1, u32::MAX, 1, 8, SETTING),
     (1024, 64, 1, 8, SETTING),
     (1024, 1, 0, 400, LENGTH),
-    (1, 64, 250, 400, LENGTH),
+    (1, 64, 1018, 1100, LENGTH),
     (1, 1, 0, 0, LENGTH),
-    (1024, 64, 250, 0, LENGTH),
+    (1024, 64, 1018, 0, LENGTH),
     (1024, 1, 1, 7, SETTING),
-    (1, 64, 249, 0, SETTING),
+    (1, 64, 1017, 0, SETTING),
 ];
 
 /// The same for a command, with the room beyond or, below zero, short of its need.
@@ -135,7 +138,7 @@ fn ad_fixed(tally: &mut Tally, fault: Fault) {
     }
     for (number, answer) in NUMBERS_FIXED {
         // A wrong length is judged before, room behind.
-        for (length, lent, answer) in [(1, 8, answer), (0, 8, LENGTH), (250, 400, LENGTH)] {
+        for (length, lent, answer) in [(1, 8, answer), (0, 8, LENGTH), (1018, 1100, LENGTH)] {
             let unit = vec![7; length];
             let fixed = (1, 1, length, lent, answer);
             write_fixed(fixed, &Content::Ad { number, unit }, &[], tally, fault);
@@ -246,12 +249,12 @@ fn any_number(random: &mut Random) -> u32 {
     }
 }
 
-/// A unit of every length from 0 to 260, one after the other, and now and then one at
-/// the borders.
+/// A unit of every length up to 1,024, one after the other, the short ones more often, and now
+/// and then one at the borders.
 fn unit(random: &mut Random, tally: &Tally) -> Vec<u8> {
     let length = match random.below(8) {
-        0 => *random.pick(&[0, 1, 2, 248, 249, 250, 251, 256, 257]),
-        _ => tally.inputs as usize % 261,
+        0 => *random.pick(&[0, 1, 2, 249, 250, UNIT_MOST - 1, UNIT_MOST, UNIT_MOST + 1]),
+        _ => every_length(tally, FRAME_MOST),
     };
     random.octets(length)
 }

@@ -46,6 +46,18 @@ pub const OPERATIONS: [Operation; 13] = [
     clcw_read::READ,
 ];
 
+/// Short lengths are up to this.
+const SHORT: usize = 260;
+
+/// Every length from 0 to this, one after the other, in two of three inputs a short one.
+fn every_length(tally: &Tally, most: usize) -> usize {
+    let turn = tally.inputs as usize;
+    match turn % 3 {
+        0 => turn / 3 % (most + 1),
+        _ => turn % (SHORT + 1),
+    }
+}
+
 /// The length of a lent output, against the octets needed.
 #[derive(Clone, Copy)]
 enum Room {

@@ -13,7 +13,9 @@ use crate::check::Tally;
 use crate::octets::LENGTHS;
 use crate::random::Random;
 use crate::settings::{self, print_names, Settings};
-use independent::fault::{Fault, FOP_FAULTS, PASS_FAULTS, PROGRAM_FAULTS, SESSION_FAULTS};
+use independent::fault::{
+    Fault, FOP_FAULTS, PASS_FAULTS, PROGRAM_FAULTS, SESSION_FAULTS, STORE_FAULTS,
+};
 use std::process::ExitCode;
 use std::time::Instant;
 
@@ -74,7 +76,7 @@ fn faults(mode: &Mode) -> Vec<(&'static str, Fault)> {
         .iter()
         .filter(|fault| PASS_FAULTS.contains(&fault.1));
     match mode {
-        Mode::Sender => FOP_FAULTS.to_vec(),
+        Mode::Sender => [&FOP_FAULTS[..], &STORE_FAULTS].concat(),
         Mode::Receiver => farm_faults(),
         Mode::Session => SESSION_FAULTS.iter().chain(of_a_pass).copied().collect(),
     }
@@ -235,7 +237,7 @@ fn damage(random: &mut Random, state: &mut Vec<u8>) {
         1 => *state = random.octets(octets),
         2 => {
             let place = random.below(octets);
-            state[place] = *random.pick(&[0, 1, 32, 64, 255]);
+            state[place] = *random.pick(&[0, 1, 2, 32, 64, 127, 128, 255]);
         }
         3 => {
             for _ in 0..random.between(1, 8) {

@@ -8,17 +8,17 @@ use crate::random::Random;
 use crate::settings::Settings;
 use independent::farm1::{self, Farm1, EVENTS, STATES};
 use independent::fault::Fault;
-use independent::frame;
+use independent::frame::{self, UNIT_MOST};
 use independent::refusal::{
-    ADDRESS, CHECK, COMMAND, DONE, FILL, HEADER, LENGTH, RELEASE, ROOM, SETTING, SHORT,
+    ADDRESS, CHECK, COMMAND, DONE, FILL, HEADER, RELEASE, ROOM, SETTING, SHORT,
 };
 use independent::session::{word_of, Received};
 
-const REFUSALS: [u8; 11] = [
-    DONE, SHORT, FILL, HEADER, ADDRESS, CHECK, COMMAND, LENGTH, ROOM, SETTING, RELEASE,
+const REFUSALS: [u8; 10] = [
+    DONE, SHORT, FILL, HEADER, ADDRESS, CHECK, COMMAND, ROOM, SETTING, RELEASE,
 ];
 
-const KINDS: [&str; 8] = [
+const KINDS: [&str; 9] = [
     "new",
     "new refused",
     "frame",
@@ -26,6 +26,7 @@ const KINDS: [&str; 8] = [
     "word",
     "AD unit",
     "BD unit",
+    "unit of 1017 octets",
     "no state",
 ];
 
@@ -167,6 +168,9 @@ impl Pair {
             1 => met.kinds.meet("AD unit"),
             2 => met.kinds.meet("BD unit"),
             _ => (),
+        }
+        if expected.count as usize == UNIT_MOST {
+            met.kinds.meet("unit of 1017 octets");
         }
         self.meet_cell(received.event, before, met);
         let state = self.expected_state();

@@ -5,19 +5,23 @@ use super::{compare_runs, damage, refusal, Counts, Report};
 use crate::check::Tally;
 use crate::inputs::fop1::{self as inputs, Manner};
 use crate::library::{SenderEvent, SenderMemory, SenderSettings};
-use crate::octets::{ANSWER, SENDER_STATE};
+use crate::octets::{in_former_layout, is_former_layout, ANSWER, SENDER_STATE};
 use crate::random::Random;
 use crate::settings::Settings;
 use independent::clcw;
 use independent::fault::Fault;
-use independent::fop1::{Sender, STORE};
+use independent::fop1::{self, Sender, K_MOST, UNIT_MOST};
+use independent::frame::FRAME_MOST;
 use independent::refusal::{ADDRESS, DONE, LENGTH, ROOM, SETTING};
 use independent::table_7_8::{cell, Cell, STATES, TABLE};
 
 /// These rows need a Timeout_Type of 1 or a Suspend_State: document 01, FOP-1.
 const ROWS_NEVER_MET: [u8; 6] = [18, 31, 32, 33, 34, 104];
 
-const KINDS: [&str; 17] = [
+/// The octets of the shortest unit beyond the limit.
+const TOO_LONG: usize = UNIT_MOST + 1;
+
+const KINDS: [&str; 23] = [
     "new",
     "new refused 11",
     "new refused 12",
@@ -32,9 +36,15 @@ const KINDS: [&str; 17] = [
     "word invalid",
     "word of another length",
     "frame handed down",
-    "unit of 249 octets",
-    "32 units sent",
-    "32 units sent and one waiting",
+    "unit of 1017 octets",
+    "unit of 1018 octets",
+    "127 units sent",
+    "127 units sent and one waiting",
+    "127 units of 1017 octets sent",
+    "more units sent than K",
+    "Set K upwards with units sent",
+    "Set K downwards with units sent",
+    "Set K below the units sent",
 ];
 
 /// By number, from 1 on.
@@ -62,11 +72,17 @@ const LOWER_LAYER: [&str; 6] = [
     "BD_Reject",
 ];
 
-const LENDINGS: [&str; 6] = [
+const LENDINGS: [&str; 12] = [
     "whole",
-    "output too short",
+    "store longer than the need",
+    "store one octet too short",
     "store too short",
+    "Set K, store for the old K alone",
+    "Set K, store for the new K alone",
+    "store for K, more units sent",
+    "output too short",
     "answer too short",
+    "former layout",
     "no state",
     "damaged and perhaps a state",
 ];
@@ -120,7 +136,11 @@ pub fn compare(settings: &Settings) -> Report {
     let mut fixed = inputs::fixed_settings().into_iter();
     let (tally, runs) = compare_runs(settings, |random, tally| {
         let memory = match fixed.next() {
-            Some(settings) => (settings, random.octets(STORE), random.octets(SENDER_STATE)),
+            Some(settings) => (
+                settings,
+                random.octets(4 * UNIT_MOST),
+                random.octets(SENDER_STATE),
+            ),
             None => inputs::start(random),
         };
         let Some((end, sender)) = start(memory, tally, &mut met) else {
@@ -171,7 +191,7 @@ fn run(
     tally: &mut Tally,
     met: &mut Met,
 ) {
-    let manner = Manner::new(random);
+    let manner = Manner::new(random, &sender);
     for n in 0..random.between(100, 1500) {
         if tally.inputs >= settings.count {
             return;
@@ -181,17 +201,20 @@ fn run(
         let before = sender.clone();
         let call = call(&event, memory);
         let is_damaged = call.before.state != end.state;
-        let expected = match call.refused_at_once() {
+        let is_former = is_former_layout(&call.before.state);
+        let expected = match call.refused_at_once(settings.fault) {
             Some(expected) => expected,
             // Perhaps a state by chance: only that nothing beside it is touched is judged.
-            None if is_damaged => {
+            None if is_damaged && !is_former => {
                 met.lendings.meet("damaged and perhaps a state");
                 tally.compared(true, String::new);
                 continue;
             }
             None => expected(&call, &mut sender, settings.fault),
         };
-        if is_damaged {
+        if is_former {
+            met.lendings.meet("former layout");
+        } else if is_damaged {
             met.lendings.meet("no state");
         }
         meet(&call, &expected, &before, met);
@@ -207,7 +230,7 @@ fn run(
             return;
         }
         if !is_damaged {
-            end.keep(call);
+            end.keep(call, &sender);
         }
     }
 }
@@ -233,33 +256,63 @@ fn memory(
 ) -> SenderMemory {
     let output = match random.below(24) {
         0 => random.below(17),
-        1 => random.between(0, 260),
+        1 => random.between(0, FRAME_MOST + 4),
         2 => need(event, sender),
         3 => need(event, sender).saturating_sub(1),
-        _ => random.between(256, 260),
+        _ => random.between(FRAME_MOST, FRAME_MOST + 4),
     };
     let answer = match random.below(4) {
         0 => random.between(ANSWER, ANSWER + 20),
         _ => ANSWER,
     };
-    let mut memory = end.memory(random, output, answer);
+    let store = store(event, sender, random, met);
+    let mut memory = end.memory(random, [store, output, answer]);
     match random.below(160) {
         0 => memory.answer.truncate(random.below(ANSWER)),
-        1 => {
-            let octets = *random.pick(&[0, 249, STORE - 1, STORE - 249]);
-            memory.store.truncate(octets);
-        }
+        1 => memory.state = in_former_layout(&end.state, random.once_in(2)),
         2..=4 => damage(random, &mut memory.state),
         _ => (),
     }
     if memory.answer.len() < ANSWER {
         met.lendings.meet("answer too short");
-    } else if memory.store.len() < STORE {
-        met.lendings.meet("store too short");
     } else if memory.state == end.state {
         met.lendings.meet("whole");
     }
     memory
+}
+
+/// The octets of the store that is lent: mostly the need; at Set K more often about it, and what
+/// other readings of the need would be.
+fn store(event: &SenderEvent, sender: &Sender, random: &mut Random, met: &mut Met) -> usize {
+    let (k, sent) = (usize::from(sender.k), sender.outstanding());
+    let independent = sender_end::independent_event(event);
+    let need = independent.map_or(sender.store(), |event| sender.store_at(&event, Fault::None));
+    let set_k = matches!(event, SenderEvent::Directive { number: 8, .. });
+    let lent = match random.below(if set_k { 10 } else { 60 }) {
+        0 => need - 1,
+        1 => need - UNIT_MOST,
+        2 => need + random.between(1, 300),
+        3 => need + UNIT_MOST,
+        4 => fop1::store(k, 0),
+        5 => fop1::store(k, sent),
+        6 if random.once_in(4) => *random.pick(&[0, 1, UNIT_MOST, fop1::STORE]),
+        _ => need,
+    };
+    if lent > need {
+        met.lendings.meet("store longer than the need");
+    } else if lent == need - 1 {
+        met.lendings.meet("store one octet too short");
+    } else if lent < need {
+        met.lendings.meet("store too short");
+    }
+    if set_k && lent == fop1::store(k, sent) && lent < need {
+        met.lendings.meet("Set K, store for the old K alone");
+    } else if set_k && lent == need && need < fop1::store(k, sent) {
+        met.lendings.meet("Set K, store for the new K alone");
+    } else if !set_k && lent == fop1::store(k, 0) && lent < need {
+        met.lendings.meet("store for K, more units sent");
+    }
+    lent
 }
 
 /// The octets of the frame that the event hands down, or some.
@@ -274,16 +327,14 @@ fn need(event: &SenderEvent, sender: &Sender) -> usize {
 fn meet(call: &Call, expected: &Expected, before: &Sender, met: &mut Met) {
     met.refusals.meet(&refusal(call.number));
     meet_event(&call.event, before, met);
-    match (before.sent_queue.len(), before.wait_queue.is_some()) {
-        (32, false) => met.kinds.meet("32 units sent"),
-        (32, true) => met.kinds.meet("32 units sent and one waiting"),
-        _ => (),
-    }
+    meet_window(&call.event, before, met);
     met.states.meet(&format!("S{}", before.state.number()));
     let Some(answer) = &expected.answer else {
         return;
     };
-    if answer.refusal == ROOM && call.before.store.len() >= STORE {
+    let event = sender_end::independent_event(&call.event);
+    let need = event.map_or(0, |event| before.store_at(&event, Fault::None));
+    if answer.refusal == ROOM && call.before.store.len() >= need {
         met.lendings.meet("output too short");
     }
     if answer.row != 0 {
@@ -296,6 +347,35 @@ fn meet(call: &Call, expected: &Expected, before: &Sender, met: &mut Met) {
     if answer.frame.is_some() {
         met.kinds.meet("frame handed down");
     }
+}
+
+/// How many units are sent, and where K goes with units sent.
+fn meet_window(event: &SenderEvent, sender: &Sender, met: &mut Met) {
+    let (k, sent) = (usize::from(sender.k), sender.outstanding());
+    if sent == K_MOST {
+        met.kinds.meet(match sender.wait_queue {
+            None => "127 units sent",
+            Some(_) => "127 units sent and one waiting",
+        });
+        if sender.stored().iter().all(|unit| unit.len() == UNIT_MOST) {
+            met.kinds.meet("127 units of 1017 octets sent");
+        }
+    }
+    if sent > k {
+        met.kinds.meet("more units sent than K");
+    }
+    let SenderEvent::Directive { number: 8, value } = event else {
+        return;
+    };
+    let new_k = *value as usize;
+    if sent == 0 || new_k == k || !(1..=K_MOST).contains(&new_k) {
+        return;
+    }
+    met.kinds.meet(match new_k {
+        _ if new_k < sent => "Set K below the units sent",
+        _ if new_k < k => "Set K downwards with units sent",
+        _ => "Set K upwards with units sent",
+    });
 }
 
 fn meet_event(event: &SenderEvent, sender: &Sender, met: &mut Met) {
@@ -325,9 +405,11 @@ fn meet_event(event: &SenderEvent, sender: &Sender, met: &mut Met) {
         SenderEvent::Directive { value, .. } if *value > 65_535 => {
             met.kinds.meet("value above 65535")
         }
-        SenderEvent::RequestAd(unit) | SenderEvent::RequestBd(unit) if unit.len() == 249 => {
-            met.kinds.meet("unit of 249 octets")
-        }
+        SenderEvent::RequestAd(unit) | SenderEvent::RequestBd(unit) => match unit.len() {
+            UNIT_MOST => met.kinds.meet("unit of 1017 octets"),
+            TOO_LONG => met.kinds.meet("unit of 1018 octets"),
+            _ => (),
+        },
         _ => (),
     }
 }

@@ -4,10 +4,12 @@ use super::{compare_numbers, compare_octets};
 use crate::library::{self, SenderEvent, SenderMemory, SenderSettings};
 use crate::octets::{self, no_sender_state, SenderState, ANSWER, SENDER_STATE};
 use crate::random::Random;
+use independent::fault::Fault;
 use independent::fop1::{self, Answer, Sender, UNIT_MOST};
 use independent::refusal::{DONE, ROOM, SETTING};
 
-/// Between the events.
+/// Between the events. Of the store only the octets that the state needs are kept: what a host
+/// has behind them may change.
 #[derive(Clone)]
 pub struct SenderEnd {
     pub state: Vec<u8>,
@@ -80,27 +82,32 @@ pub fn start(
     };
     compare_state(&sender, &after.state, &state, &mut differences);
     after.state.truncate(SENDER_STATE);
+    after.store.truncate(sender.store());
     let pair = differences.is_empty().then_some((after, sender));
     (number, pair, differences)
 }
 
 impl SenderEnd {
-    /// What is lent for an event, with so long an output and an answer.
-    pub fn memory(&self, random: &mut Random, output: usize, answer: usize) -> SenderMemory {
+    /// What is lent for an event, with so long a store, output and answer.
+    pub fn memory(&self, random: &mut Random, [store, output, answer]: [usize; 3]) -> SenderMemory {
+        let kept = self.store.len().min(store);
+        let mut lent = self.store[..kept].to_vec();
+        lent.extend(random.octets(store - kept));
         SenderMemory {
             state: self.state.clone(),
-            store: self.store.clone(),
+            store: lent,
             output: random.octets(output),
             answer: random.octets(answer),
         }
     }
 
-    /// The state and the store become those after the call. Of a store that is lent in
-    /// part nothing changes, since the call is refused.
-    pub fn keep(&mut self, call: Call) {
-        self.state = call.after.state;
-        if call.after.store.len() == self.store.len() {
+    /// The state becomes that after the call, and the store the octets that the sender needs after
+    /// it. Where the call is refused nothing changes.
+    pub fn keep(&mut self, call: Call, sender: &Sender) {
+        if call.number == DONE {
+            self.state = call.after.state;
             self.store = call.after.store;
+            self.store.truncate(sender.store());
         }
     }
 }
@@ -121,9 +128,9 @@ pub fn call(event: &SenderEvent, memory: SenderMemory) -> Call {
 impl Call {
     /// What must come of a call that doesn't reach the sender: 12 for a number that the
     /// lower layer has not and for octets that are no state, 11 for the answer's room.
-    pub fn refused_at_once(&self) -> Option<Expected> {
+    pub fn refused_at_once(&self, fault: Fault) -> Option<Expected> {
         let unknown = independent_event(&self.event).is_none();
-        let number = if unknown || no_sender_state(&self.before.state) {
+        let number = if unknown || no_sender_state(&self.before.state, fault) {
             SETTING
         } else if self.before.answer.len() < ANSWER {
             ROOM
@@ -142,6 +149,9 @@ impl Call {
         let mut differences = Vec::new();
         let (before, after) = (&self.before, &self.after);
         compare_numbers(self.number, expected.number, &mut differences);
+        if !differences.is_empty() {
+            return differences;
+        }
         if self.event != self.event_after {
             differences.push("the input is changed".to_string());
         }

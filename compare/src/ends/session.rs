@@ -12,7 +12,7 @@ use crate::octets::{ANSWER, RECEIVER_STATE, SENDER_STATE};
 use crate::random::Random;
 use crate::settings::Settings;
 use independent::fault::Fault;
-use independent::fop1::{self, Sender, STORE};
+use independent::fop1::{self, Sender};
 use independent::recorder::{one_more_than_nw, Recorder};
 use independent::refusal::{ADDRESS, DONE, FILL, LENGTH};
 use independent::session::{inverted, Event, Outcome, Session};
@@ -43,7 +43,7 @@ pub fn compare(settings: &Settings) -> Report {
             recorded_too_far(random, tally, &mut met);
         }
         let of_session = session_random::settings(&mut |limit| random.below(limit));
-        let mut course = Course::new(&mut |limit| random.below(limit));
+        let mut course = Course::new(&mut |limit| random.below(limit), &of_session);
         let started = start(&of_session, random);
         let difference = started.as_ref().err();
         tally.compared(difference.is_none(), || {
@@ -142,7 +142,8 @@ fn start_sender(
         vs: settings.number as u32,
         nnr: settings.number as u32,
     };
-    let (store, state) = (random.octets(STORE), random.octets(SENDER_STATE));
+    let store = random.octets(fop1::store(settings.k, 0));
+    let state = random.octets(SENDER_STATE);
     let (_, pair, differences) = sender_end::start(&of_sender, store, state);
     let Some((mut sender, mut independent)) = pair else {
         return Err(differences.join("\n  "));
@@ -151,7 +152,8 @@ fn start_sender(
         number: 1,
         value: 0,
     };
-    let call = call(&initiate, sender.memory(random, 0, ANSWER));
+    let memory = sender.memory(random, [independent.store(), 0, ANSWER]);
+    let call = call(&initiate, memory);
     let event = sender_end::independent_event(&initiate).expect("a directive");
     let answer = independent.take(&event, 0, Fault::None);
     let expected = Expected {
@@ -162,7 +164,7 @@ fn start_sender(
     if !differences.is_empty() {
         return Err(differences.join("\n  "));
     }
-    sender.keep(call);
+    sender.keep(call, &independent);
     Ok((sender, independent))
 }
 
@@ -304,7 +306,14 @@ impl Run {
         let Some(answer) = outcome.sender.clone() else {
             return vec!["the independent sender answers nothing".to_string()];
         };
-        let memory = self.ends.sender.memory(random, room, ANSWER);
+        // Mostly the store that is needed.
+        let beyond = if random.once_in(16) {
+            random.below(300)
+        } else {
+            0
+        };
+        let lent = [before.store() + beyond, room, ANSWER];
+        let memory = self.ends.sender.memory(random, lent);
         let call = call(event, memory);
         let expected = Expected {
             number: answer.refusal,
@@ -319,7 +328,7 @@ impl Run {
             self.ends.recorder.record(&frame);
             self.ends.frames.push_back(frame);
         }
-        self.ends.sender.keep(call);
+        self.ends.sender.keep(call, &self.session.sender);
         differences
     }
 

@@ -3,6 +3,7 @@
 
 use super::{refusal, Counts};
 use independent::farm1::Event as FarmEvent;
+use independent::fop1::K_MOST;
 use independent::frame::FILL_MOST;
 use independent::refusal::{
     ADDRESS, CHECK, COMMAND, DONE, FILL, HEADER, LENGTH, RELEASE, ROOM, SHORT,
@@ -31,11 +32,13 @@ pub struct Met {
     refusals: Counts,
     rows: Counts,
     farm: Counts,
+    /// How wide the windows are, and how full.
+    windows: Counts,
     premises: Counts,
 }
 
 /// The numbers of the reader's refusals of noise.
-const NOISE: [u8; 7] = [SHORT, FILL, HEADER, ADDRESS, CHECK, COMMAND, LENGTH];
+const NOISE: [u8; 6] = [SHORT, FILL, HEADER, ADDRESS, CHECK, COMMAND];
 
 /// One in so many events must be beyond document 01.
 const SHARE_BEYOND: u64 = 10;
@@ -52,6 +55,12 @@ const BEYOND: [&str; 7] = [
     "word noise",
     "frame damaged",
     "frame filled",
+];
+
+const WINDOWS: [&str; 3] = [
+    "K above 32",
+    "over 32 units outstanding",
+    "127 units outstanding",
 ];
 
 const KINDS: [&str; 11] = [
@@ -103,6 +112,7 @@ impl Met {
                 "events of FARM-1",
                 of_farm.iter().map(|event| format!("{event:?}")),
             ),
+            windows: Counts::new("windows", WINDOWS.iter().map(|name| name.to_string())),
             premises: Counts::new(
                 "premises of claims",
                 premises.chain([LOCKED_OUT]).map(str::to_string),
@@ -140,6 +150,7 @@ impl Met {
             self.beyond.meet(ALL_BEYOND);
         }
         self.kinds.meet(kind);
+        self.meet_window(session);
         if let (Event::WordNoise { .. }, Some(answer)) = (event, &outcome.sender) {
             self.word_noise.meet(&refusal(answer.refusal));
             return;
@@ -167,6 +178,18 @@ impl Met {
         }
     }
 
+    fn meet_window(&mut self, session: &Session) {
+        let (k, outstanding) = (session.sender.k, session.sender.outstanding());
+        if k > 32 {
+            self.windows.meet("K above 32");
+        }
+        match outstanding {
+            0..=32 => (),
+            K_MOST => self.windows.meet("127 units outstanding"),
+            _ => self.windows.meet("over 32 units outstanding"),
+        }
+    }
+
     /// What a session's claims met.
     pub fn meet_premises(&mut self, checker: &Checker) {
         for (name, count) in checker.met.named() {
@@ -191,6 +214,7 @@ impl Met {
             self.refusals,
             self.rows,
             self.farm,
+            self.windows,
             self.premises,
         ]
     }

@@ -4,6 +4,7 @@
 use crate::bits;
 use crate::codeblock::{self, CODEBLOCK_BITS, CORRECTING, DETECTING, INFORMATION_BITS};
 use crate::fault::Fault;
+use crate::frame::{FRAME_LEAST, FRAME_MOST};
 use crate::output::{self, Written};
 use crate::randomizer;
 use crate::refusal::{DONE, LENGTH, NO_BLOCK, NO_END, NO_START, ROOM, SETTING};
@@ -17,9 +18,7 @@ pub const TAIL_SEQUENCE: [u8; 8] = [0xC5, 0xC5, 0xC5, 0xC5, 0xC5, 0xC5, 0xC5, 0x
 /// Alternating ones and zeros, starting with a zero (clause 8.6).
 pub const FILL: u8 = 0x55;
 
-/// Limits of a frame and of the reader's input, in octets (document 01, Limits).
-const FRAME_LEAST: usize = 8;
-const FRAME_MOST: usize = 256;
+/// The limit of the reader's input, in octets (document 01, Limits).
 const INPUT_MOST: usize = 4096;
 
 /// The answer of reading.
@@ -166,7 +165,7 @@ mod tests {
     }
 
     fn written(length: usize) -> Vec<u8> {
-        let mut output = vec![0; 400];
+        let mut output = vec![0; 1200];
         let answer = write(&frame(length), &mut output, Fault::None);
         assert_eq!(answer.number, DONE);
         output.truncate(answer.count as usize);
@@ -204,12 +203,14 @@ mod tests {
         assert_eq!(answer, refuse(NO_BLOCK, 8 * 2));
     }
 
-    // Document 01, Codeblock and CLTU: 26 for n = 8, 306 for n = 256.
+    // Document 01, Codeblock and CLTU: 26 for n = 8, 306 for n = 256; document 02, order 7:
+    // 1,186 for 1,024.
     #[test]
     fn lengths() {
         assert_eq!(written(8).len(), 26);
         assert_eq!(written(256).len(), 306);
-        for length in 8..=256 {
+        assert_eq!(written(1024).len(), 1186);
+        for length in 8..=1024 {
             assert_eq!(written(length).len(), 2 + 8 * length.div_ceil(7) + 8);
         }
     }
@@ -233,9 +234,11 @@ mod tests {
         for (length, room, number) in [
             (0, 400, LENGTH),
             (7, 0, LENGTH),
-            (257, 400, LENGTH),
+            (1025, 1300, LENGTH),
             (8, 25, ROOM),
             (256, 305, ROOM),
+            (1024, 1185, ROOM),
+            (1024, 1186, DONE),
             (8, 26, DONE),
         ] {
             let mut output = vec![0xAA; room];
@@ -250,7 +253,7 @@ mod tests {
 
     #[test]
     fn what_is_written_is_read() {
-        for length in 8..=256usize {
+        for length in (8..=256usize).chain(1018..=1024) {
             let decoded = 7 * length.div_ceil(7);
             let mut filled = frame(length);
             filled.resize(decoded, FILL);

@@ -47,6 +47,11 @@ pub enum Fault {
     FrameRefusesAll,
     /// Seven octets after the frame are taken for fill.
     FrameFillSeven,
+    /// The frame reader refuses over 256 octets with 10: document 01 before document 02's
+    /// order 7.
+    FrameFormerLimit,
+    /// A unit may have one octet more than its limit.
+    UnitOneMore,
     /// The FECF is the remainder without the presetting polynomial (clause 6.2.4.2).
     FecfPresetZero,
     /// A CLCW with spare bits that are not zero is valid (clauses 6.3.7 and 6.3.14).
@@ -92,6 +97,16 @@ pub enum Fault {
     FopRefusedTickCounts,
     /// The timer runs on where it is cancelled (clause 7.2.2.9).
     FopTimerRunsOn,
+    /// The store is judged by the old K at Set K (document 02, order 7, for these five).
+    StoreByOldK,
+    /// The store is judged by the larger of both at Set K.
+    StoreByLargerK,
+    /// The store need not hold the unit that waits.
+    StoreWithoutWaiting,
+    /// The store is judged by K alone, though more units are outstanding.
+    StoreByKAlone,
+    /// Octets of the former layout are taken for a sender's state.
+    FormerLayoutTaken,
     /// The recorder reaches one unit further back than NW.
     SessionRecorderOneMore,
     /// A frame stays whatever its type.
@@ -111,7 +126,7 @@ pub enum Fault {
 }
 
 /// The faults of the operations, by name.
-pub const FAULTS: [(&str, Fault); 24] = [
+pub const FAULTS: [(&str, Fault); 26] = [
     ("fill_zero", Fault::FillZero),
     ("randomizer_through", Fault::RandomizerThrough),
     ("randomizer_late", Fault::RandomizerLate),
@@ -139,6 +154,8 @@ pub const FAULTS: [(&str, Fault); 24] = [
     ("frame_address_before_check", Fault::FrameAddressBeforeCheck),
     ("frame_refuses_all", Fault::FrameRefusesAll),
     ("frame_fill_seven", Fault::FrameFillSeven),
+    ("frame_former_limit", Fault::FrameFormerLimit),
+    ("unit_one_more", Fault::UnitOneMore),
     ("fecf_preset_zero", Fault::FecfPresetZero),
     ("clcw_spare_taken", Fault::ClcwSpareTaken),
     ("clcw_flag_at_neighbour", Fault::ClcwFlagAtNeighbour),
@@ -174,7 +191,18 @@ pub const FOP_FAULTS: [(&str, Fault); 12] = [
     ("fop_timer_runs_on", Fault::FopTimerRunsOn),
 ];
 
-/// Those of them that break a pass, which a session must find too.
+/// The faults of a sender's limits, its store and its state's octets, by name. No session has them: its
+/// K stays, and its store suffices.
+pub const STORE_FAULTS: [(&str, Fault); 6] = [
+    ("fop_unit_one_more", Fault::UnitOneMore),
+    ("store_by_old_k", Fault::StoreByOldK),
+    ("store_by_larger_k", Fault::StoreByLargerK),
+    ("store_without_waiting", Fault::StoreWithoutWaiting),
+    ("store_by_k_alone", Fault::StoreByKAlone),
+    ("former_layout_taken", Fault::FormerLayoutTaken),
+];
+
+/// Those of FOP-1 that break a pass, which a session must find too.
 pub const PASS_FAULTS: [Fault; 2] = [Fault::FopNeverSends, Fault::FopTimerRunsOn];
 
 /// The faults of a session's channels, its recorder, its fill and its noise, by name.

@@ -1,4 +1,5 @@
-//! FOP-1 (clauses 7.2.2 and 7.9.2, Table 7-8), by the rules of document 01.
+//! FOP-1 (clauses 7.2.2 and 7.9.2, Table 7-8), by the rules of document 01, with document
+//! 02's order 7.
 
 use crate::clcw;
 use crate::fault::Fault;
@@ -6,20 +7,31 @@ use crate::frame::{self, Content};
 use crate::refusal::{DONE, LENGTH, ROOM, SETTING};
 use crate::table_7_8::{self, Action, Cell, Reason, State};
 
+pub use crate::frame::UNIT_MOST;
+
 /// Document 01, Limits.
 const SPACECRAFT_MOST: usize = 1023;
 const CHANNEL_MOST: usize = 63;
 const NUMBER_MOST: usize = 255;
 const K_LEAST: usize = 1;
-pub const K_MOST: usize = 32;
 const TIMER_LEAST: usize = 1;
 const TIMER_MOST: usize = 65_535;
 const LIMIT_LEAST: usize = 1;
 const LIMIT_MOST: usize = 255;
-const UNIT_LEAST: usize = 1;
-pub const UNIT_MOST: usize = 249;
 
-/// The lent store: 32 units sent and one waiting (document 01, FOP-1).
+/// "and K to 127" (document 02, order 7).
+pub const K_MOST: usize = 127;
+
+/// The row of Set K.
+const SET_K: u8 = 36;
+
+/// The lent store: "units for K, or for all outstanding if more, and one waiting" (document 02,
+/// order 7), each of the largest length.
+pub fn store(k: usize, outstanding: usize) -> usize {
+    (k.max(outstanding) + 1) * UNIT_MOST
+}
+
+/// The longest store that any sender needs.
 pub const STORE: usize = (K_MOST + 1) * UNIT_MOST;
 
 /// The only Timeout_Type for now (document 01, FOP-1).
@@ -189,17 +201,17 @@ pub fn distance(number: u8, from: u8) -> u8 {
     number.wrapping_sub(from)
 }
 
-fn unit_within_limits(unit: &[u8]) -> Result<(), u8> {
-    match (UNIT_LEAST..=UNIT_MOST).contains(&unit.len()) {
+fn unit_within_limits(unit: &[u8], fault: Fault) -> Result<(), u8> {
+    match frame::within_limits(unit, fault) {
         true => Ok(()),
         false => Err(LENGTH),
     }
 }
 
 impl Sender {
-    /// A sender at its start, or refusal 12, or 11 for the lent store (document 01,
-    /// FOP-1).
-    pub fn start(settings: &Settings, store: usize) -> Result<Sender, u8> {
+    /// A sender at its start, or refusal 12, or 11 for a lent store of so many octets (document
+    /// 01, FOP-1).
+    pub fn start(settings: &Settings, lent: usize) -> Result<Sender, u8> {
         let within_limits = settings.spacecraft <= SPACECRAFT_MOST
             && settings.channel <= CHANNEL_MOST
             && settings.v_s <= NUMBER_MOST
@@ -211,7 +223,7 @@ impl Sender {
         if !within_limits {
             return Err(SETTING);
         }
-        if store < STORE {
+        if lent < store(settings.k, 0) {
             return Err(ROOM);
         }
         Ok(Sender {
@@ -252,9 +264,48 @@ impl Sender {
         units
     }
 
-    /// Takes an event with the store and so much room lent for a frame.
+    /// The units outstanding: those on the Sent_Queue.
+    pub fn outstanding(&self) -> usize {
+        let units = self.sent_queue.iter();
+        units.filter(|frame| frame.number().is_some()).count()
+    }
+
+    /// The K of a Set K that is not refused with 12.
+    fn new_k(&self, event: &Event) -> Option<usize> {
+        let Event::Directive { number, value } = event else {
+            return None;
+        };
+        let occurrence = self.judge_directive(*number, *value).ok()?;
+        (occurrence.row == SET_K).then_some(occurrence.value)
+    }
+
+    /// The octets that the store must have between the events.
+    pub fn store(&self) -> usize {
+        store(self.k.into(), self.outstanding())
+    }
+
+    /// The octets that the store must have at an event: "a smaller one is refusal 11, at Set K by
+    /// the new K, and K stays" (document 02, order 7).
+    pub fn store_at(&self, event: &Event, fault: Fault) -> usize {
+        let old_k = self.k.into();
+        let k = match (self.new_k(event), fault) {
+            (None, _) | (_, Fault::StoreByOldK) => old_k,
+            (Some(new_k), Fault::StoreByLargerK) => new_k.max(old_k),
+            (Some(new_k), _) => new_k,
+        };
+        let outstanding = match fault {
+            Fault::StoreByKAlone => 0,
+            _ => self.outstanding(),
+        };
+        match fault {
+            Fault::StoreWithoutWaiting => store(k, outstanding) - UNIT_MOST,
+            _ => store(k, outstanding),
+        }
+    }
+
+    /// Takes an event with a store that suffices and so much room lent for a frame.
     pub fn take(&mut self, event: &Event, room: usize, fault: Fault) -> Answer {
-        self.take_with_store(event, STORE, room, fault)
+        self.take_with_store(event, usize::MAX, room, fault)
     }
 
     /// Takes an event with so long a store and so much room for a frame lent. A refused
@@ -262,7 +313,7 @@ impl Sender {
     pub fn take_with_store(
         &mut self,
         event: &Event,
-        store: usize,
+        lent: usize,
         room: usize,
         fault: Fault,
     ) -> Answer {
@@ -271,7 +322,7 @@ impl Sender {
             Err(refusal) => return self.refuse(event, refusal),
             Ok(occurrence) => occurrence,
         };
-        if store < STORE {
+        if lent < self.store_at(event, fault) {
             return Answer::refused(ROOM, self.state);
         }
         if *event == Event::Tick {
@@ -307,8 +358,8 @@ impl Sender {
     /// Which event of the table it is, if any, or refusal 10, 12 or 7.
     pub fn judge(&self, event: &Event, fault: Fault) -> Result<Option<Occurrence>, u8> {
         let occurrence = match event {
-            Event::AdRequest(unit) => self.judge_ad_request(unit)?,
-            Event::BdRequest(unit) => self.judge_bd_request(unit)?,
+            Event::AdRequest(unit) => self.judge_ad_request(unit, fault)?,
+            Event::BdRequest(unit) => self.judge_bd_request(unit, fault)?,
             Event::Directive { number, value } => self.judge_directive(*number, *value)?,
             Event::ControlWord(octets) => self.judge_word(octets, fault)?,
             Event::Tick if self.timer != 1 => return Ok(None),
@@ -323,8 +374,8 @@ impl Sender {
         Ok(Some(occurrence))
     }
 
-    fn judge_ad_request(&self, unit: &[u8]) -> Result<Occurrence, u8> {
-        unit_within_limits(unit)?;
+    fn judge_ad_request(&self, unit: &[u8], fault: Fault) -> Result<Occurrence, u8> {
+        unit_within_limits(unit, fault)?;
         let row = match self.wait_queue {
             None => 19,
             Some(_) => 20,
@@ -336,8 +387,8 @@ impl Sender {
         })
     }
 
-    fn judge_bd_request(&self, unit: &[u8]) -> Result<Occurrence, u8> {
-        unit_within_limits(unit)?;
+    fn judge_bd_request(&self, unit: &[u8], fault: Fault) -> Result<Occurrence, u8> {
+        unit_within_limits(unit, fault)?;
         let row = if self.bd_out_ready { 21 } else { 22 };
         let unit = unit.to_vec();
         Ok(Occurrence {

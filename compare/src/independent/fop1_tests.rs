@@ -6,7 +6,7 @@ use std::time::Instant;
 
 use super::*;
 use crate::bits;
-use crate::fault::FOP_FAULTS;
+use crate::fault::{FOP_FAULTS, STORE_FAULTS};
 use crate::fecf;
 use crate::random::Random;
 use crate::refusal::ADDRESS;
@@ -14,7 +14,7 @@ use crate::session_random;
 use crate::table_7_8::{cell, Action::*, Cell, Reason::*, State::*, STATES, TABLE};
 use Response::*;
 
-const ROOMY: usize = 256;
+const ROOMY: usize = frame::FRAME_MOST;
 
 fn settings() -> Settings {
     Settings {
@@ -349,9 +349,10 @@ fn refusals() {
     let mut sender = active(|_| ());
     for (event, room, refusal) in [
         (ad(&[]), 0, LENGTH),
-        (ad(&[0; 250]), 0, LENGTH),
+        (ad(&[0; 1018]), 0, LENGTH),
+        (Event::BdRequest(vec![0; 1018]), ROOMY, LENGTH),
         (Event::BdRequest(vec![]), ROOMY, LENGTH),
-        (ad(&[0; 249]), 255, ROOM),
+        (ad(&[0; 1017]), 1023, ROOM),
         (ad(&[0]), 7, ROOM),
         (Event::BdRequest(vec![0]), 7, ROOM),
         (Event::ControlWord(vec![0x01, 0, 0]), ROOMY, LENGTH),
@@ -361,7 +362,7 @@ fn refusals() {
         (directive(4, 256), ROOMY, SETTING),
         (directive(7, 256), ROOMY, SETTING),
         (directive(8, 0), ROOMY, SETTING),
-        (directive(8, 33), ROOMY, SETTING),
+        (directive(8, 128), ROOMY, SETTING),
         (directive(9, 0), ROOMY, SETTING),
         (directive(9, 65_536), ROOMY, SETTING),
         (directive(10, 0), ROOMY, SETTING),
@@ -399,14 +400,16 @@ fn refused_tick() {
 // Document 01, Limits and FOP-1.
 #[test]
 fn starts() {
-    assert_eq!(Sender::start(&settings(), STORE - 1), Err(ROOM));
-    assert_eq!(STORE, 8217);
+    assert_eq!(store(3, 0), 4068);
+    assert_eq!(Sender::start(&settings(), 4067), Err(ROOM));
+    assert!(Sender::start(&settings(), 4068).is_ok());
+    assert_eq!(STORE, 130_176);
     type Set = fn(&mut Settings, usize);
     let limits: [(Set, usize, usize); 6] = [
         (|settings, value| settings.timeout_type = value, 0, 0),
         (|settings, value| settings.spacecraft = value, 0, 1023),
         (|settings, value| settings.channel = value, 0, 63),
-        (|settings, value| settings.k = value, 1, 32),
+        (|settings, value| settings.k = value, 1, 127),
         (|settings, value| settings.t1_initial = value, 1, 65_535),
         (
             |settings, value| settings.transmission_limit = value,
@@ -436,6 +439,55 @@ fn starts() {
         settings.nn_r = nn_r;
         assert_eq!(Sender::start(&settings, STORE).is_ok(), good);
     }
+}
+
+// Document 02, order 7: "units for K, or for all outstanding if more, and one waiting; a smaller
+// one is refusal 11, at Set K by the new K, and K stays".
+#[test]
+fn stores() {
+    let mut sender = active(|settings| settings.k = 4);
+    for n in 0..4 {
+        take(&mut sender, ad(&[n]));
+        take(&mut sender, Event::AdAccept);
+    }
+    let units = |count: usize| count * UNIT_MOST;
+    let lend = |sender: &mut Sender, event: Event, lent: usize| {
+        let before = sender.clone();
+        let answer = sender.take_with_store(&event, lent, ROOMY, Fault::None);
+        assert!(answer.refusal == DONE || (answer.row, &before) == (0, &*sender));
+        answer.refusal
+    };
+    // K 4, 4 outstanding, one more may wait. 10, 12 and 7 come before.
+    assert_eq!(lend(&mut sender, Event::Tick, units(5) - 1), ROOM);
+    assert_eq!(lend(&mut sender, ad(&[4]), units(5) - 1), ROOM);
+    assert_eq!(lend(&mut sender, ad(&[]), 0), LENGTH);
+    assert_eq!(
+        lend(&mut sender, Event::ControlWord(vec![1, 4, 0, 0]), 0),
+        ADDRESS
+    );
+    assert_eq!(lend(&mut sender, ad(&[4]), units(5)), DONE);
+    // Upwards by the new K, and K stays.
+    assert_eq!(lend(&mut sender, directive(8, 6), units(7) - 1), ROOM);
+    assert_eq!(
+        (sender.k, lend(&mut sender, Event::Tick, units(5))),
+        (4, DONE)
+    );
+    assert_eq!(lend(&mut sender, directive(8, 6), units(7)), DONE);
+    // Downwards by the units outstanding, whatever K was.
+    assert_eq!(lend(&mut sender, directive(8, 1), units(5) - 1), ROOM);
+    assert_eq!(lend(&mut sender, directive(8, 1), units(5)), DONE);
+    assert_eq!((sender.k, sender.store()), (1, units(5)));
+    assert_eq!(lend(&mut sender, Event::BdAccept, units(5) - 1), ROOM);
+    // An event is judged by the state before it; then so much less is needed.
+    let word = word([0, 0, 0], 3);
+    assert_eq!(lend(&mut sender, word.clone(), units(5) - 1), ROOM);
+    assert_eq!(lend(&mut sender, word, units(5)), DONE);
+    assert_eq!((sender.outstanding(), sender.store()), (1, units(2)));
+    assert_eq!(lend(&mut sender, Event::BdAccept, units(2)), DONE);
+    // A BC frame is no unit.
+    let mut sender = with(|settings| settings.k = 1);
+    take(&mut sender, directive(3, 0));
+    assert_eq!((sender.sent_queue.len(), sender.outstanding()), (1, 0));
 }
 
 // The rows are E1 to E46 and E101 to E104, each once, and these are some cells.
@@ -551,7 +603,10 @@ fn random_settings(random: &mut Random) -> Settings {
         channel: random.below(64),
         v_s: number,
         nn_r: number,
-        k: random.between(1, 32),
+        k: match random.below(4) {
+            0 => random.between(1, K_MOST),
+            _ => random.between(1, 32),
+        },
         t1_initial: random.between(1, 6),
         transmission_limit: random.between(1, 5),
         timeout_type: 0,
@@ -606,6 +661,43 @@ fn faults_found() {
         println!("{name}: found with sender {found:?}");
         assert!(found.is_some(), "{name}");
     }
+}
+
+// Each fault of the store, and the longer unit, likewise. What is no state is no sender's to say.
+#[test]
+fn store_faults_found() {
+    for (name, fault) in STORE_FAULTS {
+        if fault == Fault::FormerLayoutTaken {
+            continue;
+        }
+        let found = (0..400).find(|seed| store_differs(*seed, fault));
+        println!("{name}: found with sender {found:?}");
+        assert!(found.is_some(), "{name}");
+    }
+}
+
+/// The same with stores about the need, and K going up and down.
+fn store_differs(seed: u64, fault: Fault) -> bool {
+    let mut random = Random::new(seed);
+    let mut settings = random_settings(&mut random);
+    settings.k = random.between(1, 6);
+    let mut right = Sender::start(&settings, STORE).unwrap();
+    let mut wrong = right.clone();
+    for _ in 0..1_000 {
+        let mut draw = |limit| random.below(limit);
+        let (event, room) = match draw(8) {
+            0 => (directive(8, 1 + draw(6)), ROOMY),
+            1 => (ad(&vec![7; UNIT_MOST + draw(2)]), ROOMY),
+            _ => session_random::sender_event(&mut draw, &right),
+        };
+        let need = right.store_at(&event, Fault::None);
+        let lent = [need, need - 1, need - UNIT_MOST, need + UNIT_MOST][draw(4)];
+        let answer = right.take_with_store(&event, lent, room, Fault::None);
+        if wrong.take_with_store(&event, lent, room, fault) != answer {
+            return true;
+        }
+    }
+    false
 }
 
 /// A sender with the fault and one without differ in an answer to the same events.

@@ -1,5 +1,5 @@
 //! The TC Transfer Frame: primary header, data field, FECF (clause 6.2.1), written and
-//! read by the rules of document 01, with document 02's order 10.
+//! read by the rules of document 01, with document 02's orders 7 and 10.
 
 use crate::bits::{self, Field};
 use crate::fault::Fault;
@@ -23,11 +23,17 @@ const HEADER_BITS: usize = 40;
 const UNLOCK: [u8; 1] = [0b0000_0000];
 const SET_VR: [u8; 2] = [0b1000_0010, 0b0000_0000];
 
-/// Limits of a frame and of a unit, in octets, and of an address (document 01, Limits).
-const FRAME_LEAST: usize = 8;
-const FRAME_MOST: usize = 256;
-const UNIT_LEAST: usize = 1;
-const UNIT_MOST: usize = 249;
+/// Limits of a frame and of a unit, in octets (document 01, Limits; "Frames to 1,024 octets
+/// (CLTU 1,186), so units to 1,017": document 02, order 7).
+pub const FRAME_LEAST: usize = 8;
+pub const FRAME_MOST: usize = 1024;
+pub const UNIT_LEAST: usize = 1;
+pub const UNIT_MOST: usize = 1017;
+
+/// The limit of a frame before order 7.
+const FORMER_FRAME_MOST: usize = 256;
+
+/// Limits of an address (document 01, Limits).
 const SPACECRAFT_MOST: u32 = 1023;
 const CHANNEL_MOST: u32 = 63;
 
@@ -119,7 +125,8 @@ impl Read {
     }
 }
 
-/// The frame, whatever its length, as long as each number has room in its field.
+/// The frame, whatever its length, as long as each number has room in its field. Beyond the
+/// limit the header has what ten bits hold of the length.
 pub fn encode(spacecraft: u32, channel: u32, content: &Content, fault: Fault) -> Vec<u8> {
     let data = bits::from_octets(&content.data());
     let all_bits = HEADER_BITS + data.len() + FECF_BITS;
@@ -132,11 +139,20 @@ pub fn encode(spacecraft: u32, channel: u32, content: &Content, fault: Fault) ->
     bits::put(&mut frame, RESERVED_SPARE, 0b00);
     bits::put(&mut frame, SPACECRAFT_IDENTIFIER, spacecraft as usize);
     bits::put(&mut frame, VIRTUAL_CHANNEL_IDENTIFIER, channel as usize);
-    bits::put(&mut frame, FRAME_LENGTH, all_bits / 8 - 1);
+    bits::put(&mut frame, FRAME_LENGTH, (all_bits / 8 - 1) % FRAME_MOST);
     bits::put(&mut frame, FRAME_SEQUENCE_NUMBER, number as usize);
     frame.extend(data);
     frame.extend(fecf::field(&frame, fault));
     bits::to_octets(&frame)
+}
+
+/// The unit's length is within its limits.
+pub fn within_limits(unit: &[u8], fault: Fault) -> bool {
+    let most = match fault {
+        Fault::UnitOneMore => UNIT_MOST + 1,
+        _ => UNIT_MOST,
+    };
+    (UNIT_LEAST..=most).contains(&unit.len())
 }
 
 /// Writes a frame (document 01, Refusals: 10, 12, 11).
@@ -147,8 +163,7 @@ pub fn write(
     output: &mut [u8],
     fault: Fault,
 ) -> Written {
-    let unit = content.data().len();
-    if !(UNIT_LEAST..=UNIT_MOST).contains(&unit) {
+    if !within_limits(&content.data(), fault) {
         return Written::refused(LENGTH);
     }
     let addressed = spacecraft <= SPACECRAFT_MOST && channel <= CHANNEL_MOST;
@@ -159,7 +174,8 @@ pub fn write(
     output::write(&frame, output, fault)
 }
 
-/// Reads a frame (document 01, Refusals: 4, 4, 10, 4, 5, 8, 6, 7, 9).
+/// Reads a frame (document 01, Refusals: 4, 4, 10, 4, 5, 8, 6, 7, 9). No header says over 1,024
+/// octets in its ten bits, so 10 is never due (document 02, order 7).
 pub fn read(octets: &[u8], spacecraft: u32, channel: u32, fault: Fault) -> Read {
     // Frame delimiting and fill removal (clause 6.6).
     if octets.len() < FRAME_LEAST || fault == Fault::FrameRefusesAll {
@@ -170,7 +186,7 @@ pub fn read(octets: &[u8], spacecraft: u32, channel: u32, fault: Fault) -> Read 
     if total < FRAME_LEAST {
         return Read::refused(SHORT);
     }
-    if total > FRAME_MOST {
+    if fault == Fault::FrameFormerLimit && total > FORMER_FRAME_MOST {
         return Read::refused(LENGTH);
     }
     if total > octets.len() {
@@ -304,11 +320,11 @@ mod tests {
 
     #[test]
     fn what_is_written_is_read() {
-        for length in 1..=249 {
+        for length in (1..=300).chain(1000..=1017) {
             for (content, kind, value) in [
                 (
                     Content::Ad {
-                        number: length as u32,
+                        number: length as u32 % 256,
                         unit: unit(length),
                     },
                     AD,
@@ -347,10 +363,12 @@ mod tests {
             (1023, 63, 1, 8, DONE),
             (1023, 63, 249, 256, DONE),
             (1023, 63, 249, 255, ROOM),
+            (1023, 63, 1017, 1024, DONE),
+            (1023, 63, 1017, 1023, ROOM),
             (1024, 63, 1, 7, SETTING),
             (1023, 64, 1, 7, SETTING),
             (1024, 64, 0, 0, LENGTH),
-            (0, 0, 250, 400, LENGTH),
+            (0, 0, 1018, 1100, LENGTH),
         ] {
             let content = Content::Bd { unit: unit(length) };
             let mut output = vec![0xAA; room];
@@ -405,11 +423,25 @@ mod tests {
             frame[3] = 0x10;
             assert_eq!(read(&frame, 2, 0, Fault::None).number, SHORT);
             frame[2] = 0x03;
-            assert_eq!(read(&frame, 2, 0, Fault::None).number, LENGTH);
+            assert_eq!(read(&frame, 2, 0, Fault::None).number, SHORT);
             assert_eq!(read(&frame[..7], 2, 0, Fault::None).number, SHORT);
             frame[2] = 0;
             frame[3] = 0x06;
             assert_eq!(read(&frame, 2, 0, Fault::None).number, SHORT);
+        }
+    }
+
+    // Document 02, order 7: "Refusal 10 moves to the new limits", which no header exceeds.
+    #[test]
+    fn no_length_is_refused_with_10() {
+        for total in 1..=FRAME_MOST {
+            let length = total - 1;
+            let header = [0x20, 0x01, (length >> 8) as u8, length as u8, 0];
+            let mut octets = with_fecf(&[&header[..], &unit(total.saturating_sub(7))].concat());
+            let number = if total < 8 { SHORT } else { DONE };
+            assert_eq!(read(&octets, 1, 0, Fault::None).number, number);
+            octets.pop();
+            assert_eq!(read(&octets, 1, 0, Fault::None).number, SHORT);
         }
     }
 

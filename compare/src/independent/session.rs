@@ -9,7 +9,7 @@ use crate::bits;
 use crate::clcw;
 use crate::farm1::{self, Arrival, Farm1};
 use crate::fault::Fault;
-use crate::fop1::{self, Answer, Sender, STORE};
+use crate::fop1::{self, Answer, Sender};
 use crate::frame;
 use crate::recorder::{is_ad, Recorder};
 use crate::refusal::{ADDRESS, DONE, LENGTH, SETTING};
@@ -237,7 +237,7 @@ impl Session {
             transmission_limit: settings.transmission_limit,
             timeout_type: 0,
         };
-        let mut sender = Sender::start(&of_sender, STORE)?;
+        let mut sender = Sender::start(&of_sender, usize::MAX)?;
         let receiver = Farm1::start(settings.window, settings.number, settings.buffers)?;
         if settings.k > receiver.half_window() {
             return Err(SETTING);

@@ -10,8 +10,8 @@ use crate::cltu;
 use crate::fault::Fault;
 use crate::fecf::{self, FECF_BITS};
 use crate::frame::{
-    self, Content, BYPASS_FLAG, CONTROL_COMMAND_FLAG, FILL_MOST, FRAME_LENGTH,
-    FRAME_SEQUENCE_NUMBER, RESERVED_SPARE, VERSION_NUMBER,
+    self, Content, BYPASS_FLAG, CONTROL_COMMAND_FLAG, FILL_MOST, FRAME_LEAST, FRAME_LENGTH,
+    FRAME_MOST, FRAME_SEQUENCE_NUMBER, RESERVED_SPARE, VERSION_NUMBER,
 };
 use crate::session::{inverted, Session};
 use crate::session_random::{between, Draw};
@@ -62,7 +62,7 @@ pub fn noise(draw: Draw, session: &Session) -> Vec<u8> {
         }
         8 => too_much_fill(draw, session),
         9 => wrong_header(draw, session),
-        10 => too_long(draw, session),
+        10 => too_short(draw, session),
         // A frame that is not refused, or as a BC frame: most have the number of an AD frame,
         // others carry no command.
         _ => {
@@ -219,10 +219,12 @@ fn too_much_fill(draw: Draw, session: &Session) -> Vec<u8> {
     frame
 }
 
-/// Its header says over 256 octets.
-fn too_long(draw: Draw, session: &Session) -> Vec<u8> {
-    let total = between(draw, 257, NOISE_MOST);
-    let mut frame = under_way_or_new(draw, session);
-    frame.resize(total, 0);
+/// Its header says more octets than there are, or fewer than a frame has.
+fn too_short(draw: Draw, session: &Session) -> Vec<u8> {
+    let frame = under_way_or_new(draw, session);
+    let total = match draw(2) {
+        0 if frame.len() < FRAME_MOST => between(draw, frame.len() + 1, FRAME_MOST),
+        _ => between(draw, 1, FRAME_LEAST - 1),
+    };
     changed(frame, &[(FRAME_LENGTH, total - 1)])
 }

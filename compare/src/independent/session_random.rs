@@ -5,6 +5,7 @@ use crate::bits;
 use crate::clcw;
 use crate::fault::Fault;
 use crate::fop1::{self, Sender, UNIT_MOST};
+use crate::frame::FRAME_MOST;
 use crate::session::{Event, Session, Settings};
 use crate::session_check::{Checker, Claim};
 use crate::session_noise::{damage, fill, noise, word_noise};
@@ -14,7 +15,13 @@ use crate::table_7_8::State;
 pub type Draw<'a> = &'a mut dyn FnMut(usize) -> usize;
 
 /// Room for any frame.
-pub const ROOM_MOST: usize = 256;
+pub const ROOM_MOST: usize = FRAME_MOST;
+
+/// A window is wide from here on.
+const WIDE: usize = 32;
+
+/// Most of the long units have so many octets at the most.
+const LONG: usize = 250;
 
 /// The events left where a session is terminated.
 const LEFT_AT_TERMINATE: usize = 60;
@@ -39,9 +46,9 @@ pub struct Course {
 }
 
 impl Course {
-    pub fn new(draw: Draw) -> Course {
+    pub fn new(draw: Draw, settings: &Settings) -> Course {
         Course {
-            manner: manner(draw),
+            manner: manner(draw, settings.k),
             pass: None,
         }
     }
@@ -81,13 +88,15 @@ pub fn between(draw: Draw, least: usize, most: usize) -> usize {
 
 /// Settings within their limits, K at most PW.
 pub fn settings(draw: Draw) -> Settings {
-    let half_window = match draw(3) {
-        0 => between(draw, 1, 4),
-        1 => between(draw, 1, 32),
+    let half_window = match draw(12) {
+        0 => fop1::K_MOST,
+        1..=4 => between(draw, 1, 4),
+        5..=8 => between(draw, 1, 32),
         _ => between(draw, 1, 127),
     };
     let k_most = half_window.min(fop1::K_MOST);
     let k = match draw(3) {
+        _ if half_window == fop1::K_MOST => k_most,
         0 => k_most,
         1 => between(draw, 1, k_most.min(4)),
         _ => between(draw, 1, k_most),
@@ -113,8 +122,8 @@ pub fn settings(draw: Draw) -> Settings {
     }
 }
 
-/// How busy a session is, how lossy, how soon it ends.
-fn manner(draw: Draw) -> Manner {
+/// How busy a session with that K is, how lossy, how soon it ends.
+fn manner(draw: Draw, k: usize) -> Manner {
     let mut shares = [0; KINDS];
     let most = [
         2000, 300, 800, 2500, 50, 300, 1, 1, 1, 1, 2000, 2500, 2000, 2000, 400, 2000, 2000, 2000,
@@ -134,6 +143,11 @@ fn manner(draw: Draw) -> Manner {
     if draw(8) == 0 {
         shares[BEYOND..].fill(0);
     }
+    // Units come faster than they are taken, so that a wide window is full.
+    if k > WIDE && draw(3) > 0 {
+        shares = shares.map(|share| share / 40 + 1);
+        (shares[0], shares[3]) = (2000, 2500);
+    }
     let under_way = match draw(3) {
         0 => usize::MAX,
         1 => between(draw, 1, 40),
@@ -145,9 +159,10 @@ fn manner(draw: Draw) -> Manner {
 fn unit(draw: Draw) -> Vec<u8> {
     let length = match draw(40) {
         0 => 0,
-        1 => between(draw, UNIT_MOST + 1, 260),
-        2 => UNIT_MOST,
-        3 | 4 => between(draw, 1, UNIT_MOST),
+        1 => between(draw, UNIT_MOST + 1, UNIT_MOST + 10),
+        2 if draw(4) == 0 => UNIT_MOST,
+        3 if draw(4) == 0 => between(draw, 1, UNIT_MOST),
+        2..=4 => between(draw, 1, LONG),
         _ => between(draw, 1, 6),
     };
     (0..length).map(|_| draw(256) as u8).collect()
@@ -162,8 +177,9 @@ fn legal_units(draw: Draw) -> Vec<Vec<u8>> {
     let mut units = Vec::new();
     for _ in 0..count {
         let length = match draw(8) {
-            0 => UNIT_MOST,
-            1 => between(draw, 1, UNIT_MOST),
+            0 if draw(4) == 0 => UNIT_MOST,
+            1 if draw(4) == 0 => between(draw, 1, UNIT_MOST),
+            0 | 1 => between(draw, 1, LONG),
             _ => between(draw, 1, 6),
         };
         units.push((0..length).map(|_| draw(256) as u8).collect());
@@ -300,7 +316,7 @@ fn directive(draw: Draw, initial: bool) -> fop1::Event {
         0 => draw(70_000),
         1 => draw(2),
         2 => usize::MAX - draw(2),
-        3 => [1, 32, 33, 255, 256, 65_535, 65_536][draw(7)],
+        3 => [1, 127, 128, 255, 256, 65_535, 65_536][draw(7)],
         4 => draw(256),
         _ => between(draw, 1, 8),
     };

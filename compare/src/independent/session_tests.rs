@@ -17,7 +17,7 @@ use crate::session_pass::Pass;
 use crate::session_random::{self, Course};
 use crate::table_7_8::{Reason, State};
 
-const ROOM: usize = 256;
+const ROOM: usize = 1024;
 
 fn ad(octet: u8) -> Event {
     Event::AdRequest {
@@ -452,7 +452,7 @@ fn random_session(seed: u64, fault: Fault, counts: &mut Counts) -> Result<(), St
     let mut random = Random::new(seed);
     let mut draw = |limit| random.below(limit);
     let settings = session_random::settings(&mut draw);
-    let mut course = Course::new(&mut draw);
+    let mut course = Course::new(&mut draw, &settings);
     let mut session = Session::start(&settings).unwrap();
     let mut checker = Checker::new(&settings).unwrap();
     let most = [1_000, 4_000, 16_000][draw(3)];

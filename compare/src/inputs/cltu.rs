@@ -6,6 +6,7 @@ use independent::bits;
 use independent::cltu::{self, START_SEQUENCE, TAIL_SEQUENCE};
 use independent::codeblock;
 use independent::fault::Fault;
+use independent::frame::FRAME_MOST;
 use std::iter;
 
 /// The octets with their error control octet: a good codeblock where there are seven.
@@ -17,9 +18,11 @@ pub fn with_error_control(information: &[u8]) -> Vec<u8> {
 
 /// A frame for the CLTU: mostly short, now and then of any length.
 fn frame(random: &mut Random) -> Vec<u8> {
-    let length = match random.below(8) {
-        0 => random.between(8, 256),
-        1 => *random.pick(&[8, 13, 14, 15, 21, 22]),
+    let length = match random.below(32) {
+        0 => random.between(8, FRAME_MOST),
+        1 => *random.pick(&[FRAME_MOST - 2, FRAME_MOST - 1, FRAME_MOST]),
+        2 | 3 => random.between(8, 256),
+        4..=7 => *random.pick(&[8, 13, 14, 15, 21, 22]),
         _ => random.between(8, 60),
     };
     random.octets(length)

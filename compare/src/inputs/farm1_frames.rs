@@ -1,6 +1,6 @@
 //! What a receiver starts with, and the frames that come to it.
 
-use super::frame::{change, for_the_reader, repair};
+use super::frame::{change, for_the_reader, repair, unit_length};
 use super::{each_too_wide, too_wide};
 use crate::random::Random;
 use independent::bits::Field;
@@ -87,9 +87,8 @@ pub fn frame(
 }
 
 fn content(random: &mut Random, harm: usize, farm: &Farm1) -> Content {
-    let length = match random.below(12) {
-        0 => *random.pick(&[1, 248, 249]),
-        1 => random.between(1, 249),
+    let length = match random.below(3) {
+        0 => unit_length(random),
         _ => random.between(1, 12),
     };
     match random.below(16) {

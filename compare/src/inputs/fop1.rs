@@ -7,7 +7,7 @@ use crate::random::Random;
 use independent::bits;
 use independent::clcw::{self, NO_BIT_LOCK_FLAG, NO_RF_AVAILABLE_FLAG, STATUS_FIELD};
 use independent::fault::Fault;
-use independent::fop1::{Sender, STORE, UNIT_MOST};
+use independent::fop1::{self, Sender, K_MOST, STORE, UNIT_MOST};
 use independent::table_7_8::State;
 
 /// Settings, of which one is too wide for an octet, or two.
@@ -38,11 +38,14 @@ pub fn start(random: &mut Random) -> (SenderSettings, Vec<u8>, Vec<u8>) {
             spoil(random, &mut settings);
         }
     }
+    let need = fop1::store((settings.k as usize).min(K_MOST), 0);
     let store = match random.below(12) {
-        0 => STORE - 1,
-        1 => random.below(STORE),
-        2 => random.between(STORE, STORE + 300),
-        _ => STORE,
+        0 => need - 1,
+        1 => random.below(need),
+        2 => random.between(need, need + 300),
+        3 if random.once_in(8) => STORE,
+        4 => need - UNIT_MOST,
+        _ => need,
     };
     let state = match random.below(12) {
         0 => random.below(SENDER_STATE),
@@ -61,14 +64,18 @@ fn settings(random: &mut Random) -> SenderSettings {
     };
     let ahead = match random.below(4) {
         0 => random.between(0, 32) as u8,
-        1 => *random.pick(&[1, 31, 32, 33, 127, 128, 254, 255]),
+        1 => *random.pick(&[1, 31, 32, 33, 126, 127, 128, 254, 255]),
         _ => 0,
     };
     SenderSettings {
-        k: match random.below(3) {
-            0 => random.between(1, 3) as u32,
-            1 => 32,
-            _ => random.between(1, 32) as u32,
+        // Mostly small, so that the stores are.
+        k: match random.below(24) {
+            0..=9 => random.between(1, 3) as u32,
+            10..=18 => random.between(1, 16) as u32,
+            19 => 32,
+            20 => random.between(1, 32) as u32,
+            21 => random.between(1, K_MOST) as u32,
+            _ => K_MOST as u32,
         },
         t1_initial: match random.below(4) {
             0 => random.between(1, 3) as u32,
@@ -90,9 +97,9 @@ fn settings(random: &mut Random) -> SenderSettings {
 
 /// One setting at or beyond its limit.
 fn spoil(random: &mut Random, settings: &mut SenderSettings) {
-    let ahead = *random.pick(&[32, 33, 128, 255]);
+    let ahead = *random.pick(&[32, 33, 127, 128, 255]);
     match random.below(10) {
-        0 => settings.k = *random.pick(&[0, 1, 32, 33, 34, 128, 255]),
+        0 => settings.k = *random.pick(&[0, 1, 33, 127, 128, 129, 255]),
         1 => settings.t1_initial = *random.pick(&[0, 1, 256, 65_535, 65_536]),
         2 => settings.transmission_limit = *random.pick(&[0, 1, 255, 256]),
         3 => settings.spacecraft = *random.pick(&[0, 1023, 1024, 32_768, 65_535]),
@@ -123,20 +130,36 @@ fn spoil_width(random: &mut Random, settings: &mut SenderSettings) {
 /// What a run is like.
 pub struct Manner {
     /// The shares of its events, in the order of `event`.
-    shares: [usize; 9],
+    shares: [usize; KINDS],
     /// Once in so many times something comes that may end the service.
     harm: usize,
-    /// Long units too.
-    long: bool,
+    /// Units of all lengths up to this.
+    unit_most: usize,
+    /// Once in so many times a unit has the largest length.
+    largest: usize,
+    /// Next to nothing comes but units and their accepts, so that the widest window is full.
+    full: bool,
 }
 
+/// The kinds of events.
+const KINDS: usize = 10;
+
 impl Manner {
-    pub fn new(random: &mut Random) -> Manner {
+    pub fn new(random: &mut Random, sender: &Sender) -> Manner {
+        if sender.k > 32 || random.once_in(12) {
+            return Manner {
+                shares: [400, 4, 2, 4, 400, 2, 2, 1, 2, 2],
+                harm: 5000,
+                unit_most: 12,
+                largest: *random.pick(&[1, 4, 40]),
+                full: true,
+            };
+        }
         // Much is sent and little of it acknowledged.
         let deep = random.once_in(3);
         let mut shares = match deep {
-            true => [120, 4, 4, 10, 120, 8, 8, 1, 8],
-            false => [60, 10, 12, 40, 60, 8, 10, 1, 50],
+            true => [120, 4, 4, 10, 120, 8, 8, 1, 8, 8],
+            false => [60, 10, 12, 40, 60, 8, 10, 1, 50, 8],
         };
         for share in &mut shares {
             let most = *share;
@@ -153,7 +176,9 @@ impl Manner {
                 true => *random.pick(&[300, 5000]),
                 false => *random.pick(&[5, 40, 300, 5000]),
             },
-            long: random.once_in(3),
+            unit_most: *random.pick(&[12, 12, 12, 12, 12, 12, 12, 250, 250, 250, UNIT_MOST]),
+            largest: 40,
+            full: false,
         }
     }
 }
@@ -161,7 +186,11 @@ impl Manner {
 /// The next event.
 pub fn event(random: &mut Random, manner: &Manner, sender: &Sender) -> SenderEvent {
     if sender.state == State::S6 && random.once_in(3) {
-        let number = random.between(1, 4) as u32;
+        let number = if manner.full {
+            1
+        } else {
+            random.between(1, 4) as u32
+        };
         let value = random.below(256) as u32;
         return SenderEvent::Directive { number, value };
     }
@@ -173,7 +202,7 @@ pub fn event(random: &mut Random, manner: &Manner, sender: &Sender) -> SenderEve
             value: 0,
         };
     }
-    let kinds: [usize; 9] = std::array::from_fn(|kind| kind);
+    let kinds: [usize; KINDS] = std::array::from_fn(|kind| kind);
     let mut rest = random.below(manner.shares.iter().sum());
     let kind = kinds.into_iter().find(|kind| {
         let is_this = rest < manner.shares[*kind];
@@ -195,18 +224,33 @@ pub fn event(random: &mut Random, manner: &Manner, sender: &Sender) -> SenderEve
                 too_wide(random, good)
             }
         }),
-        _ => SenderEvent::ControlWord(word(random, manner, sender)),
+        8 => SenderEvent::ControlWord(word(random, manner, sender)),
+        _ => set_k(random, sender),
+    }
+}
+
+/// Set K about K, about the units outstanding, or to any value, mostly a small one.
+fn set_k(random: &mut Random, sender: &Sender) -> SenderEvent {
+    let about = |random: &mut Random, value: usize| (value + random.below(3)).saturating_sub(1);
+    let value = match random.below(16) {
+        0 => random.between(1, K_MOST),
+        1..=4 => random.between(1, 6),
+        5..=9 => about(random, sender.outstanding()),
+        _ => about(random, sender.k.into()),
+    };
+    SenderEvent::Directive {
+        number: 8,
+        value: value.clamp(1, K_MOST + 1) as u32,
     }
 }
 
 fn unit(random: &mut Random, manner: &Manner) -> Vec<u8> {
     let length = match random.below(40) {
         0 => 0,
-        1 => *random.pick(&[250, 251, 256, 505]),
-        2 => UNIT_MOST,
-        3 => 1,
-        _ if manner.long => random.between(1, UNIT_MOST),
-        _ => random.between(1, 12),
+        1 => UNIT_MOST + *random.pick(&[1, 1, 2, 7, 256]),
+        2 if manner.largest > 1 => 1,
+        _ if random.once_in(manner.largest) => UNIT_MOST,
+        _ => random.between(1, manner.unit_most),
     };
     random.octets(length)
 }
@@ -236,18 +280,18 @@ fn directive(random: &mut Random, manner: &Manner, sender: &Sender) -> SenderEve
         _ => number,
     };
     let least_and_most: [u32; 2] = match number {
-        8 => [1, 32],
+        8 => [1, 32.max(sender.k.into())],
         9 => [1, *random.pick(&[3, 60, 65_535])],
         10 => [1, *random.pick(&[1, 4, 255])],
         11 => [0, 0],
         _ => [0, 255],
     };
     let value = match random.below(8) {
-        0 => *random.pick(&[0, 1, 2, 32, 33, 255, 256, 65_535, 65_536]),
+        0 => *random.pick(&[0, 1, 2, 127, 128, 255, 256, 65_535, 65_536]),
         1 => least_and_most[1] + 1,
         2 => {
             let high = *random.pick(&[65_536, 1 << 24, 1 << 31]);
-            high + random.between(1, 32) as u32
+            high + random.between(1, K_MOST) as u32
         }
         3 if random.once_in(4) => random.number() as u32,
         _ => random.between(least_and_most[0] as usize, least_and_most[1] as usize) as u32,

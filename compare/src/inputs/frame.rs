@@ -6,8 +6,9 @@ use independent::bits::{self, Field};
 use independent::fault::Fault;
 use independent::fecf;
 use independent::frame::{
-    self, Content, BYPASS_FLAG, CONTROL_COMMAND_FLAG, FRAME_LENGTH, FRAME_SEQUENCE_NUMBER,
-    RESERVED_SPARE, SPACECRAFT_IDENTIFIER, VERSION_NUMBER, VIRTUAL_CHANNEL_IDENTIFIER,
+    self, Content, BYPASS_FLAG, CONTROL_COMMAND_FLAG, FRAME_LENGTH, FRAME_MOST,
+    FRAME_SEQUENCE_NUMBER, RESERVED_SPARE, SPACECRAFT_IDENTIFIER, UNIT_MOST, VERSION_NUMBER,
+    VIRTUAL_CHANNEL_IDENTIFIER,
 };
 
 /// What is lent to the reader, and its own address.
@@ -80,10 +81,12 @@ pub fn any_address(random: &mut Random) -> (u32, u32) {
 }
 
 /// The length of a unit: mostly short, now and then any.
-fn unit_length(random: &mut Random) -> usize {
-    match random.below(8) {
-        0 => random.between(1, 249),
-        1 => *random.pick(&[1, 2, 3, 248, 249]),
+pub fn unit_length(random: &mut Random) -> usize {
+    match random.below(32) {
+        0 => random.between(1, UNIT_MOST),
+        1..=3 => random.between(1, 260),
+        4 => *random.pick(&[UNIT_MOST - 1, UNIT_MOST]),
+        5..=7 => *random.pick(&[1, 2, 3, 248, 249, 250]),
         _ => random.between(1, 30),
     }
 }
@@ -121,7 +124,7 @@ fn plain(random: &mut Random) -> Input {
     sent(&content, random)
 }
 
-const KINDS: [Kind<Input>; 14] = [
+const KINDS: [Kind<Input>; 15] = [
     (14, whole),
     (8, other_address),
     (10, damaged),
@@ -130,7 +133,8 @@ const KINDS: [Kind<Input>; 14] = [
     (8, wrong_command),
     (6, numbered_type_b),
     (10, wrong_length),
-    (2, too_long),
+    (2, long),
+    (1, beyond_the_limit),
     (6, cut_short),
     (20, several_rules_broken),
     (2, only_noise),
@@ -314,27 +318,36 @@ fn break_length(octets: &mut [u8], random: &mut Random) {
         // Too short.
         0 => random.between(1, 7),
         1 => 7,
-        // Too long.
-        2 => random.between(257, 1024),
-        3 => *random.pick(&[257, 258, 1024]),
-        // More than is lent.
+        // Mostly more than is lent.
+        2 => random.between(257, FRAME_MOST),
+        3 => *random.pick(&[257, 258, FRAME_MOST]),
         4 => lent + 1,
         5 => lent + random.between(1, 255),
         // Less than was sent: the rest is fill, or too much of it.
         6 => lent - random.between(0, 8).min(lent - 1),
         7 => random.between(1, lent),
-        _ => random.between(1, 1024),
+        _ => random.between(1, FRAME_MOST),
     };
-    change(octets, FRAME_LENGTH, total.min(1024) - 1);
+    change(octets, FRAME_LENGTH, total.min(FRAME_MOST) - 1);
 }
 
-/// A frame of 257 to 1,024 octets, otherwise as it should be; whole, with fill or cut.
-fn too_long(random: &mut Random) -> Input {
+/// A frame of 257 to 1,024 octets; whole, with fill or cut.
+fn long(random: &mut Random) -> Input {
     let length = match random.below(4) {
-        0 => *random.pick(&[250, 251, 1016, 1017]),
-        1 => random.between(250, 1017),
+        0 => *random.pick(&[250, 251, UNIT_MOST - 1, UNIT_MOST]),
+        1 => random.between(250, UNIT_MOST),
         _ => random.between(250, 300),
     };
+    of_length(random, length)
+}
+
+/// A frame of over 1,024 octets, of whose length the header has ten bits.
+fn beyond_the_limit(random: &mut Random) -> Input {
+    let length = UNIT_MOST + random.between(1, 40);
+    of_length(random, length)
+}
+
+fn of_length(random: &mut Random, length: usize) -> Input {
     let unit = random.octets(length);
     let number = random.between(0, 255) as u32;
     let contents = [
@@ -412,10 +425,13 @@ fn only_noise(random: &mut Random) -> Input {
 /// Noise whose header has a length that fits; the rest of the header, the FECF and the
 /// address may fit too.
 fn noise_with_a_header(random: &mut Random) -> Input {
-    let length = random.between(8, 262);
+    let length = match random.below(8) {
+        0 => random.between(8, FRAME_MOST + 8),
+        _ => random.between(8, 262),
+    };
     let mut octets = random.octets(length);
     let fill = random.between(0, 8);
-    let total = length.saturating_sub(fill).max(7);
+    let total = length.saturating_sub(fill).clamp(7, FRAME_MOST);
     change(&mut octets, FRAME_LENGTH, total - 1);
     if random.once_in(2) {
         change(&mut octets, VERSION_NUMBER, 0);
