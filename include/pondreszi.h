@@ -30,7 +30,8 @@
  *
  * The states of sender and receiver are octets that the caller keeps, so that a unit can store them and go on after a reset. Whatever
  * octets come back, nothing breaks: those that are no state are refused with 12, and nothing changes. Octets that are one are taken
- * as they are, so keep a state whole, and the sender's state together with its store.
+ * as they are, so keep a state whole, and the sender's state together with its store. A sender's octets of the former layout (88 octets,
+ * 1 in octet 1) are refused with 12: the store that was kept with them has another stride.
  */
 #ifndef PONDRESZI_H
 #define PONDRESZI_H
@@ -42,20 +43,20 @@
 extern "C" {
 #endif
 
-/* Limits (document 01). ---------------------------------------------------------------------------------------------------------- */
+/* Limits (document 01; frames, units and K: document 02, order 7). ------------------------------------------------------------- */
 
 #define PONDRESZI_SMALLEST_FRAME 8 /* octets of a transfer frame, with its FECF */
-#define PONDRESZI_LARGEST_FRAME 256
+#define PONDRESZI_LARGEST_FRAME 1024
 #define PONDRESZI_SMALLEST_UNIT 1 /* octets of a unit (FDU) */
-#define PONDRESZI_LARGEST_UNIT 249
+#define PONDRESZI_LARGEST_UNIT 1017
 #define PONDRESZI_FRAME_HEADER_OCTETS 5 /* the data field begins behind them */
 #define PONDRESZI_LARGEST_FILL 6        /* octets that may follow a frame out of a CLTU */
 
-#define PONDRESZI_SMALLEST_CLTU 26 /* octets of the CLTU of a frame of 8 octets */
-#define PONDRESZI_LARGEST_CLTU 306 /* and of a frame of 256 */
+#define PONDRESZI_SMALLEST_CLTU 26  /* octets of the CLTU of a frame of 8 octets */
+#define PONDRESZI_LARGEST_CLTU 1186 /* and of a frame of 1,024 */
 #define PONDRESZI_LARGEST_CLTU_INPUT 4096
-#define PONDRESZI_LARGEST_DECODED_FRAME 259 /* what one frame's CLTU gives at the most: 256 octets and fill */
-#define PONDRESZI_LARGEST_DECODED 3570      /* what any input gives at the most */
+#define PONDRESZI_LARGEST_DECODED_FRAME 1029 /* what one frame's CLTU gives at the most: 1,024 octets and fill */
+#define PONDRESZI_LARGEST_DECODED 3570       /* what any input gives at the most */
 
 /* The octets of the CLTU of a frame of n octets: start sequence, codeblocks of seven octets and their error control, tail. */
 #define PONDRESZI_CLTU_OCTETS(n) (2 + 8 * (((n) + 6) / 7) + 8)
@@ -76,14 +77,21 @@ extern "C" {
 #define PONDRESZI_LARGEST_BUFFERS 8
 
 #define PONDRESZI_SMALLEST_K 1 /* FOP_Sliding_Window_Width K: at most PW of the receiver, or it may lock out */
-#define PONDRESZI_LARGEST_K 32
+#define PONDRESZI_LARGEST_K 127
 #define PONDRESZI_SMALLEST_T1 1 /* T1_Initial, in ticks */
 #define PONDRESZI_LARGEST_T1 65535
 #define PONDRESZI_SMALLEST_TRANSMISSION_LIMIT 1
 #define PONDRESZI_LARGEST_TRANSMISSION_LIMIT 255
 
-#define PONDRESZI_STORE_OCTETS 8217 /* the sender's store: 32 units of 249 octets sent and one waiting; keep nothing else in it */
-#define PONDRESZI_SENDER_STATE_OCTETS 88
+/*
+ * The octets that the sender's store must have: places for K units sent and one waiting, each of the largest length. Where K was set
+ * below the units on the sent queue, places for these and one waiting. Keep nothing else in them.
+ */
+#define PONDRESZI_STORE_OCTETS(k) (((size_t)(k) + 1) * PONDRESZI_LARGEST_UNIT)
+#define PONDRESZI_STORE_NEED(k, sent) PONDRESZI_STORE_OCTETS((size_t)(k) > (size_t)(sent) ? (size_t)(k) : (size_t)(sent))
+#define PONDRESZI_LARGEST_STORE PONDRESZI_STORE_OCTETS(PONDRESZI_LARGEST_K) /* 130,176: enough for any K */
+
+#define PONDRESZI_SENDER_STATE_OCTETS 278
 #define PONDRESZI_ANSWER_OCTETS 18
 #define PONDRESZI_RECEIVER_STATE_OCTETS 12
 
@@ -100,7 +108,7 @@ enum pondreszi_refusal {
     PONDRESZI_ADDRESS = 7,  /* spacecraft or virtual channel is not ours (frame or CLCW) */
     PONDRESZI_CHECK = 8,    /* the FECF differs */
     PONDRESZI_COMMAND = 9,  /* BC data is neither command */
-    PONDRESZI_LENGTH = 10,  /* empty unit, a length below or above its limit where no 4 is due, or a CLCW not of four octets */
+    PONDRESZI_LENGTH = 10,  /* empty unit, a length below or above its limit, or a CLCW not of four octets; never of a frame read */
     PONDRESZI_ROOM = 11,    /* a lent buffer is shorter than the exact need */
     PONDRESZI_SETTING = 12, /* a value outside its limit, an unknown directive, or octets that are no state */
     PONDRESZI_RELEASE = 13  /* a buffer release when none is taken */
@@ -133,7 +141,7 @@ uint8_t pondreszi_codeblock_judge(const uint8_t *block, size_t block_len, uint32
 uint8_t pondreszi_randomizer_octet(uint64_t place);
 
 /*
- * Writes the CLTU of a frame of 8 to 256 octets: PONDRESZI_CLTU_OCTETS(frame_len) octets, told in count.
+ * Writes the CLTU of a frame of 8 to 1,024 octets: PONDRESZI_CLTU_OCTETS(frame_len) octets, told in count.
  * Refusals: 10 frame length, 11 output too short.
  */
 uint8_t pondreszi_cltu_write(const uint8_t *frame, size_t frame_len, uint8_t *output, size_t output_len, uint64_t *count);
@@ -188,7 +196,8 @@ enum pondreszi_frame_kind {
  *
  * kind: enum pondreszi_frame_kind. value: N(S) of an AD frame, the value of Set V(R), otherwise 0. total: the octets of the frame.
  * field: the octets of its data field, which is octets[5 .. 5 + field]. All are 0 after a refusal.
- * Refusals, in this order: 4, 10, 4, 5, 8, 6, 7, 9.
+ * Refusals, in this order: 4, 5, 8, 6, 7, 9. Document 01 has 10 behind the first 4, where the header says too many octets; since the limit
+ * is 1,024, which is all that its ten bits can say, reading a frame never answers 10.
  *
  * Document 01 said of the sequence octet, octets[4]: "Type-B frames are written with N(S) zero; on reading it isn't looked at." Document
  * 02, order 10, amends this: "A type-B frame whose sequence octet isn't zero is now refusal 6, judged where 6 was judged, and so event
@@ -304,22 +313,32 @@ uint8_t pondreszi_receiver_word(const uint8_t *state, size_t state_len, uint8_t 
 /* The sender: FOP-1 (table 7-8). ------------------------------------------------------------------------------------------------- */
 
 /*
- * Its state, 88 octets; numbers of two octets have the high octet first. Read them, but let only the functions below write them.
+ * Its state, 278 octets; numbers of two octets have the high octet first. Read them, but let only the functions below write them.
  *
  *   0 53 hex                     8-9 spacecraft           16 enum pondreszi_sender_flag, added
- *   1 layout, 1                  10 channel               17 Suspend_State, 0 for now
+ *   1 layout, 2                  10 channel               17 Suspend_State, 0 for now
  *   2 enum pondreszi_fop_state   11 V(S)                  18 units on the sent queue
  *   3 K                          12 NN(R)                 19 of these to be sent again, always the last ones
  *   4-5 T1_Initial               13-14 timer, ticks left, 20 type-BC frame on the sent queue: 0 none, 1 Unlock, 2 Set V(R)
  *   6 Transmission_Limit               0 stopped          21 the value of Set V(R)
- *   7 Timeout_Type, 0 for now    15 Transmission_Count    22-87 the lengths of the 33 places of the store, two octets each
+ *   7 Timeout_Type, 0 for now    15 Transmission_Count    22-277 the lengths of the 128 places of the store, two octets each
  *
- * Every call but pondreszi_sender_new wants exactly 88 octets of a state, otherwise 12. The length of a place that holds no unit is left
- * from before, so two states can mean the same and differ in octets 22 to 87: compare what they mean, not their octets.
+ * Every call but pondreszi_sender_new wants exactly 278 octets of a state, otherwise 12. Octets of the former layout, with 1 in octet 1,
+ * are refused with 12 too, since their store has another stride. The length of a place that holds no unit is left from before, so two
+ * states can mean the same and differ in octets 22 to 277: compare what they mean, not their octets.
  *
- * The store, at least 8,217 octets, holds the units at a stride of 249 octets: those on the sent queue, the oldest first, and directly
- * behind them the unit that waits. It is part of the state: lend the same one at every call, write nothing into its first 8,217 octets,
- * and keep these with the state's octets over a reset. Octets that are lent behind them are never touched.
+ * The store holds the units at a stride of 1,017 octets from its first octet on: those on the sent queue, the oldest first, and directly
+ * behind them the unit that waits. It is part of the state: its octets are to be the same at the next call, and are kept with the state's
+ * over a reset.
+ *
+ * How long it must be follows from the state before the event: PONDRESZI_STORE_NEED(state[PONDRESZI_SENDER_K],
+ * state[PONDRESZI_SENDER_SENT]) octets; a shorter one is 11. No event reads or writes behind that need, whatever is lent, and no event
+ * but Set K raises it. So octets behind it need not be kept; and where K is below the units on the sent queue the need falls as these
+ * are confirmed, and a host may lend less at a later event.
+ *
+ * Set K is judged by the new K, or by the units on the sent queue if these are more, and not by the old K. Upwards: lend a longer store
+ * that begins with the same octets; where it is too short, 11, and K stays. Downwards: a store for the new K and for the units on the
+ * sent queue is enough.
  */
 enum pondreszi_sender_octet {
     PONDRESZI_SENDER_STATE = 2,
@@ -439,7 +458,7 @@ enum pondreszi_directive {
     PONDRESZI_TERMINATE = 5,
     PONDRESZI_RESUME = 6,                  /* always rejected for now, since nothing suspends */
     PONDRESZI_SET_VS = 7,                  /* value 0 to 255; sets NN(R) too; in Initial only */
-    PONDRESZI_SET_K = 8,                   /* value 1 to 32 */
+    PONDRESZI_SET_K = 8,                   /* value 1 to 127; the store lent with it must do for the new K */
     PONDRESZI_SET_TIMER = 9,               /* T1_Initial: value 1 to 65,535 */
     PONDRESZI_SET_TRANSMISSION_LIMIT = 10, /* value 1 to 255 */
     PONDRESZI_SET_TIMEOUT_TYPE = 11        /* value 0 only, for now */
@@ -459,10 +478,10 @@ enum pondreszi_lower_layer {
 };
 
 /*
- * A sender at its start: Initial, queues empty, flags Ready, timer stopped. The state's first 88 octets are written; of the store only
+ * A sender at its start: Initial, queues empty, flags Ready, timer stopped. The state's first 278 octets are written; of the store only
  * the length matters. V(S) will be the number of the first AD unit; give NN(R) the same. Initiate before the first AD unit.
  * Any two numbers are taken; where V(S) - NN(R) is K or more, AD units wait. timeout_type: 0 only, for now.
- * Refusals: 12 a value outside its limit; 11 store under 8,217 octets, or state's buffer under 88.
+ * Refusals: 12 a value outside its limit; 11 store under PONDRESZI_STORE_OCTETS(k) octets, or state's buffer under 278.
  */
 uint8_t pondreszi_sender_new(uint32_t k, uint32_t t1_initial, uint32_t transmission_limit, uint32_t timeout_type, uint32_t spacecraft,
                              uint32_t channel, uint32_t vs, uint32_t nnr, const uint8_t *store, size_t store_len, uint8_t *state,
@@ -473,19 +492,19 @@ uint8_t pondreszi_sender_new(uint32_t k, uint32_t t1_initial, uint32_t transmiss
  *
  *   - 12 where the octets are no state, 11 where the answer's buffer is shorter than 18 octets: no buffer changes, the answer neither.
  *   - Then the event's refusal: 10 (unit length; word not of four octets), 12 (invalid directive), 7 (another channel's word), 11 (store
- *     under 8,217 octets, or output shorter than the frame to be handed down). State, store and output stay as they were; the answer is
- *     written, with the refusal and the state. A tick refused with 11 does not count.
- *   - Otherwise 0: state, store and answer are the next ones, and a frame handed down is at the front of the output. Lend 256 octets of
- *     output and room is never short.
+ *     under its need, see above, or output shorter than the frame to be handed down). State, store and output stay as they were; the answer
+ *     is written, with the refusal and the state. A tick refused with 11 does not count.
+ *   - Otherwise 0: state, store and answer are the next ones, and a frame handed down is at the front of the output. Lend 1,024 octets of
+ *     output and it is never short.
  *
  * A reject among the responses is the table's and no refusal, but for the invalid directive, which has both.
  */
 
-/* A unit of 1 to 249 octets for the AD service: in sequence, sent again until confirmed. One unit can wait; a further is rejected. */
+/* A unit of 1 to 1,017 octets for the AD service: in sequence, sent again until confirmed. One unit can wait; a further is rejected. */
 uint8_t pondreszi_sender_request_ad(uint8_t *state, size_t state_len, const uint8_t *unit, size_t unit_len, uint8_t *store,
                                     size_t store_len, uint8_t *output, size_t output_len, uint8_t *answer, size_t answer_len);
 
-/* A unit of 1 to 249 octets for the BD service: sent once, in any state, never confirmed. */
+/* A unit of 1 to 1,017 octets for the BD service: sent once, in any state, never confirmed. */
 uint8_t pondreszi_sender_request_bd(uint8_t *state, size_t state_len, const uint8_t *unit, size_t unit_len, uint8_t *store,
                                     size_t store_len, uint8_t *output, size_t output_len, uint8_t *answer, size_t answer_len);
 

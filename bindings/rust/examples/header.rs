@@ -5,6 +5,7 @@
 use pondreszi::frame::Kind;
 use pondreszi::layout::{answer, flag, receiver, rf, sender, sender_flag, NONE};
 use pondreszi::*;
+use std::fmt::Display;
 
 /// The names of the header behind `PONDRESZI_`, with their values.
 type Values = Vec<(&'static str, u64)>;
@@ -39,7 +40,7 @@ fn counts_of_octets() -> Values {
         "CODEBLOCK_INFORMATION_OCTETS" = CODEBLOCK_INFORMATION_OCTETS,
         "CODEBLOCK_OCTETS" = CODEBLOCK_OCTETS,
         "CLCW_OCTETS" = CLCW_OCTETS,
-        "STORE_OCTETS" = STORE_OCTETS,
+        "LARGEST_STORE" = LARGEST_STORE,
         "SENDER_STATE_OCTETS" = SENDER_STATE_OCTETS,
         "ANSWER_OCTETS" = ANSWER_OCTETS,
         "RECEIVER_STATE_OCTETS" = RECEIVER_STATE_OCTETS,
@@ -241,6 +242,17 @@ fn print_assertion(expression: &str, value: u64) {
     println!("_Static_assert({expression} == {value}, \"{expression}\");");
 }
 
+/// A macro at these arguments, also where they and it stand in an expression.
+fn print_macro<T: Display>(name: &str, arguments: &[T], value: usize) {
+    let at = |end: &str| {
+        let arguments: Vec<String> = arguments.iter().map(|n| format!("{n}{end}")).collect();
+        format!("PONDRESZI_{name}({})", arguments.join(", "))
+    };
+    print_assertion(&at(""), value as u64);
+    print_assertion(&at(" | 0"), value as u64);
+    print_assertion(&format!("3 * {}", at("")), 3 * value as u64);
+}
+
 fn main() {
     println!("#include \"pondreszi.h\"");
     let values = [
@@ -259,10 +271,12 @@ fn main() {
         print_assertion(&format!("PONDRESZI_{name}"), value);
     }
     for frame in SMALLEST_FRAME..=LARGEST_FRAME {
-        let macro_at = |argument: String| format!("PONDRESZI_CLTU_OCTETS({argument})");
-        let octets = cltu::octets(frame) as u64;
-        print_assertion(&macro_at(frame.to_string()), octets);
-        print_assertion(&macro_at(format!("{} | 0", frame)), octets);
-        print_assertion(&format!("3 * {}", macro_at(frame.to_string())), 3 * octets);
+        print_macro("CLTU_OCTETS", &[frame], cltu::octets(frame));
+    }
+    for k in SMALLEST_K..=LARGEST_K {
+        print_macro("STORE_OCTETS", &[k], store_octets(k));
+        for sent in [0, 1, k - 1, k, k + 1, LARGEST_K] {
+            print_macro("STORE_NEED", &[k, sent], store_need(k, sent));
+        }
     }
 }

@@ -20,7 +20,7 @@ pub const fn octets(frame: usize) -> usize {
 const START_OCTETS: usize = 2;
 const TAIL_OCTETS: usize = 8;
 
-/// Writes the CLTU of a frame of 8 to 256 octets.
+/// Writes the CLTU of a frame of 8 to 1,024 octets.
 ///
 /// ```
 /// use pondreszi::{cltu, Refusal};

@@ -153,7 +153,8 @@ pub struct Frame<'a> {
     pub data: &'a [u8],
 }
 
-/// Reads a frame of that spacecraft and channel, with up to 6 octets of fill behind it.
+/// Reads a frame of that spacecraft and channel, with up to 6 octets of fill behind it. It is never
+/// refused with `Length`: a header's ten bits say 1,024 octets at the most.
 ///
 /// Of a type-B frame (BD, Unlock, Set V(R)) the sequence octet, `octets[4]`, has to be zero. Document 01
 /// said "on reading it isn't looked at"; document 02, order 10, amends this: "A type-B frame whose

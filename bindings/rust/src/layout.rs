@@ -82,7 +82,7 @@ pub mod sender {
     pub const BC_FRAME: usize = 20;
     /// The value of Set V(R).
     pub const BC_VALUE: usize = 21;
-    /// The lengths of the 33 places of the store, two octets each.
+    /// The lengths of the 128 places of the store, two octets each.
     pub const LENGTHS: usize = 22;
 }
 

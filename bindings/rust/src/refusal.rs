@@ -32,7 +32,8 @@ numbered! {
         Check = 8,
         /// BC data is neither command.
         Command = 9,
-        /// Empty unit, a length outside its limits, or a control word not of four octets.
+        /// Empty unit, a length outside its limits, or a control word not of four octets; never of a
+        /// frame that is read.
         Length = 10,
         /// A lent buffer is shorter than the need.
         Room = 11,

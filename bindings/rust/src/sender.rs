@@ -1,20 +1,22 @@
 use std::error::Error;
 use std::fmt;
+use std::mem;
 
 use crate::frame::Kind;
 use crate::layout::answer;
-use crate::layout::sender::{FLAGS, MARKED, NNR, SENT, STATE, TIMER, VS};
+use crate::layout::sender::{FLAGS, K, MARKED, NNR, SENT, STATE, TIMER, VS};
 use crate::layout::sender_flag::UNIT_WAITS;
 use crate::layout::NONE;
 use crate::library;
 use crate::numbered::numbered;
 use crate::refusal::judged;
-use crate::{Refusal, Refused, ANSWER_OCTETS, LARGEST_FRAME, SENDER_STATE_OCTETS, STORE_OCTETS};
+use crate::{store_need, store_octets, LARGEST_K, SMALLEST_K};
+use crate::{Refusal, Refused, ANSWER_OCTETS, LARGEST_FRAME, SENDER_STATE_OCTETS};
 
 /// What a sender starts with.
 #[derive(Clone, Copy, PartialEq, Eq, Debug)]
 pub struct SenderSettings {
-    /// FOP_Sliding_Window_Width K, 1 to 32, and at most PW of the receiver.
+    /// FOP_Sliding_Window_Width K, 1 to 127, and at most PW of the receiver.
     pub k: u8,
     /// T1_Initial in ticks, at least 1.
     pub t1_initial: u16,
@@ -74,7 +76,7 @@ pub enum Directive {
     Resume,
     /// Set V(S), and NN(R) with it; in Initial only.
     SetVs(u8),
-    /// Set K, 1 to 32.
+    /// Set K, 1 to 127. The sender's store grows with it.
     SetK(u8),
     /// Set T1_Initial, at least 1.
     SetTimer(u16),
@@ -83,6 +85,9 @@ pub enum Directive {
     /// Set Timeout_Type, 0 only for now.
     SetTimeoutType(u8),
 }
+
+/// The number of [`Directive::SetK`].
+const SET_K: u32 = 8;
 
 impl Directive {
     /// The directive's number and value.
@@ -95,7 +100,7 @@ impl Directive {
             Directive::Terminate => (5, 0),
             Directive::Resume => (6, 0),
             Directive::SetVs(value) => (7, u32::from(value)),
-            Directive::SetK(value) => (8, u32::from(value)),
+            Directive::SetK(value) => (SET_K, u32::from(value)),
             Directive::SetTimer(value) => (9, u32::from(value)),
             Directive::SetTransmissionLimit(value) => (10, u32::from(value)),
             Directive::SetTimeoutType(value) => (11, u32::from(value)),
@@ -286,7 +291,8 @@ impl From<RefusedEvent> for Refused {
     }
 }
 
-/// FOP-1, the sender (table 7-8), with its store of units.
+/// FOP-1, the sender (table 7-8), with its store of units, which is as long as K needs: it grows
+/// where K is set upwards.
 ///
 /// Frames handed down are in the answers; each wants an accept or reject of the lower layer
 /// ([`Sender::lower_layer`]) before the next of its type comes.
@@ -328,13 +334,13 @@ impl Sender {
     ///     spacecraft: 42, channel: 3, vs: 0, nnr: 0,
     /// };
     /// assert_eq!(Sender::new(settings)?.state(), SenderState::Initial);
-    /// let wide = SenderSettings { k: 33, ..settings };
+    /// let wide = SenderSettings { k: 128, ..settings };
     /// assert_eq!(Sender::new(wide).unwrap_err().refusal, Refusal::Setting);
     /// # Ok::<(), pondreszi::Refused>(())
     /// ```
     pub fn new(settings: SenderSettings) -> Result<Sender, Refused> {
         let mut state = [0; SENDER_STATE_OCTETS];
-        let store = vec![0; STORE_OCTETS].into_boxed_slice();
+        let store = vec![0; store_octets(settings.k)].into_boxed_slice();
         let number = unsafe {
             library::pondreszi_sender_new(
                 settings.k.into(),
@@ -356,7 +362,11 @@ impl Sender {
     }
 
     /// A sender from octets and a store that were kept together; `Setting` where the octets
-    /// are no state, `Room` where the store is under 8,217 octets.
+    /// are no state, `Room` where the store is shorter than they need ([`store_need`]). Of a store
+    /// that is longer, the octets behind the need may be any.
+    ///
+    /// Octets of the former layout, 88 of them with 1 in octet 1, are refused with `Setting`: their
+    /// store has another stride.
     ///
     /// ```
     /// use pondreszi::{Refusal, Sender, SenderSettings};
@@ -383,7 +393,7 @@ impl Sender {
         if refused == Err(Refusal::Setting) {
             return Err(Refusal::Setting.into());
         }
-        if sender.store.len() < STORE_OCTETS {
+        if sender.store.len() < store_need(sender.k(), sender.sent()) {
             return Err(Refusal::Room.into());
         }
         Ok(sender)
@@ -394,12 +404,23 @@ impl Sender {
         &self.state
     }
 
-    /// The store of units.
+    /// The store of units. Its first [`store_need`] octets, by K and the units on the sent queue,
+    /// are to be kept with the state.
     pub fn store(&self) -> &[u8] {
         &self.store
     }
 
-    /// A unit of 1 to 249 octets for the AD service: in sequence, and sent again until it is
+    /// Makes the store long enough for a new K; its units stay.
+    fn grow_store(&mut self, k: u8) {
+        let need = store_need(k, self.sent());
+        if self.store.len() < need {
+            let mut store = mem::take(&mut self.store).into_vec();
+            store.resize(need, 0);
+            self.store = store.into_boxed_slice();
+        }
+    }
+
+    /// A unit of 1 to 1,017 octets for the AD service: in sequence, and sent again until it is
     /// confirmed or denied.
     ///
     /// One unit can wait, for the window or the lower layer; its accept then comes with a
@@ -427,7 +448,7 @@ impl Sender {
         self.event_with_octets(library::pondreszi_sender_request_ad, unit)
     }
 
-    /// A unit of 1 to 249 octets for the BD service: sent once, in any state, never confirmed.
+    /// A unit of 1 to 1,017 octets for the BD service: sent once, in any state, never confirmed.
     ///
     /// ```
     /// use pondreszi::{LowerLayer, Response, Sender, SenderSettings};
@@ -459,7 +480,7 @@ impl Sender {
     /// assert_eq!(answer.state, SenderState::InitialisingWithBc);
     /// assert_eq!(answer.frame.unwrap().octets.len(), 8);
     ///
-    /// let refused = sender.directive(Directive::SetK(33)).unwrap_err();
+    /// let refused = sender.directive(Directive::SetK(128)).unwrap_err();
     /// assert_eq!(refused.refusal, Refusal::Setting);
     /// assert_eq!(refused.answer.event, 40);
     /// assert_eq!(refused.answer.responses, [Response::RejectDirective]);
@@ -471,7 +492,8 @@ impl Sender {
     }
 
     /// A directive by its number, 1 to 11, and value. Any other number, or a value outside its
-    /// limit, is the invalid directive: `Setting`, with the reject in the answer.
+    /// limit, is the invalid directive: `Setting`, with the reject in the answer. Before Set K the
+    /// store grows as far as the new K needs.
     ///
     /// ```
     /// use pondreszi::{Refusal, Sender, SenderSettings};
@@ -486,6 +508,9 @@ impl Sender {
     /// # Ok::<(), pondreszi::Refused>(())
     /// ```
     pub fn directive_raw(&mut self, number: u32, value: u32) -> Result<Answer, RefusedEvent> {
+        if let (SET_K, Ok(k @ SMALLEST_K..=LARGEST_K)) = (number, u8::try_from(value)) {
+            self.grow_store(k);
+        }
         self.event(|lent| unsafe {
             library::pondreszi_sender_directive(
                 lent.state,
@@ -649,6 +674,11 @@ impl Sender {
             0 => None,
             ticks => Some(ticks),
         }
+    }
+
+    /// FOP_Sliding_Window_Width K.
+    pub fn k(&self) -> u8 {
+        self.state[K]
     }
 
     /// The units on the sent queue: sent, neither confirmed nor denied.

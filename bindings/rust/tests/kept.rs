@@ -3,7 +3,7 @@
 mod link;
 
 use link::{certificates, Link, CHANNEL, SPACECRAFT};
-use pondreszi::{frame, Receiver, Refusal, Sender};
+use pondreszi::{frame, store_need, Receiver, Refusal, Sender, LARGEST_UNIT};
 
 /// Both ends are taken down and restored after every pass, and deliver all the same.
 #[test]
@@ -31,7 +31,7 @@ fn a_session_goes_on_after_resets() {
 fn octets_that_are_no_state_are_refused() {
     let link = Link::new(certificates(1), 0, 1);
     let state = link.sender.octets();
-    for length in [0, 1, 87] {
+    for length in [0, 1, 88, state.len() - 1] {
         let refused = Sender::restore(&state[..length], link.sender.store().into());
         assert_eq!(refused.unwrap_err().refusal, Refusal::Setting);
     }
@@ -45,7 +45,8 @@ fn octets_that_are_no_state_are_refused() {
     longer.push(0);
     let refused = Sender::restore(&longer, link.sender.store().into());
     assert_eq!(refused.unwrap_err().refusal, Refusal::Setting);
-    let refused = Sender::restore(state, vec![0; 8216].into());
+    let need = store_need(link.sender.k(), link.sender.sent());
+    let refused = Sender::restore(state, vec![0; need - 1].into());
     assert_eq!(refused.unwrap_err().refusal, Refusal::Room);
 
     let state = link.receiver.octets();
@@ -70,7 +71,10 @@ fn a_refused_event_changes_nothing() {
         Refusal::Length
     );
     assert_eq!(
-        link.sender.request_bd(&[0; 250]).unwrap_err().refusal,
+        link.sender
+            .request_bd(&[0; LARGEST_UNIT + 1])
+            .unwrap_err()
+            .refusal,
         Refusal::Length
     );
     assert_eq!(

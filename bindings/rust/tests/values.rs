@@ -391,7 +391,7 @@ fn limits_of_numbers() {
         let numbers = |vs, nnr| [1, 1, 1, 0, 0, 0, vs, nnr];
         let largest = u32::from(LARGEST_NUMBER);
         for numbers in [numbers(number, largest), numbers(largest, number)] {
-            let store = [0; STORE_OCTETS];
+            let store = [0; store_octets(1)];
             assert_eq!(sender_new(numbers, &store, &mut state), expected);
         }
         for directive in [Directive::InitiateWithSetVr(0), Directive::SetVs(0)] {
@@ -408,13 +408,14 @@ fn limits_of_numbers() {
 fn settings_of_32_bits() {
     let setting = Refusal::Setting.number();
     let good = [2, 9, 5, 0, 33, 3, 4, 4];
+    let store = [0; store_octets(2)];
     let mut state = [0; SENDER_STATE_OCTETS];
-    assert_eq!(sender_new(good, &[0; STORE_OCTETS], &mut state), NONE);
+    assert_eq!(sender_new(good, &store, &mut state), NONE);
     for place in 0..good.len() {
         for more in [65_536, 1 << 24, 1 << 31] {
             let mut numbers = good;
             numbers[place] += more;
-            assert_eq!(sender_new(numbers, &[0; STORE_OCTETS], &mut state), setting);
+            assert_eq!(sender_new(numbers, &store, &mut state), setting);
         }
     }
     let good = [33, 3, 20, 4, 2];
@@ -449,7 +450,7 @@ fn octets_of_states_store_and_answer() {
     assert_eq!(raw.answer, [0xA5; ANSWER_OCTETS]);
     assert_eq!(raw.request_ad(&[1]), NONE);
     assert!(!raw.answer.contains(&0xA5));
-    raw.store.truncate(STORE_OCTETS - 1);
+    raw.store.truncate(store_octets(SENDER.k) - 1);
     assert_eq!(raw.request_ad(&[1]), Refusal::Room.number());
 
     let settings =
@@ -457,10 +458,10 @@ fn octets_of_states_store_and_answer() {
     let mut state = [0xA5; SENDER_STATE_OCTETS + 1];
     let room = Refusal::Room.number();
     let short = SENDER_STATE_OCTETS - 1;
-    assert_eq!(settings(&[0; STORE_OCTETS - 1], &mut state), room);
-    assert_eq!(settings(&[0; STORE_OCTETS], &mut state[..short]), room);
+    assert_eq!(settings(&[0; store_octets(1) - 1], &mut state), room);
+    assert_eq!(settings(&[0; store_octets(1)], &mut state[..short]), room);
     assert_eq!(state, [0xA5; SENDER_STATE_OCTETS + 1]);
-    assert_eq!(settings(&[0; STORE_OCTETS], &mut state), NONE);
+    assert_eq!(settings(&[0; store_octets(1)], &mut state), NONE);
     assert_eq!(state[SENDER_STATE_OCTETS - 1..], [0, 0xA5]);
 
     let settings = |state: &mut [u8]| receiver_new([0, 0, 2, 0, 1], state);
@@ -469,6 +470,118 @@ fn octets_of_states_store_and_answer() {
     assert_eq!(state, [0xA5; RECEIVER_STATE_OCTETS + 1]);
     assert_eq!(settings(&mut state), NONE);
     assert_eq!(state[RECEIVER_STATE_OCTETS - 1..], [0, 0xA5]);
+}
+
+/// The need of every K, and one octet less.
+#[test]
+fn octets_of_stores() {
+    let mut state = [0; SENDER_STATE_OCTETS];
+    let store = [0; LARGEST_STORE];
+    for k in SMALLEST_K..=LARGEST_K {
+        let mut new = |octets| {
+            sender_new(
+                [k.into(), 1, 1, 0, 0, 0, 0, 0],
+                &store[..octets],
+                &mut state,
+            )
+        };
+        assert_eq!(new(store_octets(k)), NONE);
+        assert_eq!(new(store_octets(k) - 1), Refusal::Room.number());
+    }
+}
+
+/// Set K with four units outstanding and one waiting: by the new K, or by these if more, and not by
+/// the old K; and then the need falls as they are confirmed.
+#[test]
+fn stores_at_set_k() {
+    let mut sender = active(SenderSettings { k: 4, ..SENDER });
+    for n in 0..5 {
+        sender.request_ad(&[n; LARGEST_UNIT]).unwrap();
+        sender.lower_layer(LowerLayer::AdAccept).unwrap();
+    }
+    assert_eq!((sender.k(), sender.sent(), sender.waiting()), (4, 4, true));
+    let room = Refusal::Room.number();
+    let kept = Raw::of(&sender);
+    for (k, need) in [(1, 4), (4, 4), (5, 5), (LARGEST_K, LARGEST_K)] {
+        let mut raw = Raw::of(&sender);
+        raw.store.resize(store_octets(need), 0xA5);
+        raw.store.pop();
+        assert_eq!(raw.directive(Directive::SetK(k)), room);
+        assert_eq!(raw.state, kept.state);
+        raw.store.push(0xA5);
+        assert_eq!(raw.directive(Directive::SetK(k)), NONE);
+        assert_eq!(raw.state[layout::sender::K], k);
+        assert_eq!(store_need(k, 4), store_octets(need));
+    }
+
+    let mut raw = Raw::of(&sender);
+    assert_eq!(raw.directive(Directive::SetK(1)), NONE);
+    let confirm_three = word(SENDER.vs.wrapping_add(3), 0);
+    let last = raw.store.pop().unwrap();
+    assert_eq!(raw.control_word(&confirm_three), room);
+    raw.store.push(last);
+    assert_eq!(raw.control_word(&confirm_three), NONE);
+    assert_eq!(raw.state[layout::sender::SENT], 1);
+    raw.store.truncate(store_octets(1));
+    assert_eq!(raw.directive(Directive::SetTimer(9)), NONE);
+    assert_eq!(
+        raw.store[..2 * LARGEST_UNIT],
+        [[3; LARGEST_UNIT], [4; LARGEST_UNIT]].concat()
+    );
+    raw.store.pop();
+    assert_eq!(raw.directive(Directive::SetTimer(9)), room);
+}
+
+/// The crate's sender lends enough: its store grows where K is set upwards, and its units stay.
+#[test]
+fn the_store_grows() {
+    let mut sender = active(SenderSettings { k: 1, ..SENDER });
+    sender.request_ad(&[7; LARGEST_UNIT]).unwrap();
+    sender.request_ad(&[8; 3]).unwrap();
+    assert_eq!(sender.store().len(), store_octets(1));
+    let units = sender.store().to_vec();
+    for value in [0, 128, 256 + 5] {
+        let refused = sender.directive_raw(8, value).unwrap_err();
+        assert_eq!(refused.refusal, Refusal::Setting);
+    }
+    assert_eq!(sender.store(), units);
+    sender.directive(Directive::SetK(LARGEST_K)).unwrap();
+    assert_eq!(
+        (sender.k(), sender.store().len()),
+        (LARGEST_K, LARGEST_STORE)
+    );
+    assert_eq!(sender.store()[..units.len()], units);
+    for n in 0..LARGEST_K - 1 {
+        sender.lower_layer(LowerLayer::AdAccept).unwrap();
+        sender.request_ad(&[n; LARGEST_UNIT]).unwrap();
+    }
+    assert_eq!((sender.sent(), sender.waiting()), (LARGEST_K, true));
+    sender.directive(Directive::SetK(1)).unwrap();
+    let kept = (*sender.octets(), sender.store()[..LARGEST_STORE - 1].into());
+    assert_eq!(
+        refusal(Sender::restore(&kept.0, kept.1)),
+        Some(Refusal::Room)
+    );
+    let sent = sender.store()[LARGEST_STORE - LARGEST_UNIT..].to_vec();
+    assert_eq!(sent, [LARGEST_K - 2; LARGEST_UNIT]);
+}
+
+/// Octets of the former layout: the number alone, and the length too.
+#[test]
+fn the_former_layout_is_refused() {
+    let sender = active(SENDER);
+    let store = || sender.store().into();
+    let mut state = *sender.octets();
+    assert_eq!(state[1], 2);
+    state[1] = 1;
+    assert_eq!(
+        refusal(Sender::restore(&state, store())),
+        Some(Refusal::Setting)
+    );
+    assert_eq!(
+        refusal(Sender::restore(&state[..88], store())),
+        Some(Refusal::Setting)
+    );
 }
 
 #[test]
@@ -639,7 +752,7 @@ fn places_of_a_new_senders_state() {
     );
 }
 
-/// Two units are sent, of 3 and 249 octets, and one of 1 octet waits.
+/// Two units are sent, of 3 and 1,017 octets, and one of 1 octet waits.
 #[test]
 fn places_of_a_senders_units() {
     use layout::sender::*;
@@ -655,10 +768,11 @@ fn places_of_a_senders_units() {
     assert_eq!(state[FLAGS], BC_OUT_READY + UNIT_WAITS);
     assert_eq!(state[SENT], 2);
     let lengths = [0, 2, 4].map(|more| two(&state, LENGTHS + more));
-    assert_eq!(lengths, [3, 249, 1]);
+    assert_eq!(lengths, [3, LARGEST_UNIT as u16, 1]);
     assert_eq!(two(&state, TIMER), SENDER.t1_initial);
-    assert_eq!(two(&state, LENGTHS + 2 * 33 - 2), 0);
-    assert_eq!(LENGTHS + 2 * 33, SENDER_STATE_OCTETS);
+    let places = usize::from(LARGEST_K) + 1;
+    assert_eq!(two(&state, LENGTHS + 2 * places - 2), 0);
+    assert_eq!(LENGTHS + 2 * places, SENDER_STATE_OCTETS);
 
     // The first is sent again, and the second marked; then the lower layer is ready.
     sender.lower_layer(LowerLayer::AdAccept).unwrap();
