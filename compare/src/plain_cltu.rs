@@ -24,7 +24,7 @@ const CODED_BITS: usize = 63;
 
 /// Document 01, Limits, and what follows from them.
 const FRAME_LEAST: usize = 8;
-const FRAME_MOST: usize = 256;
+const FRAME_MOST: usize = 1024;
 const FILLED_MOST: usize = FRAME_MOST.next_multiple_of(INFORMATION);
 const INPUT_MOST: usize = 4096;
 const CODEBLOCKS_MOST: usize = (INPUT_MOST - START_OCTETS) / CODEBLOCK;

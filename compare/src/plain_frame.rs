@@ -2,7 +2,7 @@
 //! measures beside the library's. A call answers as the library's does, by a number and
 //! through references. The check of a frame is a parameter: `bit_by_bit` or `by_table`.
 
-use independent::frame::{Content, Read, AD, BC_SET_VR, BC_UNLOCK, BD};
+use independent::frame::{Content, Read, AD, BC_SET_VR, BC_UNLOCK, BD, UNIT_MOST};
 use independent::output::Written;
 use independent::refusal::{
     ADDRESS, CHECK, COMMAND, DONE, FILL, HEADER, LENGTH, ROOM, SETTING, SHORT,
@@ -90,7 +90,7 @@ fn write_counted(
             (0x30, 0, &command[..])
         }
     };
-    if unit.is_empty() || unit.len() > 249 {
+    if unit.is_empty() || unit.len() > UNIT_MOST {
         return LENGTH;
     }
     let set = match content {
@@ -145,9 +145,6 @@ fn read_told(
     let total = total + 1;
     if total < 8 {
         return SHORT;
-    }
-    if total > 256 {
-        return LENGTH;
     }
     if total > octets.len() {
         return SHORT;

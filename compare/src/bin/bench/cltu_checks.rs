@@ -114,7 +114,7 @@ fn check_all<F, A: PartialEq>(
 
 /// Frames of each length up to beyond the limit, with each room about the need.
 fn check_writers(random: &mut Random) {
-    for length in 0..=260 {
+    for length in (0..=260).chain(1020..=1028) {
         let frame = random.octets(length);
         let need = cltu::encode(&frame, Fault::None).len();
         for room in [0, need - 1, need, need + 1] {

@@ -3,12 +3,11 @@
 use std::hint::black_box;
 
 use independent::fault::Fault;
-use independent::fop1::UNIT_MOST;
 use independent::frame::{self, Content};
 use independent::refusal::DONE;
 
 use crate::measure::{measure_all, sample, samples, side, Row};
-use crate::{library, plain_frame, CHANNEL, FRAME, SPACECRAFT};
+use crate::{library, plain_frame, CHANNEL, FRAME, SPACECRAFT, UNIT};
 
 /// The library, and the plain program with each check.
 pub const SIDES: [&str; 3] = ["Library", "Plain bit by bit", "Plain by table"];
@@ -44,7 +43,7 @@ fn address() -> [u32; 2] {
 }
 
 pub fn write() -> Row<2> {
-    let contents = ad_contents(UNIT_MOST);
+    let contents = ad_contents(UNIT);
     let library = side(&contents, FRAME, |content, output| {
         library::frame_write(SPACECRAFT, CHANNEL, content, output)
     });
@@ -55,7 +54,7 @@ pub fn write() -> Row<2> {
 }
 
 pub fn read() -> Row<2> {
-    let frames = ad_frames(UNIT_MOST);
+    let frames = ad_frames(UNIT);
     assert!(frames[0].len() == FRAME);
     let library = side(&frames, 0, |frame, _| {
         library::frame_read(frame, SPACECRAFT, CHANNEL)

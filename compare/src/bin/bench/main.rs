@@ -69,13 +69,12 @@ mod call {
 
 use std::process::ExitCode;
 
-use independent::fop1::UNIT_MOST;
-
 use measure::{Row, ROUND, ROUNDS};
 
 const SPACECRAFT: u32 = 0x2A5;
 const CHANNEL: u32 = 3;
 const FRAME: usize = 256;
+const UNIT: usize = 249;
 
 /// The sides of an operation that is not measured beside a plain program.
 const BOTH: [&str; 2] = ["Library", "Independent"];
@@ -99,16 +98,16 @@ fn main() -> ExitCode {
     rows.extend([frames::write(), frames::read()]);
     let events = rows.len();
     rows.extend([
-        ends::receiver("receiver event, frames of 256 octets", UNIT_MOST),
+        ends::receiver("receiver event, frames of 256 octets", UNIT),
         ends::receiver("receiver event, frames of 8 octets", 1),
-        ends::sender("sender event, units of 249 octets", UNIT_MOST),
+        ends::sender("sender event, units of 249 octets", UNIT),
         ends::sender("sender event, units of 1 octet", 1),
     ]);
 
     let frames = [
-        frames::write_beside_plain(UNIT_MOST),
+        frames::write_beside_plain(UNIT),
         frames::write_beside_plain(1),
-        frames::read_beside_plain(UNIT_MOST),
+        frames::read_beside_plain(UNIT),
         frames::read_beside_plain(1),
     ];
 
