@@ -228,13 +228,18 @@ fn compare_store(
     (before, after): (&SenderMemory, &SenderMemory),
     differences: &mut Vec<String>,
 ) {
-    let mut expected = before.store.clone();
     let held = SenderState::read(&before.state[..SENDER_STATE]).map(|state| state.lengths);
-    let staying = held.iter().flatten().skip(confirmed).enumerate();
-    for (place, length) in staying {
+    let held = held.unwrap_or_default();
+    // Behind the places of both nothing is expected to change.
+    let places = held.len().max(sender.stored().len()) * UNIT_MOST;
+    let (front, behind) = before.store.split_at(places);
+    let mut expected = front.to_vec();
+    for (place, length) in held.iter().skip(confirmed).enumerate() {
         let unit = (place + confirmed) * UNIT_MOST;
         expected.copy_within(unit..unit + usize::from(*length), place * UNIT_MOST);
     }
     octets::put_stored(sender, &mut expected);
-    compare_octets("store", &after.store, &expected, differences);
+    let (front, behind_after) = after.store.split_at(places);
+    compare_octets("store", front, &expected, differences);
+    compare_octets("store behind the units", behind_after, behind, differences);
 }

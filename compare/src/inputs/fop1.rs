@@ -69,12 +69,12 @@ fn settings(random: &mut Random) -> SenderSettings {
     };
     SenderSettings {
         // Mostly small, so that the stores are.
-        k: match random.below(24) {
-            0..=9 => random.between(1, 3) as u32,
-            10..=18 => random.between(1, 16) as u32,
-            19 => 32,
-            20 => random.between(1, 32) as u32,
-            21 => random.between(1, K_MOST) as u32,
+        k: match random.below(32) {
+            0..=13 => random.between(1, 3) as u32,
+            14..=26 => random.between(1, 16) as u32,
+            27 => 32,
+            28 => random.between(1, 32) as u32,
+            29 => random.between(1, K_MOST) as u32,
             _ => K_MOST as u32,
         },
         t1_initial: match random.below(4) {
