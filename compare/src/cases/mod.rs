@@ -49,11 +49,14 @@ pub const OPERATIONS: [Operation; 13] = [
 /// Short lengths are up to this.
 const SHORT: usize = 260;
 
-/// Every length from 0 to this, one after the other, in two of three inputs a short one.
+/// In one input of so many a length may be long.
+const LONG_ONCE_IN: usize = 6;
+
+/// Every length from 0 to this, one after the other, most of them short.
 fn every_length(tally: &Tally, most: usize) -> usize {
     let turn = tally.inputs as usize;
-    match turn % 3 {
-        0 => turn / 3 % (most + 1),
+    match turn % LONG_ONCE_IN {
+        0 => turn / LONG_ONCE_IN % (most + 1),
         _ => turn % (SHORT + 1),
     }
 }

@@ -134,19 +134,27 @@ fn cell_name(row: u8, state: u8) -> String {
 pub fn compare(settings: &Settings) -> Report {
     let mut met = Met::new();
     let mut fixed = inputs::fixed_settings().into_iter();
+    let mut widest_is_met = false;
     let (tally, runs) = compare_runs(settings, |random, tally| {
+        let is_widest = fixed.len() == 0 && !widest_is_met;
         let memory = match fixed.next() {
             Some(settings) => (
                 settings,
                 random.octets(4 * UNIT_MOST),
                 random.octets(SENDER_STATE),
             ),
+            None if is_widest => inputs::widest(random),
             None => inputs::start(random),
         };
+        widest_is_met |= is_widest;
         let Some((end, sender)) = start(memory, tally, &mut met) else {
             return false;
         };
-        run(end, sender, settings, random, tally, &mut met);
+        let manner = match is_widest {
+            true => Manner::full(1),
+            false => Manner::new(random, &sender),
+        };
+        run(end, sender, &manner, settings, random, tally, &mut met);
         true
     });
     Report {
@@ -186,17 +194,18 @@ fn start(
 fn run(
     mut end: SenderEnd,
     mut sender: Sender,
+    manner: &Manner,
     settings: &Settings,
     random: &mut Random,
     tally: &mut Tally,
     met: &mut Met,
 ) {
-    let manner = Manner::new(random, &sender);
-    for n in 0..random.between(100, 1500) {
+    let least = if manner.full { 700 } else { 100 };
+    for n in 0..random.between(least, 1500) {
         if tally.inputs >= settings.count {
             return;
         }
-        let event = inputs::event(random, &manner, &sender);
+        let event = inputs::event(random, manner, &sender);
         let memory = memory(&event, &end, &sender, random, met);
         let before = sender.clone();
         let call = call(&event, memory);

@@ -30,6 +30,20 @@ pub fn fixed_settings() -> Vec<SenderSettings> {
     each_too_wide(good).into_iter().map(settings).collect()
 }
 
+/// Settings, store and the room for a state of a sender whose window is the widest, with nothing
+/// that ends its service soon.
+pub fn widest(random: &mut Random) -> (SenderSettings, Vec<u8>, Vec<u8>) {
+    let settings = settings(random);
+    let widest = SenderSettings {
+        k: K_MOST as u32,
+        t1_initial: 65_535,
+        transmission_limit: 255,
+        vs: settings.nnr,
+        ..settings
+    };
+    (widest, random.octets(STORE), random.octets(SENDER_STATE))
+}
+
 /// Settings, store and the room for a state, some of them beyond their limits.
 pub fn start(random: &mut Random) -> (SenderSettings, Vec<u8>, Vec<u8>) {
     let mut settings = settings(random);
@@ -138,22 +152,28 @@ pub struct Manner {
     /// Once in so many times a unit has the largest length.
     largest: usize,
     /// Next to nothing comes but units and their accepts, so that the widest window is full.
-    full: bool,
+    pub full: bool,
 }
 
 /// The kinds of events.
 const KINDS: usize = 10;
 
 impl Manner {
+    /// Once in so many times a unit has the largest length.
+    pub fn full(largest: usize) -> Manner {
+        Manner {
+            shares: [400, 4, 2, 4, 400, 2, 2, 1, 2, 2],
+            harm: 5000,
+            unit_most: 12,
+            largest,
+            full: true,
+        }
+    }
+
     pub fn new(random: &mut Random, sender: &Sender) -> Manner {
         if sender.k > 32 || random.once_in(12) {
-            return Manner {
-                shares: [400, 4, 2, 4, 400, 2, 2, 1, 2, 2],
-                harm: 5000,
-                unit_most: 12,
-                largest: *random.pick(&[1, 4, 40]),
-                full: true,
-            };
+            let largest = *random.pick(&[1, 4, 40]);
+            return Manner::full(largest);
         }
         // Much is sent and little of it acknowledged.
         let deep = random.once_in(3);
