@@ -146,6 +146,11 @@ impl Counts {
         self.counts.push((name.to_string(), times));
     }
 
+    fn is_met(&self, name: &str) -> bool {
+        let mut counts = self.counts.iter();
+        counts.any(|(other, count)| other == name && *count > 0)
+    }
+
     /// How many were not met, or not so often as they must be.
     fn never_met(&self) -> usize {
         let few = |count: &u64| *count < self.least;

@@ -1,7 +1,7 @@
 //! Random runs of a sender.
 
 use super::sender_end::{self, call, Call, Expected, SenderEnd};
-use super::{compare_runs, damage, refusal, Counts, Report};
+use super::{compare_runs, damage, refusal, Counts, Report, ENOUGH_TO_MEET_ALL};
 use crate::check::Tally;
 use crate::inputs::fop1::{self as inputs, Manner};
 use crate::library::{SenderEvent, SenderMemory, SenderSettings};
@@ -45,6 +45,13 @@ const KINDS: [&str; 23] = [
     "Set K upwards with units sent",
     "Set K downwards with units sent",
     "Set K below the units sent",
+];
+
+/// Those of the widest window.
+const WIDEST: [&str; 3] = [
+    "127 units sent",
+    "127 units sent and one waiting",
+    "127 units of 1017 octets sent",
 ];
 
 /// By number, from 1 on.
@@ -134,9 +141,11 @@ fn cell_name(row: u8, state: u8) -> String {
 pub fn compare(settings: &Settings) -> Report {
     let mut met = Met::new();
     let mut fixed = inputs::fixed_settings().into_iter();
-    let mut widest_is_met = false;
+    let enough = settings.count >= ENOUGH_TO_MEET_ALL;
     let (tally, runs) = compare_runs(settings, |random, tally| {
-        let is_widest = fixed.len() == 0 && !widest_is_met;
+        // Until the widest window was full.
+        let is_full = WIDEST.iter().all(|name| met.kinds.is_met(name));
+        let is_widest = enough && fixed.len() == 0 && !is_full;
         let memory = match fixed.next() {
             Some(settings) => (
                 settings,
@@ -146,7 +155,6 @@ pub fn compare(settings: &Settings) -> Report {
             None if is_widest => inputs::widest(random),
             None => inputs::start(random),
         };
-        widest_is_met |= is_widest;
         let Some((end, sender)) = start(memory, tally, &mut met) else {
             return false;
         };
@@ -263,7 +271,9 @@ fn memory(
     random: &mut Random,
     met: &mut Met,
 ) -> SenderMemory {
-    let output = match random.below(24) {
+    // A tick seldom hands a frame down.
+    let often = matches!(event, SenderEvent::Tick);
+    let output = match random.below(if often { 6 } else { 24 }) {
         0 => random.below(17),
         1 => random.between(0, FRAME_MOST + 4),
         2 => need(event, sender),

@@ -84,11 +84,11 @@ fn settings(random: &mut Random) -> SenderSettings {
     SenderSettings {
         // Mostly small, so that the stores are.
         k: match random.below(32) {
-            0..=13 => random.between(1, 3) as u32,
-            14..=26 => random.between(1, 16) as u32,
-            27 => 32,
-            28 => random.between(1, 32) as u32,
-            29 => random.between(1, K_MOST) as u32,
+            0..=14 => random.between(1, 3) as u32,
+            15..=28 => random.between(1, 16) as u32,
+            29 => 32,
+            30 => random.between(1, 32) as u32,
+            _ if random.once_in(3) => random.between(33, K_MOST) as u32,
             _ => K_MOST as u32,
         },
         t1_initial: match random.below(4) {

@@ -162,7 +162,7 @@ demand3-fresh set within one store long buffer sized es =
     demand3-called set within (startKept set store buffer) (fresh-called set within one store long buffer sized .begins) es
 
 -- and all that holds beyond it
-pub beyond-fresh : (set : Settings) → Within set → set .count ≡ 1 → (store : List ℕ) → smallestStore ≤ length store → (buffer : List ℕ)
+pub beyond-fresh : (set : Settings) → Within set → set .count ≡ 1 → (store : List ℕ) → storeNeed (set .k) 0 ≤ length store → (buffer : List ℕ)
     → length buffer ≡ stateOctets → Beyond set (called set (startKept set store buffer))
 beyond-fresh set within one store long buffer sized =
     beyond-called set within (startKept set store buffer) (fresh-called set within one store long buffer sized .begins)

@@ -247,5 +247,5 @@ pub demand3-fresh : (set : Settings) → Within set → set .count ≡ 1 → (st
     (run set (tables set) es (begins (tables set)))
 demand3-fresh set within one store long es = demand3-ours set within (startHeld set store) (fresh-begins set within one store long) es
 
-pub beyond-fresh : (set : Settings) → Within set → set .count ≡ 1 → (store : List ℕ) → smallestStore ≤ length store → Beyond set (ours set (startHeld set store))
+pub beyond-fresh : (set : Settings) → Within set → set .count ≡ 1 → (store : List ℕ) → storeNeed (set .k) 0 ≤ length store → Beyond set (ours set (startHeld set store))
 beyond-fresh set within one store long = beyond-ours set within (startHeld set store) (fresh-begins set within one store long)
