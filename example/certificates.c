@@ -401,7 +401,7 @@ static void read_units(const char *path) {
     while (fgets(line, sizeof line, file) != NULL) {
         size_t count = strlen(line);
         if (count < 2 || line[count - 1] != '\n' || count - 1 > PONDRESZI_LARGEST_UNIT) {
-            fail("a line has no certificate of 1 to 1017 octets and a newline");
+            fail("a line has no certificate that fits a unit, or no newline");
         }
         if (unit_count == LARGEST_COUNT) {
             fail("too many certificates");

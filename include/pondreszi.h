@@ -494,8 +494,8 @@ uint8_t pondreszi_sender_new(uint32_t k, uint32_t t1_initial, uint32_t transmiss
  *   - Then the event's refusal: 10 (unit length; word not of four octets), 12 (invalid directive), 7 (another channel's word), 11 (store
  *     under its need, see above, or output shorter than the frame to be handed down). State, store and output stay as they were; the answer
  *     is written, with the refusal and the state. A tick refused with 11 does not count.
- *   - Otherwise 0: state, store and answer are the next ones, and a frame handed down is at the front of the output. Lend 1,024 octets of
- *     output and it is never short.
+ *   - Otherwise 0: state, store and answer are the next ones, and a frame handed down is at the front of the output. Lend
+ *     PONDRESZI_LARGEST_FRAME octets of output and it is never short.
  *
  * A reject among the responses is the table's and no refusal, but for the invalid directive, which has both.
  */

@@ -12,7 +12,7 @@ use lib.Dec.{leb, ltb}
 use lib.ListN.{length, take, getD, length-take}
 use lib.Seq.{getD-take, take-all}
 use Rattle.base.specs.Choice.{must}
-use Rattle.base.specs.Limits.{largestFrame, largestInput}
+use Rattle.base.specs.Limits.{largestInput}
 use Rattle.base.specs.Outcome.{Outcome.done, Outcome.refused}
 use Rattle.base.proofs.Lists.{octets-at, below-take}
 use Rattle.codeblock.specs.declared.Judged.{Judged}

@@ -1,5 +1,6 @@
 // Clauses 8.2, 8.5 and 8.8: one codeblock. Its error control octet, by tables, and which bit of a received one is wrong. The tables are lent, so that
 // they are not made anew for each codeblock.
+use crate::table::BITS_LENGTH;
 use crate::table::NO_BIT;
 use crate::table::NONE_WRONG;
 use crate::table::SHARES;
@@ -71,7 +72,7 @@ pub fn error_control(information: &[u8]) -> u8
 }
 
 // The bit, of the first 63, that alone gives a syndrome.
-fn bit_for(bits: &[u8; 128], syndrome: u8) -> u8
+fn bit_for(bits: &[u8; BITS_LENGTH], syndrome: u8) -> u8
     requires { ⌜ BitTable (now bits) ⌝ }
     ensures { λ r. ⌜ r ≡ bitFor 63 0 syndrome ⌝ }
 {
@@ -84,7 +85,7 @@ fn bit_for(bits: &[u8; 128], syndrome: u8) -> u8
 // Which bit of a codeblock is wrong, by its syndrome: none where that is zero, else the one that the mode corrects.
 pub(crate) fn wrong_bit(
     shares: &[u8; SHARES_LENGTH],
-    bits: &[u8; 128],
+    bits: &[u8; BITS_LENGTH],
     block: &[u8],
     mode: Mode,
 ) -> u8

@@ -8,6 +8,7 @@ use crate::block::corrections;
 use crate::block::invert;
 use crate::block::wrong_bit;
 use crate::table::BITS;
+use crate::table::BITS_LENGTH;
 use crate::table::NO_BIT;
 use crate::table::SHARES;
 use crate::table::SHARES_LENGTH;
@@ -73,7 +74,7 @@ fn put_information(memory: &mut [u8], place: usize, information: &[u8], bit: u8)
 // Takes the good ones of so many codeblocks, each judged once in the mode; their information to the front of the lent memory.
 fn take(
     shares: &[u8; SHARES_LENGTH],
-    bits: &[u8; 128],
+    bits: &[u8; BITS_LENGTH],
     input: &[u8],
     mode: Mode,
     whole: usize,
@@ -120,7 +121,7 @@ fn whole_in(octets: usize, room: usize) -> usize
 // Takes the good ones of the whole codeblocks of the input, by the tables.
 fn take_whole(
     shares: &[u8; SHARES_LENGTH],
-    bits: &[u8; 128],
+    bits: &[u8; BITS_LENGTH],
     input: &[u8],
     mode: Mode,
     information: &mut [u8],

@@ -525,7 +525,9 @@ pub const NO_BIT: u8 = 64;
 pub const NONE_WRONG: u8 = 63;
 
 // Which bit of a codeblock gives each syndrome where it alone is wrong, by the seven parity bits of the syndrome.
-pub const BITS: [u8; 128] = [
+pub const BITS_LENGTH: usize = 128;
+
+pub const BITS: [u8; BITS_LENGTH] = [
     64,
     62,
     61,
