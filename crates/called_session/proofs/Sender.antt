@@ -8,7 +8,7 @@ use mathlib.Core.List.{List, _++_, append-nil}
 use native.Mathlib.Omega.{arith}
 use borrow.Author.Tests.{le-leb}
 use lib.Dec.{leb, eqb}
-use lib.ListN.{length, drop-of-length-le}
+use lib.ListN.{length, replicate, drop-of-length-le}
 use Rattle.base.specs.Choice.{pick, must}
 use Rattle.base.specs.Octets.{same}
 use Rattle.base.proofs.Tests.{both-right, yes}
@@ -25,6 +25,7 @@ use Rattle.sender_view.specs.View.{responsesOf}
 use Rattle.sender_table.specs.Rows.{eventOf}
 use Rattle.fop.specs.declared.Lower.{Lower}
 use Rattle.sender_rows_view.specs.State.{Good}
+use Rattle.sender_frames.specs.Limits.{needOf}
 use Rattle.sender.specs.declared.Answer.{Answer as SenderAnswer}
 use Rattle.sender.specs.declared.Start.{Start}
 use Rattle.sender_state.specs.State.{wellFormed}
@@ -40,9 +41,9 @@ use Rattle.pondreszi_sender.specs.Senders.{Called, refusedCall, doneCall, calle
 use Rattle.our_session.specs.Ours.{Held, stepOf, heldAfter, handedDown, answerBy, lentOutput, reads}
 use Rattle.session.specs.Ends.{Brought}
 use Rattle.fop.specs.Store as judged
-use Rattle.our_session.proofs.Events.{does}
-use Rattle.our_session.proofs.Theorem.{keeps-good, session-next, session-answer}
-use Rattle.our_session.proofs.Widened.{good-well}
+use Rattle.our_session.specs.Does.{Does, Well}
+use Rattle.our_session.proofs.Theorem.{demand2-ours, keeps-good, session-next, session-answer}
+use Rattle.our_session.proofs.Widened.{good-well, well-good}
 use Rattle.our_session.proofs.Output.{output-content-free}
 use Rattle.our_session.proofs.Restored.{good-passes}
 use Rattle.called_session.specs.Called.{Kept, lentAnswer, lowerCalled, ifOctets, callOf, keptAfter, answerCalled, heldIn}
@@ -172,35 +173,39 @@ output-free x is e a b l =
       answer-is x is a e ∙ same .1 ∙ sym (answer-is x is b e),
     )
 
--- what a caller keeps: the octets of a state, well-formed with the store
+-- what a caller keeps: the octets of a well-formed state, whatever store it lends next
+pub record WellKept (own : Own) (x : Kept) : Type 0 where
+  pub is : isState (x .state) ≡ true
+  pub well : Well own (stateIn (x .state))
+
+-- with a store that suffices for it
 pub record GoodKept (own : Own) (x : Kept) : Type 0 where
   pub is : isState (x .state) ≡ true
   pub good : Good own (stateIn (x .state)) (x .store)
 
+pub good-kept : {own : Own} {x : Kept} → GoodKept own x → WellKept own x
+good-kept g = record { is = g .is; well = good-well (g .good) }
+
 -- every place has a length
-places-all : (own : Own) (s : SenderState) (store : List ℕ) → Good own s store → length (s .lengths) ≡ places
+places-all : (own : Own) (s : SenderState) → Well own s → length (s .lengths) ≡ places
 unfolding begun
-places-all own s store g = g .formed .all-places
+places-all own s w = well-good own s w .formed .all-places
 
 -- a sender's octets, in a buffer of a state
-pub octets-kept : (own : Own) (s : SenderState) (store : List ℕ) → Good own s store
-    → (isState (octetsOf s) ≡ true) × (stateIn (octetsOf s) ≡ s)
-octets-kept own s store g =
-    let z : Sized s = record { lengths = places-all own s store g } in
-    (octets-back s z (good-passes own s store g), read-back s z)
+pub octets-kept : (own : Own) (s : SenderState) → Well own s → (isState (octetsOf s) ≡ true) × (stateIn (octetsOf s) ≡ s)
+octets-kept own s w =
+    let z : Sized s = record { lengths = places-all own s w } in
+    (octets-back s z (good-passes own s (replicate (needOf s) 0) (well-good own s w)), read-back s z)
 
-module _ (own : Own) (x : Kept) (g : GoodKept own x) (lent : ℕ) where
-  abbrev output : List ℕ
-  output = lentOutput lent
-
+-- whatever store and output are lent
+module _ (own : Own) (x : Kept) (g : WellKept own x) (output : List ℕ) where
   state-length : length (x .state) ≡ stateOctets
   state-length =
-      ap length (sym (state-only (x .state) (g .is)))
-      ∙ length-octets (stateIn (x .state)) (places-all own (stateIn (x .state)) (x .store) (g .good))
+      ap length (sym (state-only (x .state) (g .is))) ∙ length-octets (stateIn (x .state)) (places-all own (stateIn (x .state)) (g .well))
 
-  -- the sender after a step is well-formed with the store after it
-  good-step : (e : SenderEvent) → Good own (stepOf e output (heldIn x) .answer .next .fop) (stepOf e output (heldIn x) .store)
-  good-step e = keeps-good own e lent (heldIn x) (g .good)
+  -- the step is the table machine's, with the store and output lent
+  step-does : (e : SenderEvent) → Does own (length (x .store)) (length output) e (reads (heldIn x)) (stepOf e output (heldIn x))
+  step-does e = demand2-ours own e output (heldIn x) (g .well)
 
   -- what is kept after a call: the octets of the step's next state, and its store
   pub after-is : (e : SenderEvent) → keptAfter (callOf e output x)
@@ -210,7 +215,7 @@ module _ (own : Own) (x : Kept) (g : GoodKept own x) (lent : ℕ) where
       let n : SenderState = y .answer .next .fop in
       ap keptAfter (call-is x (g .is) output e)
       ∙ ap (λ (o : List ℕ). record { state = o; store = y .store })
-      (placed-whole (x .state) (octetsOf n) (length-octets n (places-all own n (y .store) (good-step e)) ∙ sym state-length))
+      (placed-whole (x .state) (octetsOf n) (length-octets n (places-all own n (step-does e .well)) ∙ sym state-length))
 
   -- it holds the sender after the step
   pub held-is : (e : SenderEvent) → heldIn (keptAfter (callOf e output x)) ≡ heldAfter (stepOf e output (heldIn x))
@@ -218,26 +223,40 @@ module _ (own : Own) (x : Kept) (g : GoodKept own x) (lent : ℕ) where
       let y : Step = stepOf e output (heldIn x) in
       let n : SenderState = y .answer .next .fop in
       ap heldIn (after-is e)
-      ∙ ap (λ (t : SenderState). record { sender = record { fop = t }; store = y .store }) (octets-kept own n (y .store) (good-step e) .1)
+      ∙ ap (λ (t : SenderState). record { sender = record { fop = t }; store = y .store }) (octets-kept own n (step-does e .well) .1)
 
-  pub keeps : (e : SenderEvent) → GoodKept own (keptAfter (callOf e output x))
-  keeps e =
-      let y : Step = stepOf e output (heldIn x) in
-      let n : SenderState = y .answer .next .fop in
-      let k = octets-kept own n (y .store) (good-step e) in
-      subst (GoodKept own) (sym (after-is e))
-      (record { is = k .0; good = subst (λ (t : SenderState). Good own t (y .store)) (sym (k .1)) (good-step e) })
+  -- its octets are again those of a well-formed state
+  pub keeps-well : (e : SenderEvent) → WellKept own (keptAfter (callOf e output x))
+  keeps-well e = record {
+    is = ap (λ (k : Kept). isState (k .state)) (after-is e) ∙ octets-kept own (stepOf e output (heldIn x) .answer .next .fop) (step-does e .well) .0;
+    well = subst (λ (h : Held). Well own (h .sender .fop)) (sym (held-is e)) (step-does e .well);
+  }
 
-  -- every event, directives too, is the table machine's with the store lent
-  pub next-any : (e : SenderEvent) → reads (heldIn (keptAfter (callOf e output x))) ≡ judged.lentNext own e (length (x .store)) lent (reads (heldIn x))
-  next-any e = ap reads (held-is e) ∙ does own e lent (heldIn x) (good-well (g .good)) .next
+  -- every event, directives too, is the table machine's with the store lent: 11 where it is too small, at Set K by the new K alone
+  pub next-any : (e : SenderEvent)
+      → reads (heldIn (keptAfter (callOf e output x))) ≡ judged.lentNext own e (length (x .store)) (length output) (reads (heldIn x))
+  next-any e = ap reads (held-is e) ∙ step-does e .next
 
-  pub answers-any : (e : SenderEvent) → answerCalled (callOf e output x) ≡ judged.lentAnswer own e (length (x .store)) lent (reads (heldIn x))
-  answers-any e = answer-is x (g .is) output e ∙ does own e lent (heldIn x) (good-well (g .good)) .answer
+  pub answers-any : (e : SenderEvent)
+      → answerCalled (callOf e output x) ≡ judged.lentAnswer own e (length (x .store)) (length output) (reads (heldIn x))
+  answers-any e = answer-is x (g .is) output e ∙ step-does e .answer
 
-  -- and a session's as the tables'
-  pub next : (e : SenderEvent) → Brought e → reads (heldIn (keptAfter (callOf e output x))) ≡ senderNext own e lent (reads (heldIn x))
-  next e i = ap reads (held-is e) ∙ session-next own e i lent (heldIn x) (g .good)
+-- with a store that suffices for the state
+module _ (own : Own) (x : Kept) (g : GoodKept own x) (lent : ℕ) where
+  abbrev lentZeros : List ℕ
+  lentZeros = lentOutput lent
 
-  pub answers : (e : SenderEvent) → Brought e → answerCalled (callOf e output x) ≡ senderAnswer own e lent (reads (heldIn x))
-  answers e i = answer-is x (g .is) output e ∙ session-answer own e i lent (heldIn x) (g .good)
+  -- it does for the state after a call
+  pub keeps : (e : SenderEvent) → GoodKept own (keptAfter (callOf e lentZeros x))
+  keeps e = record {
+    is = keeps-well own x (good-kept g) lentZeros e .is;
+    good = subst (λ (h : Held). Good own (h .sender .fop) (h .store)) (sym (held-is own x (good-kept g) lentZeros e))
+        (keeps-good own e lent (heldIn x) (g .good));
+  }
+
+  -- a session's events are as the tables'
+  pub next : (e : SenderEvent) → Brought e → reads (heldIn (keptAfter (callOf e lentZeros x))) ≡ senderNext own e lent (reads (heldIn x))
+  next e i = ap reads (held-is own x (good-kept g) lentZeros e) ∙ session-next own e i lent (heldIn x) (g .good)
+
+  pub answers : (e : SenderEvent) → Brought e → answerCalled (callOf e lentZeros x) ≡ senderAnswer own e lent (reads (heldIn x))
+  answers e i = answer-is x (g .is) lentZeros e ∙ session-answer own e i lent (heldIn x) (g .good)

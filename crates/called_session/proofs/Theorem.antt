@@ -37,11 +37,12 @@ use Rattle.pondreszi_sender.specs.Senders as sender
 use Rattle.pondreszi_receiver.specs.Receivers as receiver
 use Rattle.our_session.specs.Ours.{Held, stepOf, heldAfter, lentOutput, senderSettings, freshHeld, startHeld, reads, Begins}
 use Rattle.our_session.proofs.Theorem.{fresh-good, fresh-begins, receiver-starts}
+use Rattle.our_session.proofs.Widened.{good-well}
 use Rattle.called_session.specs.Called.{Kept, heldIn, BeginsKept, called}
 use Rattle.called_session.specs.Demand.{Demand3, StrongerCalled, BeyondCalled}
 use Rattle.called_session.specs.Fresh.{newSender, newKept, startKept, FreshSender, FreshReceiver}
 use Rattle.called_session.proofs.Receiver.{GoodReceiver, keeps-receiver, next-receiver, answer-receiver, word-receiver, start-good}
-use Rattle.called_session.proofs.Sender.{placed-whole, GoodKept, octets-kept, held-is, keeps, next, answers}
+use Rattle.called_session.proofs.Sender.{placed-whole, GoodKept, good-kept, octets-kept, held-is, keeps, next, answers}
 
 -- a caller's two ends are tied to the tables
 pub called-tied : (set : Settings) → Within set → (x : Kept) → BeginsKept set x → Tied set (called set x)
@@ -125,12 +126,12 @@ module _ (set : Settings) (within : Within set) (store : List ℕ) (long : store
   new-held : heldIn (newKept set store buffer) ≡ freshHeld set (set .n) store
   new-held =
       ap (λ (x : sender.New). heldIn (record { state = x .state; store = store })) new-done
-      ∙ ap (λ (s : SenderState). record { sender = record { fop = s }; store = store }) (octets-kept (set .own) first store first-good .1)
+      ∙ ap (λ (s : SenderState). record { sender = record { fop = s }; store = store }) (octets-kept (set .own) first (good-well first-good) .1)
       ∙ sym held-first
 
   new-good : GoodKept (set .own) (newKept set store buffer)
   new-good = record {
-    is = ap (λ (x : sender.New). isState (x .state)) new-done ∙ octets-kept (set .own) first store first-good .0;
+    is = ap (λ (x : sender.New). isState (x .state)) new-done ∙ octets-kept (set .own) first (good-well first-good) .0;
     good = subst (λ (x : Held). Good (set .own) (x .sender .fop) (x .store)) (sym new-held)
         (fresh-good set within (set .n) (within .number) store long);
   }
@@ -139,7 +140,7 @@ module _ (set : Settings) (within : Within set) (store : List ℕ) (long : store
   start-begins : set .count ≡ 1 → BeginsKept set (startKept set store buffer)
   start-begins one =
       let h : heldIn (startKept set store buffer) ≡ startHeld set store =
-      held-is (set .own) (newKept set store buffer) new-good 0 (directive 1 0)
+      held-is (set .own) (newKept set store buffer) (good-kept new-good) (lentOutput 0) (directive 1 0)
       ∙ ap (λ (x : Held). heldAfter (stepOf (directive 1 0) (lentOutput 0) x)) new-held in
       record {
         is = keeps (set .own) (newKept set store buffer) new-good 0 (directive 1 0) .is;

@@ -10,10 +10,10 @@ use mathlib.Core.List.{List, [], _∷_, _++_}
 use mathlib.Core.Option.{Option, none, some}
 use native.Mathlib.Nat.{le-trans}
 use native.Mathlib.Omega.{arith}
-use borrow.Author.Tests.{leb-true, leb-false, le-leb, lt-leb, eqb-true, eqb-false, ne-eqb}
+use borrow.Author.Tests.{leb-true, leb-false, le-leb, ne-eqb}
 use lib.Dec.{leb, eqb}
 use lib.ListN.{length, take, drop, getD, length-append, take-append-drop, drop-of-length-le}
-use lib.Seq.{take-append-seam, take-append-le, drop-append-seam, length-take-le}
+use lib.Seq.{take-append-seam, drop-append-seam, length-take-le}
 use Rattle.base.specs.Choice.{pick, must}
 use Rattle.base.specs.Limits.{largestUnit, largestSpacecraft, largestChannel}
 use Rattle.base.specs.Outcome.{Outcome, Outcome.done, Outcome.refused}
@@ -36,14 +36,14 @@ use Rattle.sender_values.specs.declared.Settings.{Settings}
 use Rattle.sender_values.specs.declared.Work.{Work}
 use Rattle.sender_values.specs.Actions.{unitsHeld}
 use Rattle.sender_values.specs.Start.{begun}
-use Rattle.sender_view.specs.View.{entriesFrom, fopOf}
+use Rattle.sender_view.specs.View.{entriesFrom}
 use Rattle.sender_view.proofs.SentQueue.{held-most}
 use Rattle.sender_table.specs.Rows.{rowNumbered}
 use Rattle.sender_events.specs.Events.{wordNumber, directiveNumber, windowOf, adNumber, bdNumber, lowerNumber}
 use Rattle.sender_frames.specs.Limits.{needOf}
 use Rattle.sender_frames.specs.Frames.{handedWriting, unitBefore, unitOffered, mustBeUnit}
 use Rattle.sender.specs.Answers.{Step, answered, refusing, stepBy, refusedStep}
-use Rattle.sender.specs.Events.{added, storeServed, lengthsServed, lengthsOffered, servedBy, served, offeredBy, bypassedBy, requestAdOf, requestBdOf, directiveOf, ticked, tickNumber, tickOf, lowerLayerOf, wordBy, controlWordOf}
+use Rattle.sender.specs.Events.{added, lengthsServed, lengthsOffered, servedBy, served, offeredBy, bypassedBy, requestAdOf, requestBdOf, directiveOf, ticked, tickNumber, tickOf, lowerLayerOf, wordBy, controlWordOf}
 use Rattle.our_session.specs.Ours.{Held, stepOf, handedDown, answerBy, reads}
 use Rattle.our_session.specs.Does.{Well}
 use Rattle.our_session.proofs.Events.{entries-count}

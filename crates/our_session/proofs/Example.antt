@@ -1,7 +1,8 @@
 -- A session of our own two ends, computed: the first frame is lost and sent again when the timer expires, a second unit waits until the lower
 -- layer is ready, both are accepted, and one control word confirms both (`our-session`). And two ends that come to the session's start by
 -- Initiate with Set V(R), its frame sent twice: Transmission_Count and the FARM-B counter are 2 there (`twice-begins`, `twice-received`). And a
--- sender at a start with two numbers far apart (`far-start`). And Set K with units outstanding, judged by the new K (`set-k`).
+-- sender at a start with two numbers far apart (`far-start`). And Set K with units outstanding, judged by the new K (`set-k`);
+-- once they are confirmed a smaller store suffices (`need-after`).
 use mathlib.Core.Path.{_≡_, refl, ap, _∙_}
 use mathlib.Core.Bool.{false}
 use mathlib.Core.List.{List, [], _∷_}
@@ -174,3 +175,24 @@ pub set-k : (outstanding .sender .fop .queues .sent ≡ 2)
     × (setK 0 0 ≡ (12, 3))
 unfolding computingOurs act.setK
 set-k = (refl, refl, refl, refl, refl, refl)
+
+-- After Set K from 3 to 1 with the two outstanding, with a store for the two, a control word confirms both (V(R) is 0). Then a store for K, which
+-- is less, suffices for a request and for a tick; an octet less is refused.
+abbrev narrowedK : Held
+narrowedK = heldAfter (stepOf (directive 8 1) [] (record { sender = outstanding .sender; store = replicate (storeNeed 1 2) 0 }))
+
+abbrev confirmedBoth : Held
+confirmedBoth = heldAfter (stepOf (wordArrives (1 ∷ 36 ∷ 0 ∷ 0 ∷ [])) [] narrowedK)
+
+abbrev refusalWith : SenderEvent → ℕ → ℕ
+refusalWith e lent = stepOf e (lentOutput 8) (record { sender = confirmedBoth .sender; store = replicate lent 0 }) .answer .refusal
+
+pub need-after : (narrowedK .sender .fop .settings .k ≡ 1)
+    × (narrowedK .sender .fop .queues .sent ≡ 2)
+    × (confirmedBoth .sender .fop .queues .sent ≡ 0)
+    × (refusalWith offering (storeNeed 1 0) ≡ 0)
+    × (refusalWith offering (storeNeed 1 0 - 1) ≡ 11)
+    × (refusalWith tick (storeNeed 1 0) ≡ 0)
+    × (refusalWith tick (storeNeed 1 0 - 1) ≡ 11)
+unfolding computingOurs act.setK
+need-after = (refl, refl, refl, refl, refl, refl, refl)
