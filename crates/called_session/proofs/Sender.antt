@@ -1,22 +1,23 @@
 -- The sender's half of the tie: the octets that a caller keeps stand for the sender that they hold. Each call is the step of that sender, put
 -- into octets (`call-is`); the octets of the next state and of the answer tell what the step has (`after-is`, `answer-is`); so what crate our_session
--- proves of the step holds of the call. What the lent output and the answer's buffer held is not looked at (`output-free`, `answer-buffer-free`).
-use Prim.Native.Nat.{ℕ, _+_}
+-- proves of the step holds of the call, whatever store is lent (`next-any`, `answers-any`; `state-well`: of all octets that are a state).
+-- What the lent output and the answer's buffer held is not looked at (`output-free`, `answer-buffer-free`).
+use Prim.Native.Nat.{ℕ, _+_, _<_}
 use mathlib.Core.Path.{_≡_, refl, sym, ap, subst, _∙_}
 use mathlib.Core.Bool.{Bool, true, false}
 use mathlib.Core.List.{List, _++_, append-nil}
 use native.Mathlib.Omega.{arith}
 use borrow.Author.Tests.{le-leb}
 use lib.Dec.{leb, eqb}
-use lib.ListN.{length, replicate, drop-of-length-le}
+use lib.ListN.{length, replicate, getD, drop-of-length-le}
 use Rattle.base.specs.Choice.{pick, must}
-use Rattle.base.specs.Octets.{same}
+use Rattle.base.specs.Octets.{Octets, same}
 use Rattle.base.proofs.Tests.{both-right, yes}
+use Rattle.base.proofs.Lists.{octets-at}
 use Rattle.memory.specs.Placed.{placed}
 use Rattle.memory.proofs.Laws.{placed-fits}
 use Rattle.fop.specs.Units.{Own, areOctets}
 use Rattle.fop.specs.Events.{SenderEvent, requestAd, requestBd, tick, lower, directive, wordArrives}
-use Rattle.fop.specs.Events as fop
 use Rattle.fop.specs.Answers.{senderAnswer, senderNext}
 use Rattle.sender_values.specs.declared.SenderState.{SenderState}
 use Rattle.store.specs.Places.{places}
@@ -32,8 +33,9 @@ use Rattle.sender_state.specs.State.{wellFormed}
 use Rattle.sender.specs.Start.{restoredOf}
 use Rattle.sender.specs.Answers.{Step, refusedStep}
 use Rattle.sender.specs.Events.{requestAdOf, requestBdOf, directiveOf, tickOf, lowerLayerOf, controlWordOf}
-use Rattle.sender_octets.specs.Kept.{stateOctets, octetsOf, stateIn, isState, senderIn}
+use Rattle.sender_octets.specs.Kept.{numberOctets, stateOctets, octetsOf, stateIn, isState, senderIn}
 use Rattle.sender_octets.specs.Answer.{answerOctets, octetsOfAnswer, Told, toldBy, answerIn}
+use Rattle.sender_octets.proofs.Pairs.{length-from}
 use Rattle.sender_octets.proofs.Judged.{length-octets}
 use Rattle.sender_octets.proofs.Back.{Sized, read-back, octets-back, state-only}
 use Rattle.sender_octets.proofs.Answered.{Fits, answer-back}
@@ -45,7 +47,7 @@ use Rattle.our_session.specs.Does.{Does, Well}
 use Rattle.our_session.proofs.Theorem.{demand2-ours, keeps-good, session-next, session-answer}
 use Rattle.our_session.proofs.Widened.{good-well, well-good}
 use Rattle.our_session.proofs.Output.{output-content-free}
-use Rattle.our_session.proofs.Restored.{good-passes}
+use Rattle.our_session.proofs.Restored.{good-passes, passes-good}
 use Rattle.called_session.specs.Called.{Kept, lentAnswer, lowerCalled, ifOctets, callOf, keptAfter, answerCalled, heldIn}
 use Rattle.called_session.proofs.Ways.{Way, refuses, fits, asks-ad, asks-bd, directs, ticks, lowers, words}
 use Rattle.called_session.proofs.Directives.{narrowed}
@@ -185,6 +187,27 @@ pub record GoodKept (own : Own) (x : Kept) : Type 0 where
 
 pub good-kept : {own : Own} {x : Kept} → GoodKept own x → WellKept own x
 good-kept g = record { is = g .is; well = good-well (g .good) }
+
+-- the address of the state that octets hold
+abbrev pub ownIn : List ℕ → Own
+ownIn o = record { spacecraft = stateIn o .settings .spacecraft; channel = stateIn o .settings .channel }
+
+-- octets that are a state are of a well-formed one; others are refused with 12 (crate sender_octets, proofs/Back, `refused-no-state`)
+pub state-well : (x : Kept) → Octets (x .state) → isState (x .state) ≡ true → WellKept (ownIn (x .state)) x
+unfolding stateIn isState
+state-well x octets is =
+    let o : List ℕ = x .state in
+    let at : (i : ℕ) → getD o i 0 < 256 = octets-at o octets in
+    record {
+      is = is;
+      well = λ store room. passes-good (stateIn o) store (record {
+        vs = at 11;
+        nnr = at 12;
+        limit = omega (arith, at 6);
+        count = omega (arith, at 15);
+        lengths = length-from o numberOctets places;
+      }) room (both-right (same o (octetsOf (stateIn o))) (wellFormed (stateIn o)) is);
+    }
 
 -- every place has a length
 places-all : (own : Own) (s : SenderState) → Well own s → length (s .lengths) ≡ places

@@ -28,7 +28,7 @@ use Rattle.clcw.specs.declared.WordReading.the-variants as reading
 use Rattle.fop.specs.Units.{Own, areOctets}
 use Rattle.fop.specs.Answers as table
 use Rattle.fop.specs.Events.{SenderEvent, requestAd, requestBd, tick, lower, directive, wordArrives}
-use Rattle.fop.specs.Store.{larger, storeNeed, windowAt, needAt}
+use Rattle.fop.specs.Store.{storeNeed, windowAt, needAt}
 use Rattle.sender_values.specs.declared.Handed.{Handed}
 use Rattle.sender_values.specs.declared.Handed.the-variants as handed
 use Rattle.sender_values.specs.declared.SenderState.{SenderState}
