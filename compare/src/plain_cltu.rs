@@ -1,7 +1,7 @@
 //! CLTUs written and read on octets, as a plain Rust program does it: what the benchmark
 //! measures beside the library's. A call answers as the library's does, by a number and through
 //! references, and allocates nothing. The forms differ in the check of a codeblock and in the
-//! randomizer alone: `BitByBit`, `ByTable`, `BySevenTables` and `AtOnce`.
+//! randomizer alone: `BitByBit`, `ByTable`, `ByTwoTables`, `BySevenTables` and `AtOnce`.
 
 use independent::cltu::Read;
 use independent::codeblock::{CORRECTING, DETECTING};
@@ -201,6 +201,20 @@ impl Form for BySevenTables {
             remainder ^= table[usize::from(*octet)];
         }
         remainder
+    }
+}
+
+/// Two octets at a time, by the tables of the last two places: the library's own method.
+pub struct ByTwoTables;
+
+impl Form for ByTwoTables {
+    fn error_control(codeblock: &[u8; CODEBLOCK]) -> u8 {
+        let [.., first, second] = &REMAINDERS_BY_PLACE;
+        let mut remainder = 0;
+        for pair in codeblock[..INFORMATION - 1].chunks_exact(2) {
+            remainder = first[usize::from(remainder ^ pair[0])] ^ second[usize::from(pair[1])];
+        }
+        second[usize::from(remainder ^ codeblock[INFORMATION - 1])] ^ COMPLEMENT
     }
 }
 

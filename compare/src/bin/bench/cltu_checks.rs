@@ -9,7 +9,7 @@ use independent::randomizer;
 use independent::refusal::{DONE, LENGTH, NO_BLOCK, NO_END, NO_START, ROOM, SETTING};
 
 use crate::inputs::cltu::{for_the_reader, with_error_control};
-use crate::plain_cltu::{read, write, AtOnce, BitByBit, BySevenTables, ByTable, Form};
+use crate::plain_cltu::{read, write, AtOnce, BitByBit, BySevenTables, ByTable, ByTwoTables, Form};
 use crate::random::Random;
 
 /// So many random inputs to the readers, and so many random codeblocks.
@@ -22,16 +22,20 @@ const INFORMATION_MOST: usize = 511 * 7;
 type Reader = fn(&[u8], u32, &mut [u8]) -> Read;
 type Writer = fn(&[u8], &mut [u8]) -> Written;
 
-/// Those of the forms.
-const READERS: [Reader; 4] = [
+/// So many forms, and those of them that read and write.
+const FORMS: usize = 5;
+
+const READERS: [Reader; FORMS] = [
     read::<BitByBit>,
     read::<ByTable>,
+    read::<ByTwoTables>,
     read::<BySevenTables>,
     read::<AtOnce>,
 ];
-const WRITERS: [Writer; 4] = [
+const WRITERS: [Writer; FORMS] = [
     write::<BitByBit>,
     write::<ByTable>,
+    write::<ByTwoTables>,
     write::<BySevenTables>,
     write::<AtOnce>,
 ];
@@ -44,6 +48,7 @@ pub fn check_plain() {
     let codeblocks = codeblocks(&mut random);
     check_parts::<BitByBit>(&codeblocks);
     check_parts::<ByTable>(&codeblocks);
+    check_parts::<ByTwoTables>(&codeblocks);
     check_parts::<BySevenTables>(&codeblocks);
     check_parts::<AtOnce>(&codeblocks);
     check_writers(&mut random);
@@ -100,7 +105,7 @@ fn check_sequence<F: Form>() {
 fn check_all<F, A: PartialEq>(
     room: usize,
     independent: impl Fn(&mut [u8]) -> A,
-    forms: [F; 4],
+    forms: [F; FORMS],
     call: impl Fn(F, &mut [u8]) -> A,
 ) -> A {
     let mut left = vec![UNTOUCHED; room];

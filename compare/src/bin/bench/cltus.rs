@@ -11,14 +11,15 @@ use independent::refusal::{DONE, NO_START};
 
 use crate::inputs::cltu::with_error_control;
 use crate::measure::{check, measure, sample, samples, side, Answering, Row, Side};
-use crate::plain_cltu::{self, AtOnce, BitByBit, BySevenTables, ByTable, Form};
+use crate::plain_cltu::{self, AtOnce, BitByBit, BySevenTables, ByTable, ByTwoTables, Form};
 use crate::random::Random;
 use crate::{library, FRAME};
 
-pub const SIDES: [&str; 7] = [
+pub const SIDES: [&str; 8] = [
     "Library",
     "Plain bit by bit",
     "Plain by table",
+    "Plain by two tables",
     "Plain 56 bits at once",
     "Plain by seven tables",
     "Independent",
@@ -26,8 +27,8 @@ pub const SIDES: [&str; 7] = [
 ];
 
 /// So many after the library are the plain program's; and the library and the independent side.
-pub const PLAIN: usize = 4;
-pub const BOTH: [usize; 2] = [0, 5];
+pub const PLAIN: usize = 5;
+pub const BOTH: [usize; 2] = [0, 6];
 
 type CltuRow = Row<{ SIDES.len() }>;
 
@@ -83,19 +84,20 @@ type CltuSide<A> = Box<dyn Answering<Vec<u8>, A>>;
 fn beside_copy<A: PartialEq>(
     name: &str,
     inputs: &[Vec<u8>],
-    mut sides: [CltuSide<A>; 6],
+    mut sides: [CltuSide<A>; SIDES.len() - 1],
 ) -> CltuRow {
     check(name, &mut sides);
     let length = inputs[0].len();
     let mut copy = side(inputs, length, |input, output| {
         output.copy_from_slice(input)
     });
-    let [library, by_bit, by_table, at_once, by_seven, independent] =
+    let [library, by_bit, by_table, by_two, at_once, by_seven, independent] =
         sides.each_mut().map(|side| &mut **side as &mut dyn Side);
     let sides = [
         library,
         by_bit,
         by_table,
+        by_two,
         at_once,
         by_seven,
         independent,
@@ -112,6 +114,7 @@ pub fn write() -> CltuRow {
         }),
         plain_write::<BitByBit>(&frames),
         plain_write::<ByTable>(&frames),
+        plain_write::<ByTwoTables>(&frames),
         plain_write::<AtOnce>(&frames),
         plain_write::<BySevenTables>(&frames),
         side(&frames, CLTU, |frame, output| {
@@ -149,6 +152,7 @@ fn read(
         }),
         plain_read::<BitByBit>(inputs, room, mode),
         plain_read::<ByTable>(inputs, room, mode),
+        plain_read::<ByTwoTables>(inputs, room, mode),
         plain_read::<AtOnce>(inputs, room, mode),
         plain_read::<BySevenTables>(inputs, room, mode),
         side(inputs, room, move |input, output| {
