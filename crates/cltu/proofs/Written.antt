@@ -11,7 +11,7 @@ use Rattle.memory.proofs.Laws.{placed-fits, placed-behind}
 use Rattle.memory.proofs.Parts.{placed-length}
 use Rattle.start_sequence.specs.StartSequence.{startSequence}
 use Rattle.encoded_data.specs.EncodedData.{encoded}
-use Rattle.encoded_data.proofs.Scan.{placed-front}
+use Rattle.memory.proofs.Laws.{placed-front}
 use Rattle.cltu.specs.Cltu.{codeblocks, fillOctet, filled, informationFor, cltuOf, tailSequence}
 use Rattle.cltu.proofs.Places.{length-information}
 

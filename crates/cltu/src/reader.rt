@@ -47,7 +47,7 @@ fn read_after(input: &[u8], mode: Mode, offset: usize, out: &mut [u8]) -> CltuRe
         return CltuReading::Room;
     }
     let count = 7 * n;
-    encoded_data::unpack(&information[0..count], out);
+    randomizer::randomize(&information[0..count], out);
     CltuReading::Done {
         count: count,
         place: offset + 8 * n,

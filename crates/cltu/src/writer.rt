@@ -35,7 +35,7 @@ fn put_information(frame: &[u8], count: usize, information: &mut [u8])
 {
     let mut filled = [0x55u8; LARGEST_INFORMATION];
     memory::put(&mut filled, 0, frame);
-    encoded_data::unpack(&filled[0..count], information);
+    randomizer::randomize(&filled[0..count], information);
 }
 
 // Puts the CLTU of the information to the front of the output: start sequence, codeblocks up to a place, tail sequence.

@@ -1,4 +1,3 @@
 pub mod Encoded
 pub mod Scan
-pub mod Runs
 pub mod Single

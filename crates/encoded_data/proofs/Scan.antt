@@ -196,11 +196,6 @@ pub run-whole : (judge : List ℕ → Judged) (s : List ℕ) {n room : ℕ} → 
     → n ≡ goodRun judge (length s / 8) s
 run-whole judge s {n} {room} e h = e ∙ ap (λ (k : ℕ). goodRun judge k s) (whole-room (length s) room h)
 
--- octets placed at the front
-pub placed-front : (memory octets : List ℕ) → length octets ≤ length memory → placed memory 0 octets ≡ octets ++ drop (length octets) memory
-placed-front memory octets h =
-    placed-fits memory 0 octets (omega arith) ∙ ap (λ (j : ℕ). octets ++ drop j memory) (zero-add (length octets))
-
 -- the octets at the front of a memory, as the part from 0 to their count
 pub part-front : (octets behind memory : List ℕ) (k : ℕ) → memory ≡ octets ++ behind → k ≡ length octets → take (k - 0) (drop 0 memory) ≡ octets
 part-front octets behind memory k e l =

@@ -1,5 +1,4 @@
-// Clause 8.3, Encoded Data, and clause 8.7, state S3: the good codeblocks at the front of an input, taken one by one, and their information
-// derandomized (clause 8.4).
+// Clause 8.3, Encoded Data, and clause 8.7, state S3: the good codeblocks at the front of an input, taken one by one.
 pub mod block;
 mod table;
 pub mod writer;
@@ -14,7 +13,6 @@ use crate::table::SHARES;
 use crate::table::SHARES_LENGTH;
 use codeblock::Judged;
 use codeblock::Mode;
-use randomizer::PERIOD;
 ghost use mathlib.Core.Path.{_≡_};
 ghost use Prim.Native.Nat.{_+_, _*_, _≤_};
 ghost use mathlib.Core.List.{_++_};
@@ -22,7 +20,6 @@ ghost use lib.ListN.{length, drop};
 ghost use Rattle.codeblock.specs.Codeblock.{flipped, judged};
 ghost use Rattle.codeblock.specs.Table.{ShareTable, BitTable};
 ghost use Rattle.memory.specs.Placed.{placed};
-ghost use Rattle.randomizer.specs.Randomizer.{randomized, sequenceOf};
 ghost use Rattle.encoded_data.specs.EncodedData.{goodRun, informationIn, correctedIn, wholeIn};
 
 // The good codeblocks at the front of an input: how many, and how many of them were corrected.
@@ -167,41 +164,4 @@ pub fn judge(block: &[u8], mode: Mode) -> Judged
         information: information,
         corrected: run.corrected as u8,
     }
-}
-
-// One run of information, exclusive or the sequence from its beginning, into all of the output.
-fn derandomize_run(information: &[u8], sequence: &[u8; PERIOD], out: &mut [u8])
-    requires { ⌜ (length (now information) ≤ 255) × (length (now out) ≡ length (now information)) × (now sequence ≡ sequenceOf 255 0) ⌝ }
-    ensures { λ _. ⌜ now (out .exit) ≡ randomized 0 (now (information .entry)) ⌝ }
-{
-    let mut i = 0;
-    while i < information.len() {
-        out[i] = information[i] ^ sequence[i];
-        i += 1;
-    }
-}
-
-// The information exclusive or the sequence, at the front of the output: whole runs of PERIOD octets, then what is left.
-fn derandomize(information: &[u8], sequence: &[u8; PERIOD], out: &mut [u8])
-    requires { ⌜ (length (now information) ≤ length (now out)) × (now sequence ≡ sequenceOf 255 0) ⌝ }
-    ensures { λ _. ⌜ now (out .exit) ≡ placed (now (out .entry)) 0 (randomized 0 (now (information .entry))) ⌝ }
-{
-    let n = information.len();
-    let mut at = 0;
-    while PERIOD <= n - at {
-        let end = at + PERIOD;
-        derandomize_run(&information[at..end], sequence, &mut out[at..end]);
-        at = end;
-    }
-    derandomize_run(&information[at..n], sequence, &mut out[at..n]);
-}
-
-// Puts the information, derandomized, to the front of the output; changes nothing where it does not fit.
-pub fn unpack(information: &[u8], out: &mut [u8])
-    ensures { λ _. ⌜ now (out .exit) ≡ placed (now (out .entry)) 0 (randomized 0 (now (information .entry))) ⌝ }
-{
-    if out.len() < information.len() {
-        return;
-    }
-    derandomize(information, &randomizer::SEQUENCE, out);
 }

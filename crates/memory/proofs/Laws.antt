@@ -2,6 +2,7 @@
 use mathlib.Core.Path.{_≡_, sym, ap, ap₂, _∙_}
 use mathlib.Core.List.{List, _++_}
 use Prim.Native.Nat.{ℕ, _+_, _<_, _≤_}
+use native.Mathlib.Nat.{zero-add}
 use native.Mathlib.Omega.{arith}
 use borrow.Author.Tests.{le-leb, lt-leb}
 use lib.ListN.{length, take, drop, length-append, length-drop}
@@ -35,3 +36,8 @@ placed-behind old front octets memory place e p h =
     ∙ drop-drop (length octets) (length front) old
     ∙ ap (λ (j : ℕ). drop j old) (sym (length-append front octets)) in
     placed-fits memory place octets (omega arith) ∙ ap₂ (λ (x y : List ℕ). x ++ octets ++ y) t d
+
+-- octets placed at the front
+pub placed-front : (memory octets : List ℕ) → length octets ≤ length memory → placed memory 0 octets ≡ octets ++ drop (length octets) memory
+placed-front memory octets h =
+    placed-fits memory 0 octets (omega arith) ∙ ap (λ (j : ℕ). octets ++ drop j memory) (zero-add (length octets))

@@ -1,3 +1,4 @@
 pub mod Recurrence
 pub mod Randomized
 pub mod Rule
+pub mod Runs

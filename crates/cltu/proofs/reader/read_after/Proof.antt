@@ -13,7 +13,8 @@ use Rattle.memory.specs.Placed.{placed}
 use Rattle.randomizer.specs.Randomizer.{randomized}
 use Rattle.randomizer.proofs.Randomized.{length-randomized}
 use Rattle.encoded_data.specs.EncodedData.{goodRun, informationIn}
-use Rattle.encoded_data.proofs.Scan.{length-information-in, run-le, run-whole, part-front, placed-front}
+use Rattle.encoded_data.proofs.Scan.{length-information-in, run-le, run-whole, part-front}
+use Rattle.memory.proofs.Laws.{placed-front}
 use Rattle.cltu.specs.Answers.{readAnswer}
 use Rattle.cltu.specs.declared.reader.CltuReading.the-variants.{Done}
 use Rattle.cltu.proofs.Outcomes.{after-end, after-none, after-room, after-done}
@@ -62,17 +63,17 @@ returns-3 c =
 mul-count : tie.Need-mul-count
 mul-count c = search needs
 
-sub-unpack : tie.Need-sub-unpack
-sub-unpack c = search needs
+sub-randomize : tie.Need-sub-randomize
+sub-randomize c = search needs
 
-part-unpack-start : tie.Need-part-unpack-start
-part-unpack-start c = search needs
+part-randomize-start : tie.Need-part-randomize-start
+part-randomize-start c = search needs
 
-part-unpack-end : tie.Need-part-unpack-end
-part-unpack-end c = search needs
+part-randomize-end : tie.Need-part-randomize-end
+part-randomize-end c = search needs
 
-unpack-requires : tie.Need-unpack-requires
-unpack-requires c κs = search needs
+randomize-requires : tie.Need-randomize-requires
+randomize-requires c κs = search needs
 
 mul-t12 : tie.Need-mul-t12
 mul-t12 c = search needs
@@ -94,7 +95,7 @@ returns-4 c =
     let i = length-information-in (judged (a .mode)) (good-seven (a .mode)) (length s / 8) n s (omega (arith, g)) in
     let z : length (randomized 0 (informationIn (judged (a .mode)) n s)) ≡ 7 * n = length-randomized 0 (informationIn (judged (a .mode)) n s) ∙ i in (
       ap₂ (λ (k j : ℕ). readAnswer (Done k (a .offset + 8 * n) j)) (sym z) (t .ensures .0 .1) ∙ o .0,
-      c .before .before .unpack .ensures
+      c .before .before .randomize .ensures
           ∙ ap (λ (l : List ℕ). placed (now (a .out)) 0 (randomized 0 l)) (part-front (informationIn (judged (a .mode)) n s) _ _ (7 * n) (t .ensures .1) (sym i))
           ∙ placed-front (now (a .out)) (randomized 0 (informationIn (judged (a .mode)) n s)) (omega (arith, z))
           ∙ o .1,
@@ -113,10 +114,10 @@ read-after-spec =
     mul-if3
     returns-3
     mul-count
-    sub-unpack
-    part-unpack-start
-    part-unpack-end
-    unpack-requires
+    sub-randomize
+    part-randomize-start
+    part-randomize-end
+    randomize-requires
     mul-t12
     add-t11
     same-length

@@ -22,17 +22,17 @@ slice-aggregate-put c = search needs
 put-requires : tie.Need-put-requires
 put-requires c κs = search needs
 
-sub-unpack : tie.Need-sub-unpack
-sub-unpack c = search needs
+sub-randomize : tie.Need-sub-randomize
+sub-randomize c = search needs
 
-part-unpack-start : tie.Need-part-unpack-start
-part-unpack-start c = search needs
+part-randomize-start : tie.Need-part-randomize-start
+part-randomize-start c = search needs
 
-part-unpack-end : tie.Need-part-unpack-end
-part-unpack-end c = search needs
+part-randomize-end : tie.Need-part-randomize-end
+part-randomize-end c = search needs
 
-unpack-requires : tie.Need-unpack-requires
-unpack-requires c κs = search needs
+randomize-requires : tie.Need-randomize-requires
+randomize-requires c κs = search needs
 
 same-length : tie.Need-same-length
 same-length c = search needs
@@ -46,7 +46,7 @@ returns c =
     let p = c .before .before .before .before .before .before .before .put in
     let e : take (a .count - 0) (drop 0 (p .last .0)) ≡ filled f =
     part-front (filled f) _ (p .last .0) (a .count) (p .ensures ∙ filled-front f (7 * codeblocks largestFrame) (search needs)) (omega (arith, length-filled f)) in
-    c .before .before .unpack .ensures ∙ ap (λ (x : List ℕ). placed (now (a .information)) 0 (randomized 0 x)) e
+    c .before .before .randomize .ensures ∙ ap (λ (x : List ℕ). placed (now (a .information)) 0 (randomized 0 x)) e
 
 pub put-information-spec : {M : Type 1} → statement M
 put-information-spec =
@@ -54,9 +54,9 @@ put-information-spec =
     (tie.spec
     slice-aggregate-put
     put-requires
-    sub-unpack
-    part-unpack-start
-    part-unpack-end
-    unpack-requires
+    sub-randomize
+    part-randomize-start
+    part-randomize-end
+    randomize-requires
     same-length
     returns)

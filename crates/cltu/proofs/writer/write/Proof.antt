@@ -10,7 +10,8 @@ use Rattle.base.proofs.Tests.{told}
 use Rattle.start_sequence.specs.StartSequence.{startSequence}
 use Rattle.memory.specs.Placed.{placed}
 use Rattle.encoded_data.specs.EncodedData.{encoded}
-use Rattle.encoded_data.proofs.Scan.{placed-front, part-front}
+use Rattle.encoded_data.proofs.Scan.{part-front}
+use Rattle.memory.proofs.Laws.{placed-front}
 use Rattle.cltu.specs.declared.writer.CltuWritten.the-variants.{Done}
 use Rattle.cltu.specs.Answers.{writtenAnswer}
 use Rattle.cltu.specs.Cltu.{informationFor, cltuOf, tailSequence}

@@ -11,7 +11,7 @@ use Rattle.codeblock.specs.Codeblock.{errorControl}
 use Rattle.memory.specs.Placed.{placed}
 use Rattle.memory.proofs.Parts.{placed-length}
 use Rattle.encoded_data.specs.EncodedData.{encoded}
-use Rattle.encoded_data.proofs.Scan.{placed-front}
+use Rattle.memory.proofs.Laws.{placed-front}
 use Rattle.encoded_data.proofs.Encoded.{Written, written-none, written-more, length-encoded}
 use Rattle.encoded_data.proofs.writer.put_codeblocks.Statement.{statement}
 use Rattle.encoded_data.proofs.writer.put_codeblocks.Tie as tie

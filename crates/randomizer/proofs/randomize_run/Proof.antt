@@ -8,17 +8,17 @@ use denote.Ref.{now}
 use lib.Bits.{bitXor}
 use lib.ListN.{length, take, drop, getD, length-set, drop-of-length-le}
 use Rattle.base.proofs.Lists.{store-by, stored}
 use Rattle.randomizer.specs.Randomizer.{octet, randomized}
 use Rattle.randomizer.proofs.Randomized.{randomized-at, length-randomized, sequence-at}
-use Rattle.encoded_data.proofs.derandomize_run.Statement.{statement}
-use Rattle.encoded_data.proofs.derandomize_run.Tie as tie
+use Rattle.randomizer.proofs.randomize_run.Statement.{statement}
+use Rattle.randomizer.proofs.randomize_run.Tie as tie
 
 abbrev Inv-loop : tie.InvT-loop
-Inv-loop information sequence out₀ i₀ out i =
-    (i ≤ length information) × (out ≡ take i (randomized 0 information) ++ drop i out₀) × (length out ≡ length out₀)
+Inv-loop octets sequence out₀ i₀ out i =
+    (i ≤ length octets) × (out ≡ take i (randomized 0 octets) ++ drop i out₀) × (length out ≡ length out₀)
 
 abbrev μ-loop : tie.MeasureT-loop
-μ-loop information sequence out₀ i₀ out i = length information - i
+μ-loop octets sequence out₀ i₀ out i = length octets - i
 
 loop-holds : tie.Need-loop-holds Inv-loop μ-loop
 loop-holds c = (search needs, refl, refl)
@@ -43,7 +43,7 @@ loop-again c =
     let l = c .before .before .before .loop in
     let start = c .before .before .before .before in
     let a = start .args in
-    let s = now (a .information) in
+    let s = now (a .octets) in
     let o = length-randomized 0 s in
     let v = bitXor (getD s (l .i) 0) (getD (now (a .sequence)) (l .i) 0) in
     let e : getD (now (a .sequence)) (l .i) 0 ≡ octet (0 + l .i) =
@@ -63,15 +63,15 @@ returns c =
     let l = c .before .loop in
     let start = c .before .before in
     let a = start .args in
-    let r = randomized 0 (now (a .information)) in
-    let o = length-randomized 0 (now (a .information)) in
+    let r = randomized 0 (now (a .octets)) in
+    let o = length-randomized 0 (now (a .octets)) in
     l .inv .1
     ∙ stored r (now (a .out)) (l .i) (omega arith)
     ∙ ap (λ (d : List ℕ). r ++ d) (drop-of-length-le (now (a .out)) {i = length r} (omega arith))
     ∙ append-nil r
 
-pub derandomize-run-spec : {M : Type 1} → statement M
-derandomize-run-spec =
+pub randomize-run-spec : {M : Type 1} → statement M
+randomize-run-spec =
     tie.close
     (tie.spec
     Inv-loop
