@@ -8,7 +8,7 @@ use Rattle.base.specs.Choice.{pick}
 use Rattle.codeblock.specs.declared.Judged.{Judged}
 use Rattle.codeblock.specs.Codeblock.{parity, codeblockOf, syndromeOf, flipped, good, bad}
 
--- the share of an octet with n octets behind it in the error control octet: the parity check bits of this octet with zeros behind it, where they
+-- clause 8.5: the share of an octet with n octets behind it in the error control octet: the parity check bits of this octet with zeros behind it, where they
 -- stand there
 unfoldable pub shareOf : ℕ → ℕ → ℕ
 shareOf n octet = parity (octet ∷ replicate n 0) * 2
@@ -17,11 +17,11 @@ shareOf n octet = parity (octet ∷ replicate n 0) * 2
 pub record ShareTable (table : List ℕ) : Type 0 where
   pub rule : (i : ℕ) → i < 512 → getD table i 0 ≡ shareOf (i / 256) (i % 256)
 
--- the syndrome of a codeblock in which bit i alone is wrong
+-- clause 8.8: the syndrome of a codeblock in which bit i alone is wrong
 unfoldable pub singleSyndrome : ℕ → ℕ
 singleSyndrome i = syndromeOf (flipped i (codeblockOf (replicate 7 0)))
 
--- where no bit gives a syndrome, and where no bit is wrong
+-- where no bit gives a syndrome, and where no bit is wrong: numbers that none of the 63 bits has
 abbrev pub noBit : ℕ
 noBit = 64
 
@@ -37,6 +37,6 @@ bitFor (suc n) i syndrome = pick (eqb (singleSyndrome i) syndrome) i (bitFor n (
 pub record BitTable (table : List ℕ) : Type 0 where
   pub rule : (i : ℕ) → i < 128 → getD table i 0 ≡ bitFor 63 0 (i * 2)
 
--- the judgement of a codeblock by the number of its wrong bit, which is corrected; where none is wrong, nothing of the information changes
+-- document 02, order 3, "that bit is corrected and counted": the judgement by the number of the wrong bit; where none is wrong, nothing of the information changes
 unfoldable pub judgedAt : ℕ → List ℕ → Judged
 judgedAt bit block = pick (eqb bit noBit) bad (good (take 7 (flipped bit block)) (pick (eqb bit noneWrong) 0 1))
