@@ -5,12 +5,12 @@ use mathlib.Core.Path.{_≡_, refl, sym, ap, _∙_}
 use mathlib.Core.Bool.{Bool, true, false, _&&_}
 use mathlib.Core.List.{List}
 use native.Mathlib.Omega.{arith}
-use borrow.Author.Tests.{leb-true, leb-false, lt-leb, ne-eqb}
+use borrow.Author.Tests.{leb-true, leb-false, lt-leb}
 use lib.Dec.{leb, eqb}
 use lib.ListN.{length}
 use Rattle.base.specs.Choice.{pick, must}
 use Rattle.base.proofs.Tests.{yes}
-use Rattle.fop.specs.Limits.{largestK, largestTimer, largestTransmissionLimit, largestNumber}
+use Rattle.fop.specs.Limits.{largestK, largestTimer, largestTransmissionLimit, largestNumber, largestTimeoutType}
 use Rattle.fop.specs.declared.State.{State}
 use Rattle.fop.specs.declared.State.the-variants as state
 use Rattle.fop.specs.Table as table
@@ -21,7 +21,7 @@ use Rattle.sender_values.specs.declared.Work.{Work}
 use Rattle.sender_values.specs.Start.{begun}
 use Rattle.sender_table.specs.Rows.{done, doneAll, doneCell, rowOf}
 use Rattle.sender_events.specs.Events.{eventNumber, directiveNumber}
-use Rattle.session.proofs.Choices.{by-pick, upto, _also_}
+use Rattle.fop.proofs.Choices.{by-pick, upto, _also_}
 use Rattle.sender.specs.Answers.{Step, refusedStep}
 use Rattle.sender_frames.specs.Limits.{needOf}
 use Rattle.sender.specs.Events.{servedBy, served, directiveOf}
@@ -126,7 +126,7 @@ module _ (s : SenderState) (store output : List ℕ) where
           also both-invalid 0 0 8 v refl (over v largestK (omega (arith, large)))
           also both-invalid 0 0 9 v refl (over v largestTimer large)
           also both-invalid 0 0 10 v refl (over v largestTransmissionLimit (omega (arith, large)))
-          also both-invalid 0 0 11 v refl (ne-eqb v 0 (λ e. omega (arith, large, e)))
+          also both-invalid 0 0 11 v refl (lt-leb v largestTimeoutType (omega (arith, large)))
           also tt)
 
       -- whatever the number becomes, it is invalid where it was

@@ -32,7 +32,7 @@ use Rattle.sender_values.specs.declared.Handed.the-variants as handed
 use Rattle.sender_values.specs.declared.SenderState.{SenderState}
 use Rattle.sender_values.specs.declared.Work.{Work}
 use Rattle.session.specs.Frames.{carried, byReading, read}
-use Rattle.session.proofs.Choices.{none-some}
+use Rattle.fop.proofs.Choices.{none-some}
 use Rattle.sender.specs.Answers.{kindHanded, answered, refusing, Step, stepBy, refusedStep}
 use Rattle.sender_frames.specs.Frames.{handedWriting}
 use Rattle.sender_octets.specs.Kept.{stateIn}

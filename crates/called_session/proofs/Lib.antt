@@ -6,3 +6,4 @@ pub mod Sender
 pub mod Theorem
 pub mod Refused
 pub mod Kind
+pub mod Suspension

@@ -6,12 +6,11 @@ use mathlib.Core.Path.{_≡_, refl, sym, ap, subst, _∙_}
 use mathlib.Core.Bool.{Bool}
 use mathlib.Core.List.{List, _++_, append-nil}
 use native.Mathlib.Omega.{arith}
-use borrow.Author.Tests.{le-leb, eq-eqb}
+use borrow.Author.Tests.{le-leb}
 use lib.ListN.{length, drop, drop-of-length-le}
 use Rattle.base.specs.Choice.{must}
-use Rattle.base.specs.Limits.{largestSpacecraft, largestChannel}
 use Rattle.memory.specs.Placed.{placed}
-use Rattle.fop.specs.Limits.{largestK, largestNumber, largestTimer, largestTransmissionLimit}
+use Rattle.fop.specs.Limits.{largestNumber, largestTimer, largestTransmissionLimit}
 use Rattle.fop.specs.Events.{directive}
 use Rattle.sender_values.specs.declared.SenderState.{SenderState}
 use Rattle.sender_values.specs.Start.{startOf}
@@ -21,25 +20,24 @@ use Rattle.receiver.specs.Receiver as farmStart
 use Rattle.receiver.specs.declared.Start.{Start as FarmStart}
 use Rattle.receiver.specs.declared.Start.the-variants.{Setting as FarmSetting}
 use Rattle.receiver_octets.proofs.Restored.{receiver-back}
-use Rattle.session.specs.Ends.{Settings, Within, Tied, startReceiver, tables}
-use Rattle.session.specs.Session.{Event, begins, run}
-use Rattle.session.specs.Claims.{Claims}
+use Rattle.session.specs.Ends.{Settings, Within, Tied, startReceiver}
+use Rattle.session.specs.Signed.{Demanded, DemandedAlerting}
 use Rattle.session.specs.Beyond.{Beyond}
 use Rattle.session.proofs.Theorem.{demand3}
+use Rattle.session.proofs.Alerting.{demand3-alerting, beyond-alerting}
 use Rattle.session.proofs.Strong.{stronger-claims}
 use Rattle.session.proofs.Beyond.{beyond}
 use Rattle.sender.specs.declared.Start.{Start}
 use Rattle.fop.specs.Store.{storeNeed}
-use Rattle.sender.specs.Start.{startingOf}
 use Rattle.sender_octets.specs.Kept.{stateOctets, octetsOf, isState}
 use Rattle.sender_octets.proofs.Judged.{length-octets}
 use Rattle.pondreszi_sender.specs.Senders as sender
 use Rattle.pondreszi_receiver.specs.Receivers as receiver
 use Rattle.our_session.specs.Ours.{Held, stepOf, heldAfter, lentOutput, senderSettings, freshHeld, startHeld, reads, Begins}
-use Rattle.our_session.proofs.Theorem.{fresh-good, fresh-begins, receiver-starts}
+use Rattle.our_session.proofs.Theorem.{starts, fresh-good, fresh-begins, receiver-starts}
 use Rattle.our_session.proofs.Widened.{good-well}
 use Rattle.called_session.specs.Called.{Kept, heldIn, BeginsKept, called}
-use Rattle.called_session.specs.Demand.{Demand3, StrongerCalled, BeyondCalled}
+use Rattle.called_session.specs.Demand.{Demand3, StrongerCalled, BeyondCalled, AlertingCalled}
 use Rattle.called_session.specs.Fresh.{newSender, newKept, startKept, FreshSender, FreshReceiver}
 use Rattle.called_session.proofs.Receiver.{GoodReceiver, keeps-receiver, next-receiver, answer-receiver, word-receiver, start-good}
 use Rattle.called_session.proofs.Sender.{placed-whole, GoodKept, good-kept, octets-kept, held-is, keeps, next, answers}
@@ -64,12 +62,16 @@ called-tied set within x b = record {
   word = λ lent state g. word-receiver state g lent (lentOutput lent);
 }
 
--- demand 3, whole, and what holds besides
+-- demand 3, whole; at Timeout_Type 0 after every list of events, as document 01 words it; and what holds besides
 pub demand3-called : Demand3
-demand3-called set within x b es = demand3 set within (called set x) (called-tied set within x b) es
+demand3-called set within x b = demand3 set within (called set x) (called-tied set within x b)
+
+pub alerting-called : AlertingCalled
+alerting-called set within x b =
+    (demand3-alerting set within (called set x) (called-tied set within x b), beyond-alerting set within (called set x) (called-tied set within x b))
 
 pub stronger-called : StrongerCalled
-stronger-called set within x b es = stronger-claims set within (called set x) (called-tied set within x b) es
+stronger-called set within x b = stronger-claims set within (called set x) (called-tied set within x b)
 
 pub beyond-called : BeyondCalled
 beyond-called set within x b = beyond set within (called set x) (called-tied set within x b)
@@ -80,20 +82,6 @@ module _ (set : Settings) (within : Within set) (store : List ℕ) (long : store
   abbrev first : SenderState
   first = startOf (senderSettings set) (set .n) (set .n)
 
-  started : startingOf (senderSettings set) (set .n) (set .n) (length store) ≡ record { refusal = 0; sender = record { fop = first } }
-  unfolding startingOf
-  started =
-      simp (
-        le-leb 1 (set .k) (within .windowLeast),
-        le-leb (set .k) largestK (within .windowMost),
-        le-leb 1 (set .t1) (within .timerLeast),
-        le-leb 1 (set .limit) (within .limitLeast),
-        eq-eqb (set .timeoutType) 0 (omega (arith, within .timeoutMost)),
-        le-leb (set .own .spacecraft) largestSpacecraft (within .spacecraft),
-        le-leb (set .own .channel) largestChannel (within .channel),
-        le-leb (storeNeed (set .k) 0) (length store) long,
-      )
-
   given : sender.startGiven (set .k) (set .t1) (set .limit) (set .timeoutType) (set .own .spacecraft) (set .own .channel) (set .n) (set .n) (length store)
       ≡ record { refusal = 0; sender = record { fop = first } }
   unfolding sender.startGiven
@@ -103,11 +91,11 @@ module _ (set : Settings) (within : Within set) (store : List ℕ) (long : store
         le-leb (set .limit) largestTransmissionLimit (within .limitMost),
         le-leb (set .n) largestNumber (within .number),
       )
-      started
+      (starts set within (set .n) (within .number) store long)
 
   held-first : freshHeld set (set .n) store ≡ record { sender = record { fop = first }; store = store }
   unfolding freshHeld
-  held-first = ap (λ (x : Start). record { sender = x .sender; store = store }) started
+  held-first = ap (λ (x : Start). record { sender = x .sender; store = store }) (starts set within (set .n) (within .number) store long)
 
   first-good : Good (set .own) first store
   first-good =
@@ -155,12 +143,9 @@ fresh-called set within one store long buffer sized = record {
 
 -- so demand 3 holds from there
 pub demand3-fresh : (set : Settings) → Within set → set .count ≡ 1 → (store : List ℕ) → storeNeed (set .k) 0 ≤ length store → (buffer : List ℕ)
-    → length buffer ≡ stateOctets → (es : List Event)
-    → Claims set (called set (startKept set store buffer))
-    (run set (called set (startKept set store buffer)) es (begins (called set (startKept set store buffer))))
-    (run set (tables set) es (begins (tables set)))
-demand3-fresh set within one store long buffer sized es =
-    demand3-called set within (startKept set store buffer) (fresh-called set within one store long buffer sized .begins) es
+    → length buffer ≡ stateOctets → Demanded set (called set (startKept set store buffer))
+demand3-fresh set within one store long buffer sized =
+    demand3-called set within (startKept set store buffer) (fresh-called set within one store long buffer sized .begins)
 
 -- and all that holds beyond it
 pub beyond-fresh : (set : Settings) → Within set → set .count ≡ 1 → (store : List ℕ) → storeNeed (set .k) 0 ≤ length store → (buffer : List ℕ)

@@ -3,3 +3,4 @@ pub mod Demand
 pub mod Fresh
 pub mod Refused
 pub mod Kind
+pub mod Suspension

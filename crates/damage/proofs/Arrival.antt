@@ -17,8 +17,9 @@ use Rattle.start_sequence.specs.StartSequence.{startOf, Received}
 use Rattle.cltu.specs.Cltu.{codeblocks, fillOctet, filled, cltuOf, Found, reading}
 use Rattle.fop.specs.Units.{Frame, AD, BD, Unlock, SetVR, Refused, areOctets, written}
 use Rattle.session.specs.Frames.{read}
-use Rattle.session.specs.Ends.{Settings, Within, Ends, Tied}
+use Rattle.session.specs.Ends.{Settings, Within, Ends, Tied, tables}
 use Rattle.session.specs.Session.{Linked, begins, frameLost, frameCome}
+use Rattle.session.specs.Suspension.{linkUnrejected}
 use Rattle.session.specs.Channels.{LinkEvent, demanded, negativeWindow, frameFilled, noise, isFill, largestFill, isRefused, linkStep, linkRun}
 use Rattle.session.proofs.Octets.{legal-is}
 use Rattle.session.proofs.Received.{Readable}
@@ -80,7 +81,8 @@ module _ (set : Settings) (vw : Within set) (kept : ℕ) (m : Ends) (σ : Linked
   arrival-in-mode before start body octets r none few mode room found e =
       handed octets (two-refused-or-sent frame body (whole .octets) (whole .high) before start r none whole few mode room octets found e)
 
--- So it is of the oldest frame under way in every session: of all ends that do as the tables say, after every list of events.
+-- So it is of the oldest frame under way in every session: of all ends that do as the tables say, after every list of events in which no lower-layer
+-- reject comes while suspended.
 sendable : (x : Frame) → Readable x → Sendable x
 sendable (AD u) h = let l = legal-is (u .octets) (h .0) in (h .1, l .0, l .1, l .2)
 sendable (BD o) h = legal-is o h
@@ -88,7 +90,8 @@ sendable Unlock h = absurd h
 sendable (SetVR v) h = absurd h
 sendable (Refused r) h = absurd h
 
-module _ (set : Settings) (vw : Within set) (m : Ends) (t : Tied set m) (kept : ℕ) (most : kept ≤ negativeWindow set) (es : List LinkEvent) where
+module _ (set : Settings) (vw : Within set) (m : Ends) (t : Tied set m) (kept : ℕ) (most : kept ≤ negativeWindow set) (es : List LinkEvent)
+    (unrejected : linkUnrejected set kept es (begins (tables set)) ≡ true) where
   abbrev come : Linked m
   come = linkRun set kept m es (begins m)
 
@@ -100,7 +103,7 @@ module _ (set : Settings) (vw : Within set) (m : Ends) (t : Tied set m) (kept : 
 
   under-way : (s : List ℕ) (fs : List (List ℕ)) → come .frames ≡ s ∷ fs → (x : Frame) × (Sendable x) × (s ≡ written (set .own) x)
   under-way s fs e =
-      let k = from-start set vw m t kept most (λ κ. Unit {0}) (λ e κ I x. tt) tt es in
+      let k = from-start set vw m t kept most (λ κ. Unit {0}) (λ e κ a I x. tt) tt es unrejected in
       let κ = k .session in
       oldest (κ .frames) (fly-reads (set .n) _ (κ .sent) (k .inv .base .num) _ _ (κ .frames) (k .inv .base .fly)) s fs (sym e ∙ k .ends .frames)
 

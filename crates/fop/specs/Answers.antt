@@ -24,7 +24,7 @@ runOf (u ∷ us) = record { number = u .ns; count = length (u ∷ us) }
 
 -- document 01: "Each event's answer gives the next state, the frame handed down if any, any abort to the lower layer, every response of the
 -- table's actions in their order .., the alert if any with its reason, and two runs of units". Besides: document 01's refusal, 0 for done;
--- the event of table 7-8, if any; and whether a Suspend notification is issued, which is never so for now.
+-- the event of table 7-8, if any; and whether a Suspend notification is issued (clause 7.9.2.18; document 02, order 9).
 pub record Answer : Type 0 where
   pub refusal : ℕ
   pub event : Option FopEvent

@@ -1,4 +1,5 @@
 -- The effective state of FOP-1: the state whose work a suspended sender keeps (clauses 7.2.2 and 7.4.2.6, Suspend_State).
+use mathlib.Core.Bool.{Bool, true, false, not}
 use Prim.Native.Nat.{ℕ}
 use lib.Dec.{eqb}
 use Rattle.base.specs.Choice.{pick}
@@ -24,3 +25,16 @@ effectiveOf S6 n = suspendedIn n
 -- the same of the variables
 abbrev pub effective : Fop → State
 effective f = effectiveOf (f .state) (f .suspendState)
+
+-- the AD service is suspended ("If SS = 0, the AD service is not suspended")
+abbrev pub isSuspended : Fop → Bool
+isSuspended f = not (eqb (f .suspendState) 0)
+
+-- the main protocol's states, S1 to S3
+abbrev pub inService : State → Bool
+inService S1 = true
+inService S2 = true
+inService S3 = true
+inService S4 = false
+inService S5 = false
+inService S6 = false

@@ -8,7 +8,7 @@ use Rattle.base.specs.Choice.{pick}
 use Rattle.base.specs.Modulo.{offset}
 use Rattle.fop.specs.declared.Lower.{Lower}
 use Rattle.fop.specs.declared.Lower.the-variants.{AdAccept, AdReject, BcAccept, BcReject, BdAccept, BdReject}
-use Rattle.fop.specs.Limits.{largestK, largestTransmissionLimit, largestTimer, largestNumber}
+use Rattle.fop.specs.Limits.{largestK, largestTransmissionLimit, largestTimer, largestNumber, largestTimeoutType}
 use Rattle.fop.specs.Units.{Own, Word, WordReceived, valid, invalid, other, readWord}
 use Rattle.fop.specs.Table.{FopEvent, E1, E2, E3, E4, E5, E6, E7, E8, E9, E10, E11, E12, E13, E14, E15, E16, E17, E18, E19, E20, E21, E22, E23, E24, E25, E26, E27, E28, E29, E30, E31, E32, E33, E34}
 use Rattle.fop.specs.Table.{E35, E36, E37, E38, E39, E40, E41, E42, E43, E44, E45, E46, E101, E102, E103, E104}
@@ -115,20 +115,29 @@ lowerEvent BcReject = E44
 lowerEvent BdAccept = E45
 lowerEvent BdReject = E46
 
+-- a reject of the lower layer: of an AD, a BC or a BD frame alike
+abbrev pub isReject : Lower → Bool
+isReject AdAccept = false
+isReject AdReject = true
+isReject BcAccept = false
+isReject BcReject = true
+isReject BdAccept = false
+isReject BdReject = true
+
 -- E41 to E46
 unfoldable pub fopLower : Lower → Fop → Work
 fopLower l f = fopDo (lowerEvent l) [] 0 f
 
 -- document 01: "Directives by number of the directive, 1 to 11: Initiate without check, with CLCW check, with Unlock, with Set V(R);
 -- Terminate; Resume; Set V(S); Set K; Set timer; Set transmission limit; Set Timeout_Type. Any other number, or a value outside its limit,
--- is the invalid directive", and Timeout_Type 1 "is one too for now". A value that a directive has no use for is not looked at.
+-- is the invalid directive". A value that a directive has no use for is not looked at.
 abbrev pub validDirective : ℕ → ℕ → Bool
 validDirective d v =
     leb 1 d && leb d 11
     && pick (eqb d 4 || eqb d 7) (leb v largestNumber)
     (pick (eqb d 8) (leb 1 v && leb v largestK)
     (pick (eqb d 9) (leb 1 v && leb v largestTimer)
-    (pick (eqb d 10) (leb 1 v && leb v largestTransmissionLimit) (pick (eqb d 11) (eqb v 0) true))))
+    (pick (eqb d 10) (leb 1 v && leb v largestTransmissionLimit) (pick (eqb d 11) (leb v largestTimeoutType) true))))
 
 -- Unlock and Set V(R) by the BC_Out_Flag, Resume by Suspend_State
 abbrev pub directiveLines : ℕ → ℕ → Fop → List Line

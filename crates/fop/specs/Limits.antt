@@ -18,6 +18,7 @@ largestNumber = 255
 abbrev pub largestSuspendState : ℕ
 largestSuspendState = 4
 
--- Timeout_Type is 0 or 1 (clause 7.2.2), and "Timeout_Type 1 is one too for now": a value outside its limit
+-- Timeout_Type is 0 or 1 (clause 7.2.2). Document 01's "Timeout_Type 1 is one too for now" is amended by document 02, order 9: "Setting 1 is no
+-- longer refusal 12; 2 and above still are."
 abbrev pub largestTimeoutType : ℕ
-largestTimeoutType = 0
+largestTimeoutType = 1

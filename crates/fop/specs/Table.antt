@@ -1,5 +1,5 @@
 -- Table 7-8, the FOP-1 state table, row by row: for each event and state the actions, in the standard's words, and the next state.
--- E18, E31 to E34 and E104 are suspension's rows: with Timeout_Type and Suspend_State 0 no event meets them (specs/Events).
+-- E18, E31 to E34 and E104 are suspension's rows (document 02, order 9): with Timeout_Type and Suspend_State 0 no event meets them (specs/Events).
 use mathlib.Core.List.{List, [], _∷_}
 use Prim.Native.Nat.{ℕ}
 use Rattle.fop.specs.declared.Alert.{Alert as Reason}

@@ -50,7 +50,7 @@ pub record Queues : Type 0 where
   pub waitQueue : Option (List ℕ)
   pub bcFrame : Option BcEntry
 
--- Suspend_State and Timeout_Type stay 0 for now ("Timeout_Type 1 is one too for now, so Suspend_State stays 0")
+-- the variables
 pub record Fop : Type 0 where
   pub state : State
   pub suspendState : ℕ

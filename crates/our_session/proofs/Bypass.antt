@@ -26,8 +26,8 @@ use Rattle.sender_values.specs.Start.{begun, noneTold}
 use Rattle.sender_table.specs.Rows.{done, doneAll, doneCell, rowOf}
 use Rattle.sender_events.specs.Events.{eventNumber}
 use Rattle.sender_rows_view.proofs.Allowed.{every, every-in}
-use Rattle.session.proofs.Choices.{by-pick}
-use Rattle.session.proofs.Test.{isThere}
+use Rattle.fop.proofs.Choices.{by-pick}
+use Rattle.fop.proofs.Test.{isThere}
 
 -- a type-BD frame is handed down
 abbrev pub bypasses : Handed → Bool

@@ -17,7 +17,7 @@ use Rattle.base.specs.Outcome as outcome
 use Rattle.base.proofs.Tests.{both-left, both-right, yes, no}
 use Rattle.base.proofs.Computed.{is-true}
 use Rattle.base.proofs.Lists.{octets-at}
-use Rattle.store.specs.Places.{unitAt, without}
+use Rattle.store.specs.Places.{unitAt}
 use Rattle.store.specs.Slid.{slid}
 use Rattle.store.proofs.Parts.{slid-none}
 use Rattle.store.proofs.Moving.{without-none}
@@ -49,7 +49,7 @@ use Rattle.sender_table.specs.Rows.{eventOf, rowIf, rowOf, rowNumbered}
 use Rattle.sender_events.specs.Events.{eventNumber, variablesOf, expiryNumber, adNumber, bdNumber, lowerNumber, directiveNumber, windowOf, wordNumber, told}
 use Rattle.sender_rows_view.specs.State.{Good}
 use Rattle.sender_rows_view.proofs.Rows.{brings, Meets, isOffering}
-use Rattle.session.proofs.Test.{first-all}
+use Rattle.fop.proofs.Test.{first-all}
 use Rattle.session.proofs.Octets.{octets-are}
 use Rattle.sender.specs.Answers.{Step, stepBy, refusedStep}
 use Rattle.sender_frames.specs.Limits.{needOf}
@@ -252,7 +252,6 @@ module _ (own : Own) (s : SenderState) (store : List ℕ) (lent : ℕ) (well : W
     type-most = good .type-most;
     suspend-most = good .suspend-most;
     suspend-initial = good .suspend-initial;
-    serving = good .serving;
     sent-main = good .sent-main;
     waiting-main = good .waiting-main;
     stopped = λ q. omega (arith, good .stopped q);
@@ -272,7 +271,7 @@ module _ (own : Own) (s : SenderState) (store : List ℕ) (lent : ℕ) (well : W
   unfolding expiryNumber work fopTick fopExpiry judged begun
   expires one =
       by-row tick refl refl expired 0 (ticked s) (yes _ _ _ (eq-eqb (s .variables .timer) 1 one))
-      (λ g. (ticked-good g, expiry-meets (ticked s) (g .type-most) (omega (arith, one)))) refl refl expiry-plain
+      (λ g. (ticked-good g, expiry-meets (ticked s) (omega (arith, one)))) refl refl expiry-plain
 
   -- any other
   passes : Good own s store → Agrees own lent f (machine.begin none [] 0 lowered) (servedBy 0 s (rowNumbered 0 0 (begun (ticked s))) store output)

@@ -2,9 +2,9 @@
 -- layer is ready, both are accepted, and one control word confirms both (`our-session`). And two ends that come to the session's start by
 -- Initiate with Set V(R), its frame sent twice: Transmission_Count and the FARM-B counter are 2 there (`twice-begins`, `twice-received`). And a
 -- sender at a start with two numbers far apart (`far-start`). And Set K with units outstanding, judged by the new K (`set-k`);
--- once they are confirmed a smaller store suffices (`need-after`).
+-- once they are confirmed a smaller store suffices (`need-after`). And a suspension and its Resume (`our-suspension`).
 use mathlib.Core.Path.{_≡_, refl, ap, _∙_}
-use mathlib.Core.Bool.{false}
+use mathlib.Core.Bool.{true, false}
 use mathlib.Core.List.{List, [], _∷_}
 use mathlib.Core.Option.{some}
 use Prim.Native.Nat.{ℕ, _-_, _≤_}
@@ -12,6 +12,8 @@ use lib.Dec.{leb→le}
 use lib.ListN.{length, replicate}
 use Rattle.fop.specs.Units.{Fdu, SetVR, written}
 use Rattle.fop.specs.declared.Lower.the-variants.{AdAccept, BcAccept}
+use Rattle.fop.specs.declared.State.{State}
+use Rattle.fop.specs.declared.State.the-variants.{S1, S6}
 use Rattle.fop.specs.Variables.{Fop}
 use Rattle.sender_view.specs.View.{fopOf}
 use Rattle.fop.specs.Store.{larger, storeNeed}
@@ -26,6 +28,9 @@ use Rattle.frame.specs.Frame.{rawWriting}
 use Rattle.store.specs.Places as stored
 use Rattle.store.specs.Slid as slide
 use Rattle.memory.specs.Placed as place
+use Rattle.sender_values.specs.declared.Control.the-variants as control
+use Rattle.sender_values.specs.declared.Queues.{Queues}
+use Rattle.sender_values.specs.declared.Variables.{Variables}
 use Rattle.sender_values.specs.Actions as act
 use Rattle.sender_values.specs.Parts as parts
 use Rattle.sender_values.specs.Start as start
@@ -196,3 +201,43 @@ pub need-after : (narrowedK .sender .fop .settings .k ≡ 1)
     × (refusalWith tick (storeNeed 1 0 - 1) ≡ 11)
 unfolding computingOurs act.setK
 need-after = (refl, refl, refl, refl, refl, refl, refl)
+
+-- Told Timeout_Type 1 at a limit of 3, with one unit outstanding and marked and one waiting: the third expiry suspends (E18, the two before it are E104).
+-- While suspended an AD request is rejected, and Terminate changes nothing. Resume (E31) brings back queues with marks, V(S) and NN(R), and starts the timer.
+abbrev left : Held
+left =
+    heldAfterAll ((directive 11 1, 0) ∷ (requestAd (17 ∷ []), 8) ∷ (requestAd (34 ∷ []), 0) ∷ (tick, 0) ∷ (tick, 0) ∷ []) (startHeld set store)
+
+abbrev suspended : Held
+suspended = heldAfter (stepOf tick [] left)
+
+abbrev resumed : Held
+resumed = heldAfterAll ((offering, 0) ∷ (directive 5 0, 0) ∷ (directive 6 0, 0) ∷ []) suspended
+
+-- the state, the variables and the queues
+abbrev seen : Held → State × Variables × Queues
+seen x = (x .sender .fop .state, x .sender .fop .variables, x .sender .fop .queues)
+
+abbrev standing : State → ℕ → ℕ → State × Variables × Queues
+standing state suspendState timer = (
+  state,
+  record {
+    vs = 255;
+    nnr = 254;
+    timer = timer;
+    «transmission_count» = 3;
+    «ad_out» = false;
+    «bc_out» = true;
+    «bd_out» = true;
+    «suspend_state» = suspendState;
+  },
+  record { sent = 1; marked = 1; waiting = true; control = control.None; «control_marked» = false },
+)
+
+pub our-suspension : (seen left ≡ standing S1 0 1)
+    × (stepOf tick [] left .answer .suspended ≡ true)
+    × (seen suspended ≡ standing S6 1 0)
+    × (seen resumed ≡ standing S1 0 1)
+    × (eventsOf (tick ∷ offering ∷ directive 5 0 ∷ directive 6 0 ∷ []) left ≡ (18, 0) ∷ (20, 0) ∷ (29, 0) ∷ (31, 0) ∷ [])
+unfolding computingOurs act.setTimeoutType act.suspend act.resumed
+our-suspension = (refl, refl, refl, refl, refl)

@@ -16,3 +16,4 @@ pub mod Refused
 pub mod Output
 pub mod Restored
 pub mod Behind
+pub mod Suspension

@@ -7,7 +7,7 @@ use mathlib.Core.Bool.{Bool, true, false, not, _&&_}
 use mathlib.Core.List.{List, [], _∷_}
 use native.Mathlib.Omega.{arith}
 use borrow.Author.Tests.{ltb-true, ltb-false, eqb-true, eqb-false, not-true}
-use lib.Dec.{T, leb, ltb, eqb, leb→le, eqb→eq}
+use lib.Dec.{T, leb, ltb, eqb, leb→le}
 use Rattle.base.specs.Modulo.{offset}
 use Rattle.base.proofs.Tests.{apart, yes, no}
 use Rattle.base.proofs.Computed.{is-true}
@@ -19,8 +19,8 @@ use Rattle.sender_values.specs.declared.SenderState.{SenderState}
 use Rattle.sender_values.specs.Start.{begun}
 use Rattle.sender_events.specs.Events.{eventNumber, variablesOf}
 use Rattle.sender_rows_view.proofs.Rows.{acknowledging, Needed, Meets}
-use Rattle.session.proofs.Choices.{by-pick, and-l, and-r, upto, _also_}
-use Rattle.session.proofs.Test.{first-all}
+use Rattle.fop.proofs.Choices.{by-pick, and-l, and-r, upto, _also_}
+use Rattle.fop.proofs.Test.{first-all}
 
 -- The first line that holds: it has what its own condition gives.
 abbrev Each : (FopEvent → Type 0) → List Line → Type 0
@@ -130,7 +130,7 @@ module _ (v : ℕ) (s : SenderState) (most : s .variables .«suspend_state» ≤
       also (λ h k. k refl)
       also (λ h k. within-limits v largestTimer h .0)
       also (λ h k. within-limits v largestTransmissionLimit h)
-      also (λ h k. omega (arith, eqb→eq v 0 h))
+      also (λ h k. leb→le v largestTimeoutType h)
       also tt)
 
 -- Set K is met by the sender that has the new K already
@@ -147,12 +147,11 @@ pub window-limits : (v : ℕ) → validDirective 8 v ≡ true → (1 ≤ v) × (
 window-limits v valid = within-limits v largestK (subst T (sym valid) tt)
 
 -- The expiry of the timer: E16 or E17 with Timeout_Type 0, else E104 or E18.
-pub expiry-meets : (s : SenderState) → s .settings .«timeout_type» ≤ largestTimeoutType → s .variables .timer ≡ 0
+pub expiry-meets : (s : SenderState) → s .variables .timer ≡ 0
     → Meets (first (expiryLines (ltb (s .variables .«transmission_count») (s .settings .«transmission_limit»)) (eqb (s .settings .«timeout_type») 0)) E18) [] 0 s
-expiry-meets s most stopped = by _ _ (λ t. omega (arith, most, eqb-false (s .settings .«timeout_type») 0 t)) (ltb-true _ _) where
-  by : (a b : Bool) → (b ≡ false → s .settings .«timeout_type» ≡ 1) → (a ≡ true → s .variables .«transmission_count» < s .settings .«transmission_limit»)
-      → Meets (first (expiryLines a b) E18) [] 0 s
-  by true true one short = short refl
-  by false true one short = tt
-  by true false one short = (short refl, one refl, stopped)
-  by false false one short = (one refl, stopped)
+expiry-meets s stopped = by _ _ (ltb-true _ _) where
+  by : (a b : Bool) → (a ≡ true → s .variables .«transmission_count» < s .settings .«transmission_limit») → Meets (first (expiryLines a b) E18) [] 0 s
+  by true true short = short refl
+  by false true short = tt
+  by true false short = (short refl, stopped)
+  by false false short = stopped

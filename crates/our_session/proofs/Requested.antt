@@ -15,6 +15,7 @@ use Rattle.store.proofs.Parts.{slid-none}
 use Rattle.store.proofs.Moving.{without-none}
 use Rattle.store.proofs.Laws.{put-there, put-before}
 use Rattle.store.proofs.Need.{larger-second}
+use Rattle.fop.specs.Effective.{inService}
 use Rattle.fop.specs.Units.{Own}
 use Rattle.fop.specs.Table.{FopEvent, table78, cell78, E19, E20, E21, E22}
 use Rattle.fop.specs.Variables as machine
@@ -29,12 +30,12 @@ use Rattle.sender_values.specs.Actions.{unitsHeld}
 use Rattle.sender_values.specs.Parts.{withVariables, withTold}
 use Rattle.sender_values.specs.Start.{begun, noneTold, senderOf}
 use Rattle.sender_view.specs.View.{fopOf}
-use Rattle.sender_table.specs.Rows.{inMain, done, doneAll, doneCell, rowOf}
+use Rattle.sender_table.specs.Rows.{done, doneAll, doneCell, rowOf}
 use Rattle.sender_events.specs.Events.{eventNumber}
 use Rattle.sender_rows_view.specs.State.{Good}
 use Rattle.sender_rows_view.proofs.Rows.{Meets, Shows, brings, isOffering, lengthsAfter}
 use Rattle.sender_rows_view.proofs.Allowed.{in-states}
-use Rattle.session.proofs.Choices.{never}
+use Rattle.fop.proofs.Choices.{never}
 use Rattle.sender_rows_view.proofs.Theorem.{row-view, row-few}
 use Rattle.sender.specs.Answers.{stepBy}
 use Rattle.sender_frames.specs.Frames.{handedWriting, placeHanded, unitOffered}
@@ -54,10 +55,10 @@ module _ (n : ℕ) (s : SenderState) where
   abbrev Tells : Handed → Work → Type 0
   Tells h w = (w .told .handed ≡ h) × (w .told .confirmed .count ≡ 0)
 
-  e19-outside : inMain (s .state) ≡ false → rowOf E19 n (begun s) .told .handed ≡ handed.None
+  e19-outside : inService (s .state) ≡ false → rowOf E19 n (begun s) .told .handed ≡ handed.None
   unfolding rowOf table78 doneCell doneAll done act.respond act.toState withTold begun noneTold
   e19-outside =
-      in-states (λ x. inMain x ≡ false → inState E19 x .told .handed ≡ handed.None) never never never (λ t. refl) (λ t. refl) (λ t. refl) (s .state)
+      in-states (λ x. inService x ≡ false → inState E19 x .told .handed ≡ handed.None) never never never (λ t. refl) (λ t. refl) (λ t. refl) (s .state)
 
   e20-none : Tells handed.None (rowOf E20 n (begun s))
   unfolding rowOf table78 doneCell doneAll done act.respond act.toState withTold begun noneTold
@@ -100,10 +101,10 @@ module _ (own : Own) (o : List ℕ) (s : SenderState) (store : List ℕ) (lent :
   put = unitPut (s .queues .sent) o store
 
   abbrev lengths : List ℕ
-  lengths = pick (inMain (s .state)) longer (s .lengths)
+  lengths = pick (inService (s .state)) longer (s .lengths)
 
   abbrev new : List ℕ
-  new = pick (inMain (s .state)) put store
+  new = pick (inService (s .state)) put store
 
   abbrev m : machine.Work
   m = fopDo E19 o 0 (fopOf (begun s) (s .lengths) store)
@@ -120,7 +121,7 @@ module _ (own : Own) (o : List ℕ) (s : SenderState) (store : List ℕ) (lent :
   fits-store = omega (arith, good .formed .room, legal .1, larger-second (s .settings .k) (s .queues .sent))
 
   -- the unit at a place, before and after, in S1 to S3
-  unit-is : inMain (s .state) ≡ true → (i : ℕ) → i < w .queues .sent
+  unit-is : inService (s .state) ≡ true → (i : ℕ) → i < w .queues .sent
       → pick (eqb i (s .queues .sent)) o (unitAt (s .lengths) i store) ≡ unitAt lengths i new
   unfolding begun
   unit-is t i h = by (eqb i (s .queues .sent)) refl where
@@ -147,11 +148,11 @@ module _ (own : Own) (o : List ℕ) (s : SenderState) (store : List ℕ) (lent :
   carried handed.None q = tt
   carried (handed.Ad k i) q =
       let p : i < w .queues .sent = shows .sent k i q in
-      let v : (b : Bool) → inMain (s .state) ≡ b → inMain (s .state) ≡ true = main k i q in
+      let v : (b : Bool) → inService (s .state) ≡ b → inService (s .state) ≡ true = main k i q in
       let u : unitOffered s w o store ≡ unitAt lengths i new =
-      ap (λ (h : Handed). pick (eqb (placeHanded h) (s .queues .sent)) o (unitAt (s .lengths) (placeHanded h) store)) q ∙ unit-is (v (inMain (s .state)) refl) i p in
+      ap (λ (h : Handed). pick (eqb (placeHanded h) (s .queues .sent)) o (unitAt (s .lengths) (placeHanded h) store)) q ∙ unit-is (v (inService (s .state)) refl) i p in
       (u, subst Fits (sym u) (held-fits own (senderOf w lengths) new i (shows .good) p)) where
-        main : (k i : ℕ) → w .told .handed ≡ handed.Ad k i → (b : Bool) → inMain (s .state) ≡ b → inMain (s .state) ≡ true
+        main : (k i : ℕ) → w .told .handed ≡ handed.Ad k i → (b : Bool) → inService (s .state) ≡ b → inService (s .state) ≡ true
         main k i q true t = t
         main k i q false t = let z : handed.None ≡ handed.Ad k i = sym (e19-outside 0 s t) ∙ q in absurd (true≢false (ap isNone z))
   carried handed.Bd q = absurd (true≢false (sym (ap bypasses q) ∙ no-bypass E19 0 s refl))

@@ -8,11 +8,12 @@ use native.Mathlib.Omega.{arith}
 use borrow.Author.Tests.{leb-true, le-leb, eqb-true, eq-eqb, not-true}
 use lib.Dec.{leb, eqb}
 use lib.ListN.{length, getD, length-replicate}
-use Rattle.base.specs.Choice.{both}
+use Rattle.base.specs.Choice.{pick, both}
 use Rattle.base.specs.Limits.{largestUnit, largestSpacecraft, largestChannel}
 use Rattle.base.specs.Modulo.{offset}
-use Rattle.base.proofs.Tests.{both-left as left, both-right as right}
-use Rattle.fop.specs.Limits.{largestK, largestTransmissionLimit}
+use Rattle.base.proofs.Tests.{both-left as left, both-right as right, no}
+use Rattle.fop.specs.Effective.{suspendedIn, effectiveOf, inService}
+use Rattle.fop.specs.Limits.{largestK, largestTransmissionLimit, largestTimeoutType, largestSuspendState}
 use Rattle.fop.specs.Units.{Own}
 use Rattle.sender_values.specs.declared.Queues.{Queues}
 use Rattle.sender_values.specs.declared.SenderState.{SenderState}
@@ -22,13 +23,12 @@ use Rattle.fop.specs.declared.State.the-variants as state
 use Rattle.sender_values.specs.declared.Variables.{Variables}
 use Rattle.store.specs.Places.{places}
 use Rattle.sender_values.specs.Start.{startOf, begun}
-use Rattle.sender_table.specs.Rows.{inMain, isFrame}
+use Rattle.sender_table.specs.Rows.{isFrame}
 use Rattle.sender_values.specs.Actions.{unitsHeld}
-use Rattle.sender_rows_view.specs.State.{Good, withFrame, effective}
-use Rattle.sender_rows_view.proofs.Theorem.{effective-state}
+use Rattle.sender_rows_view.specs.State.{Good, initial, withFrame}
 use Rattle.fop.specs.Store.{storeNeed}
 use Rattle.sender_frames.specs.Limits.{needOf}
-use Rattle.sender_state.specs.State.{settingsHold, numbersHold, isEmpty, stateHolds, lengthsHold, wellFormed}
+use Rattle.sender_state.specs.State.{settingsHold, numbersHold, isEmpty, isServing, initialHolds, stateHolds, lengthsHold, wellFormed}
 
 -- two tests that hold
 joined : (a b : Bool) → a ≡ true → b ≡ true → both a b ≡ true
@@ -58,19 +58,41 @@ lengths-least (suc n) (x ∷ xs) t (suc i) h k = lengths-least n xs (right (leb 
 
 -- By the state.
 module _ (v : Variables) (q : Queues) where
+  -- the state recorded where the sender is Initial
+  abbrev kept : State
+  kept = suspendedIn (v .«suspend_state»)
+
   abbrev Outside : State → Type 0
-  Outside s = inMain s ≡ false → (q .sent ≡ 0) × (q .waiting ≡ false)
+  Outside s = inService (effectiveOf s (v .«suspend_state»)) ≡ false → (q .sent ≡ 0) × (q .waiting ≡ false)
+
+  abbrev Serving : State → Type 0
+  Serving s = initial s ≡ false → v .«suspend_state» ≡ 0
 
   empty-test : q .sent ≡ 0 → q .waiting ≡ false → isEmpty q ≡ true
   empty-test z w = joined _ _ (eq-eqb (q .sent) 0 z) (ap not w)
 
-  state-test : (s : State) → Outside s → (s ≡ state.S6 → v .timer ≡ 0) → isFrame (q .control) ≡ withFrame s → stateHolds s v q ≡ true
-  state-test state.S1 o t f = ap not f
-  state-test state.S2 o t f = ap not f
-  state-test state.S3 o t f = ap not f
-  state-test state.S4 o t f = joined _ _ (empty-test (o refl .0) (o refl .1)) (ap not f)
-  state-test state.S5 o t f = joined _ _ (empty-test (o refl .0) (o refl .1)) f
-  state-test state.S6 o t f = joined _ _ (empty-test (o refl .0) (o refl .1)) (joined _ _ (ap not f) (eq-eqb (v .timer) 0 (t refl)))
+  initial-test : (b : Bool) → (b ≡ false → (q .sent ≡ 0) × (q .waiting ≡ false)) → pick b true (isEmpty q) ≡ true
+  initial-test true o = refl
+  initial-test false o = empty-test (o refl .0) (o refl .1)
+
+  serving-test : v .«suspend_state» ≡ 0 → isServing v ≡ true
+  serving-test = eq-eqb (v .«suspend_state») 0
+
+  state-test : (s : State) → Serving s → Outside s → (s ≡ state.S6 → v .timer ≡ 0) → isFrame (q .control) ≡ withFrame s → stateHolds s v q ≡ true
+  state-test state.S1 u o t f = joined _ _ (serving-test (u refl)) (ap not f)
+  state-test state.S2 u o t f = joined _ _ (serving-test (u refl)) (ap not f)
+  state-test state.S3 u o t f = joined _ _ (serving-test (u refl)) (ap not f)
+  state-test state.S4 u o t f = joined _ _ (serving-test (u refl)) (joined _ _ (empty-test (o refl .0) (o refl .1)) (ap not f))
+  state-test state.S5 u o t f = joined _ _ (serving-test (u refl)) (joined _ _ (empty-test (o refl .0) (o refl .1)) f)
+  state-test state.S6 u o t f = joined _ _ (initial-test (inService kept) o) (joined _ _ (ap not f) (eq-eqb (v .timer) 0 (t refl)))
+
+  serves : (s : State) → stateHolds s v q ≡ true → Serving s
+  serves state.S1 t i = eqb-true (v .«suspend_state») 0 (left _ _ t)
+  serves state.S2 t i = eqb-true (v .«suspend_state») 0 (left _ _ t)
+  serves state.S3 t i = eqb-true (v .«suspend_state») 0 (left _ _ t)
+  serves state.S4 t i = eqb-true (v .«suspend_state») 0 (left _ _ t)
+  serves state.S5 t i = eqb-true (v .«suspend_state») 0 (left _ _ t)
+  serves state.S6 t i = absurd (true≢false i)
 
   emptied : isEmpty q ≡ true → (q .sent ≡ 0) × (q .waiting ≡ false)
   emptied t = (eqb-true (q .sent) 0 (left _ _ t), not-true (q .waiting) (right (eqb (q .sent) 0) _ t))
@@ -79,20 +101,20 @@ module _ (v : Variables) (q : Queues) where
   outside state.S1 t m = absurd (true≢false m)
   outside state.S2 t m = absurd (true≢false m)
   outside state.S3 t m = absurd (true≢false m)
-  outside state.S4 t m = emptied (left _ _ t)
-  outside state.S5 t m = emptied (left _ _ t)
-  outside state.S6 t m = emptied (left _ _ t)
+  outside state.S4 t m = emptied (left _ _ (right (isServing v) _ t))
+  outside state.S5 t m = emptied (left _ _ (right (isServing v) _ t))
+  outside state.S6 t m = emptied (sym (no (inService kept) true (isEmpty q) m) ∙ left _ _ t)
 
   framed : (s : State) → stateHolds s v q ≡ true → isFrame (q .control) ≡ withFrame s
-  framed state.S1 t = not-true _ t
-  framed state.S2 t = not-true _ t
-  framed state.S3 t = not-true _ t
-  framed state.S4 t = not-true _ (right (isEmpty q) _ t)
-  framed state.S5 t = right (isEmpty q) _ t
-  framed state.S6 t = not-true _ (left _ _ (right (isEmpty q) _ t))
+  framed state.S1 t = not-true _ (right (isServing v) _ t)
+  framed state.S2 t = not-true _ (right (isServing v) _ t)
+  framed state.S3 t = not-true _ (right (isServing v) _ t)
+  framed state.S4 t = not-true _ (right (isEmpty q) _ (right (isServing v) _ t))
+  framed state.S5 t = right (isEmpty q) _ (right (isServing v) _ t)
+  framed state.S6 t = not-true _ (left _ _ (right (initialHolds v q) _ t))
 
   timed : stateHolds state.S6 v q ≡ true → v .timer ≡ 0
-  timed t = eqb-true (v .timer) 0 (right (not (isFrame (q .control))) _ (right (isEmpty q) _ t))
+  timed t = eqb-true (v .timer) 0 (right (not (isFrame (q .control))) _ (right (initialHolds v q) _ t))
 
 -- A well-formed state passes the test.
 pub good-passes : (own : Own) (s : SenderState) (store : List ℕ) → Good own s store → wellFormed s ≡ true
@@ -103,20 +125,17 @@ good-passes own s store g =
     (joined _ _ (le-leb (s .settings .k) largestK (g .window))
     (joined _ _ (le-leb 1 (s .settings .«t1_initial») (g .clock-least))
     (joined _ _ (le-leb 1 (s .settings .«transmission_limit») (g .limit-least))
-    (joined _ _ (eq-eqb (s .settings .«timeout_type») 0 (omega (arith, g .type-most)))
+    (joined _ _ (le-leb (s .settings .«timeout_type») largestTimeoutType (g .type-most))
     (joined _ _ (le-leb (s .settings .spacecraft) largestSpacecraft (omega (arith, g .spacecraft, g .spacecraft-most)))
     (le-leb (s .settings .channel) largestChannel (omega (arith, g .channel, g .channel-most)))))))))
     (joined _ _
     (joined _ _ (le-leb (s .queues .sent) largestK (g .formed .sent-most))
     (joined _ _ (le-leb (s .queues .sent) (offset (s .variables .vs) (s .variables .nnr)) (g .formed .outstanding))
     (joined _ _ (le-leb (s .queues .marked) (s .queues .sent) (g .formed .last))
-    (joined _ _ (le-leb 1 (s .variables .«transmission_count») (g .count-least)) (eq-eqb (s .variables .«suspend_state») 0 (g .serving))))))
+    (joined _ _ (le-leb 1 (s .variables .«transmission_count») (g .count-least)) (le-leb (s .variables .«suspend_state») largestSuspendState (g .suspend-most))))))
     (joined _ _
-    (state-test (s .variables) (s .queues) (s .state) (λ m. (g .sent-main (outside-is m), g .waiting-main (outside-is m))) (g .stopped) (g .control-s5))
+    (state-test (s .variables) (s .queues) (s .state) (g .suspend-initial) (λ m. (g .sent-main m, g .waiting-main m)) (g .stopped) (g .control-s5))
     (lengths-test (unitsHeld (s .queues .sent) (s .queues .waiting)) (s .lengths) (g .formed .units) (λ i h k. g .filled i h))))
-  where
-    outside-is : inMain (s .state) ≡ false → inMain (effective s) ≡ false
-    outside-is m = ap inMain (effective-state s (g .serving)) ∙ m
 
 -- what the types of the struct's fields see to
 pub record Sized (s : SenderState) : Type 0 where
@@ -144,15 +163,13 @@ passes-good s store z long t =
     let b = right (leb (g .k) largestK) _ a in
     let c = right (leb 1 (g .«t1_initial»)) _ b in
     let d = right (leb 1 (g .«transmission_limit»)) _ c in
-    let e = right (eqb (g .«timeout_type») 0) _ d in
+    let e = right (leb (g .«timeout_type») largestTimeoutType) _ d in
     let f = right (leb (g .spacecraft) largestSpacecraft) _ e in
     let x = offset (v .vs) (v .nnr) in
     let h = right (leb (q .sent) largestK) _ numbers in
     let i = right (leb (q .sent) x) _ h in
     let j = right (leb (q .marked) (q .sent)) _ i in
     let k = right (leb 1 (v .«transmission_count»)) _ j in
-    let zero-suspend : v .«suspend_state» ≡ 0 = eqb-true (v .«suspend_state») 0 k in
-    let outside-is : inMain (effective s) ≡ false → inMain (s .state) ≡ false = λ m. ap inMain (sym (effective-state s zero-suspend)) ∙ m in
     record {
       formed = record {
         vs-octet = z .vs;
@@ -171,12 +188,11 @@ passes-good s store z long t =
       limit = z .limit;
       count-least = leb-true 1 (v .«transmission_count») (left _ _ j);
       count-most = z .count;
-      type-most = omega (arith, eqb-true (g .«timeout_type») 0 (left _ _ d));
-      suspend-most = omega (arith, zero-suspend);
-      suspend-initial = λ m. zero-suspend;
-      serving = zero-suspend;
-      sent-main = λ m. outside v q (s .state) states (outside-is m) .0;
-      waiting-main = λ m. outside v q (s .state) states (outside-is m) .1;
+      type-most = leb-true (g .«timeout_type») largestTimeoutType (left _ _ d);
+      suspend-most = leb-true (v .«suspend_state») largestSuspendState k;
+      suspend-initial = serves v q (s .state) states;
+      sent-main = λ m. outside v q (s .state) states m .0;
+      waiting-main = λ m. outside v q (s .state) states m .1;
       stopped = λ p. timed v q (subst (λ (y : State). stateHolds y v q ≡ true) p states);
       control-s5 = framed v q (s .state) states;
       filled = λ n p. lengths-least (unitsHeld (q .sent) (q .waiting)) (s .lengths) units n

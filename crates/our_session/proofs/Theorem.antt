@@ -4,6 +4,7 @@
 -- that is told to initiate without check is one (`fresh-begins`), with every store that suffices for its K.
 use Prim.Native.Nat.{ℕ, _%_, _≤_}
 use mathlib.Core.Path.{_≡_, refl, sym, ap, ap₂, subst, _∙_}
+use mathlib.Core.Logic.{⊎-elim}
 use mathlib.Core.Bool.{Bool, true, false}
 use mathlib.Core.List.{List, [], _∷_}
 use native.Mathlib.Omega.{arith}
@@ -13,7 +14,7 @@ use lib.ListN.{length, length-replicate}
 use Rattle.base.specs.Choice.{pick}
 use Rattle.base.proofs.Tests.{no}
 use Rattle.base.specs.Limits.{largestSpacecraft, largestChannel}
-use Rattle.fop.specs.Limits.{largestK, largestNumber}
+use Rattle.fop.specs.Limits.{largestK, largestNumber, largestTimeoutType}
 use Rattle.fop.specs.Units.{Own}
 use Rattle.fop.specs.Table as table
 use Rattle.fop.specs.Variables.{Fop, setClock}
@@ -28,18 +29,19 @@ use Rattle.sender_view.specs.View.{fopOf}
 use Rattle.sender_rows_view.specs.State.{Good}
 use Rattle.receiver.specs.Receiver as farm
 use Rattle.receiver.specs.declared.Start.the-variants.{Ready}
-use Rattle.session.specs.Ends.{Settings, Within, Brought, Tied, startSender, startReceiver, tables}
-use Rattle.session.specs.Session.{Event, begins, run}
-use Rattle.session.specs.Claims.{Claims}
+use Rattle.session.specs.Ends.{Settings, Within, Brought, Tied, startSender, startReceiver}
+use Rattle.session.specs.Signed.{Demanded, DemandedAlerting}
 use Rattle.session.specs.Beyond.{Beyond}
 use Rattle.session.proofs.Theorem.{demand3}
+use Rattle.session.proofs.Alerting.{demand3-alerting, beyond-alerting}
 use Rattle.session.proofs.Strong.{stronger-claims}
 use Rattle.session.proofs.Beyond.{beyond}
 use Rattle.fop.specs.Store.{storeNeed, windowAt, needAt, storeRefusal, lentAnswer, lentNext}
 use Rattle.sender_state.specs.State.{settingsHold}
+use Rattle.sender.specs.declared.Start.{Start}
 use Rattle.sender.specs.Start.{startingOf}
 use Rattle.our_session.specs.Ours.{Held, stepOf, heldAfter, answerBy, lentOutput, senderSettings, freshHeld, heldAfterAll, startHeld, reads, Begins, ours}
-use Rattle.our_session.specs.Demand.{Demand3, StrongerOurs, BeyondOurs}
+use Rattle.our_session.specs.Demand.{Demand3, StrongerOurs, BeyondOurs, AlertingOurs}
 use Rattle.our_session.specs.Does.{Does, Well, Demand2}
 use Rattle.our_session.proofs.Events.{entries-count, does}
 use Rattle.our_session.proofs.Output.{output-content-free}
@@ -129,12 +131,12 @@ module _ (set : Settings) (within : Within set) (v : ℕ) (octet : v ≤ largest
         le-leb (set .k) largestK (within .windowMost),
         le-leb 1 (set .t1) (within .timerLeast),
         le-leb 1 (set .limit) (within .limitLeast),
-        eq-eqb (set .timeoutType) 0 (omega (arith, within .timeoutMost)),
+        le-leb (set .timeoutType) largestTimeoutType (within .timeoutMost),
         le-leb (set .own .spacecraft) largestSpacecraft (within .spacecraft),
         le-leb (set .own .channel) largestChannel (within .channel),
       )
 
-  starts : startingOf (senderSettings set) v v (length store) .sender .fop ≡ first
+  pub starts : startingOf (senderSettings set) v v (length store) ≡ record { refusal = 0; sender = record { fop = first } }
   unfolding startingOf
   starts = simp (limits-hold, le-leb (storeNeed (set .k) 0) (length store) long)
 
@@ -143,11 +145,11 @@ module _ (set : Settings) (within : Within set) (v : ℕ) (octet : v ≤ largest
 
   pub fresh-good : GoodHeld (set .own) (freshHeld set v store)
   unfolding freshHeld
-  fresh-good = subst (λ (s : SenderState). Good (set .own) s store) (sym starts) first-good
+  fresh-good = subst (λ (x : Start). Good (set .own) (x .sender .fop) store) (sym starts) first-good
 
   pub fresh-reads : reads (freshHeld set v store) ≡ fopOf (begun first) (first .lengths) store
   unfolding freshHeld
-  fresh-reads = ap (λ (s : SenderState). fopOf (begun s) (s .lengths) store) starts
+  fresh-reads = ap (λ (x : Start). fopOf (begun (x .sender .fop)) (x .sender .fop .lengths) store) starts
 
   -- the need at an event other than Set K is the start's
   pub start-need : needAt (directive 1 0) (reads (freshHeld set v store)) ≤ length store
@@ -178,7 +180,8 @@ window-kept (requestAd o) b f = refl
 window-kept (requestBd o) b f = refl
 window-kept events.tick b f = refl
 window-kept (events.lower l) b f = refl
-window-kept (directive d v) b f = ap (λ (n : ℕ). pick (eqb n 8) v (f .preset .k)) b
+window-kept (directive d v) b f =
+    ⊎-elim (ap (λ (n : ℕ). pick (eqb n 8) v (f .preset .k))) (ap (λ (n : ℕ). pick (eqb n 8) v (f .preset .k))) b
 window-kept (wordArrives o) b f = refl
 
 module _ (own : Own) (e : SenderEvent) (brought : Brought e) (lent : ℕ) (x : Held) (g : GoodHeld own x) where
@@ -233,19 +236,23 @@ receiver-starts set within zero =
 
 -- Demand 3, whole, of our own sender and receiver.
 pub demand3-ours : Demand3
-demand3-ours set within x b es = demand3 set within (ours set x) (ours-tied set x b) es
+demand3-ours set within x b = demand3 set within (ours set x) (ours-tied set x b)
+
+-- and at Timeout_Type 0 after every list of events, as document 01 words it
+pub alerting-ours : AlertingOurs
+alerting-ours set within x b =
+    (demand3-alerting set within (ours set x) (ours-tied set x b), beyond-alerting set within (ours set x) (ours-tied set x b))
 
 pub stronger-ours : StrongerOurs
-stronger-ours set within x b es = stronger-claims set within (ours set x) (ours-tied set x b) es
+stronger-ours set within x b = stronger-claims set within (ours set x) (ours-tied set x b)
 
 pub beyond-ours : BeyondOurs
 beyond-ours set within x b = beyond set within (ours set x) (ours-tied set x b)
 
 -- and so of a fresh sender that is told to initiate without check
-pub demand3-fresh : (set : Settings) → Within set → set .count ≡ 1 → (store : List ℕ) → storeNeed (set .k) 0 ≤ length store → (es : List Event)
-    → Claims set (ours set (startHeld set store)) (run set (ours set (startHeld set store)) es (begins (ours set (startHeld set store))))
-    (run set (tables set) es (begins (tables set)))
-demand3-fresh set within one store long es = demand3-ours set within (startHeld set store) (fresh-begins set within one store long) es
+pub demand3-fresh : (set : Settings) → Within set → set .count ≡ 1 → (store : List ℕ) → storeNeed (set .k) 0 ≤ length store
+    → Demanded set (ours set (startHeld set store))
+demand3-fresh set within one store long = demand3-ours set within (startHeld set store) (fresh-begins set within one store long)
 
 pub beyond-fresh : (set : Settings) → Within set → set .count ≡ 1 → (store : List ℕ) → storeNeed (set .k) 0 ≤ length store → Beyond set (ours set (startHeld set store))
 beyond-fresh set within one store long = beyond-ours set within (startHeld set store) (fresh-begins set within one store long)

@@ -68,7 +68,6 @@ widened-good own s store g k least most other room = record {
   type-most = g .type-most;
   suspend-most = g .suspend-most;
   suspend-initial = g .suspend-initial;
-  serving = g .serving;
   sent-main = g .sent-main;
   waiting-main = g .waiting-main;
   stopped = g .stopped;

@@ -1,3 +1,4 @@
 pub mod Ours
 pub mod Does
 pub mod Demand
+pub mod Suspension

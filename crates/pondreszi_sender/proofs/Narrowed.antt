@@ -2,10 +2,10 @@
 use mathlib.Core.Path.{_≡_, _∙_}
 use Prim.Native.Nat.{ℕ, _≤_, _<_}
 use native.Mathlib.Omega.{arith}
-use borrow.Author.Tests.{le-leb, lt-leb, ne-eqb}
+use borrow.Author.Tests.{le-leb, lt-leb}
 use Rattle.base.specs.Limits.{largestSpacecraft, largestChannel}
 use Rattle.base.proofs.Tests.{both-false}
-use Rattle.fop.specs.Limits.{largestNumber, largestK, largestTimer, largestTransmissionLimit}
+use Rattle.fop.specs.Limits.{largestNumber, largestK, largestTimer, largestTransmissionLimit, largestTimeoutType}
 use Rattle.sender.specs.Start.{refusedStart, startingOf}
 use Rattle.sender.specs.declared.Start.{Start as SenderStart}
 use Rattle.pondreszi_numbers.specs.Numbers.{largestOctet, narrow}
@@ -21,9 +21,9 @@ module _ (t1 limit vs nnr lent : ℕ) where
   unfolding startingOf
   k-started type spacecraft channel y z h k = simp (lt-leb y largestK h, lt-leb z largestK k, both-false)
 
-  type-started : (k spacecraft channel : ℕ) → Alike 0 (λ t. starts k t spacecraft channel)
+  type-started : (k spacecraft channel : ℕ) → Alike largestTimeoutType (λ t. starts k t spacecraft channel)
   unfolding startingOf
-  type-started k spacecraft channel y z h l = simp (ne-eqb y 0 (λ e. omega arith), ne-eqb z 0 (λ e. omega arith), both-false)
+  type-started k spacecraft channel y z h l = simp (lt-leb y largestTimeoutType h, lt-leb z largestTimeoutType l, both-false)
 
   spacecraft-begun : (k type channel : ℕ) → Alike largestSpacecraft (λ s. starts k type s channel)
   unfolding startingOf
@@ -38,7 +38,7 @@ module _ (t1 limit vs nnr lent : ℕ) where
       → starts width kind own ours ≡ starts k type spacecraft channel
   sender-narrowed k type spacecraft channel {width} {kind} {own} {ours} a b p q =
       beyond (λ x. starts x kind own ours) largestK largestOctet largestOctet k (k-started kind own ours) (omega arith) (omega arith) a
-      ∙ beyond (λ x. starts k x own ours) 0 largestOctet largestOctet type (type-started k own ours) (omega arith) (omega arith) b
+      ∙ beyond (λ x. starts k x own ours) largestTimeoutType largestOctet largestOctet type (type-started k own ours) (omega arith) (omega arith) b
       ∙ address (starts k type) spacecraft channel (spacecraft-begun k type) (channel-begun k type) p q
 
 -- by the numbers given

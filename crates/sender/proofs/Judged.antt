@@ -18,11 +18,12 @@ use Rattle.clcw.specs.Answers.{readingOf}
 use Rattle.clcw.specs.declared.ReceivedWord.{ReceivedWord}
 use Rattle.clcw.specs.declared.WordReading.{WordReading}
 use Rattle.clcw.specs.declared.WordReading.the-variants.{Word}
+use Rattle.fop.specs.Effective.{inService}
 use Rattle.fop.specs.declared.State.{State}
 use Rattle.sender_values.specs.declared.SenderState.{SenderState}
 use Rattle.sender_values.specs.declared.Work.{Work}
 use Rattle.sender_values.specs.Start.{begun}
-use Rattle.sender_table.specs.Rows.{rowNumbered, inMain}
+use Rattle.sender_table.specs.Rows.{rowNumbered}
 use Rattle.fop.specs.declared.Lower.{Lower}
 use Rattle.fop.specs.Store.{storeNeed}
 use Rattle.sender_events.specs.Events.{wordNumber, directiveNumber, windowOf, lowerNumber, adNumber, bdNumber}
@@ -146,8 +147,8 @@ bd-row s o store output {w = w} p q r m =
     (m .0, (stored-same (answer (handing s w o output)) store, m .1))
 
 -- the event and the state pick whether the unit is added
-pub adds-told : (event : ℕ) (s : SenderState) {k : State} → event ≡ 19 → s .state ≡ k → inMain k ≡ added event s
-adds-told event s p q = sym (ap (λ (b : Bool). both b (inMain (s .state))) (eq-eqb event 19 p) ∙ ap inMain q)
+pub adds-told : (event : ℕ) (s : SenderState) {k : State} → event ≡ 19 → s .state ≡ k → inService k ≡ added event s
+adds-told event s p q = sym (ap (λ (b : Bool). both b (inService (s .state))) (eq-eqb event 19 p) ∙ ap inService q)
 
 -- an AD request: the unit offered goes into the store where the frame is written and the unit is added
 module _ (event : ℕ) (s : SenderState) (w : Work) (o store output : List ℕ) (x : FrameWritten) {out ls : List ℕ} {a : Answer}

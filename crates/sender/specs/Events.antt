@@ -16,7 +16,8 @@ use Rattle.sender_values.specs.declared.Work.{Work}
 use Rattle.sender_values.specs.Parts.{clocked}
 use Rattle.sender_values.specs.Actions.{unitsHeld}
 use Rattle.sender_values.specs.Start.{begun}
-use Rattle.sender_table.specs.Rows.{rowNumbered, inMain}
+use Rattle.sender_table.specs.Rows.{rowNumbered}
+use Rattle.fop.specs.Effective.{inService}
 use Rattle.fop.specs.declared.Lower.{Lower}
 use Rattle.fop.specs.Store.{storeNeed}
 use Rattle.sender_events.specs.Events.{wordNumber, directiveNumber, windowOf, expiryNumber, adNumber, bdNumber, lowerNumber}
@@ -48,7 +49,7 @@ served k event n s g store output =
 
 -- the unit offered is added to the Wait_Queue: E19 in S1 to S3
 abbrev pub added : ℕ → SenderState → Bool
-added event s = both (eqb event 19) (inMain (s .state))
+added event s = both (eqb event 19) (inService (s .state))
 
 -- the lengths with that of the unit offered, n, behind the sent ones, where it is added to the Wait_Queue
 abbrev pub lengthsOffered : ℕ → SenderState → ℕ → List ℕ

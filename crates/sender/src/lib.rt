@@ -81,8 +81,8 @@ pub enum Event {
 
 // The answer to an event: document 01's refusal (0 for done); the event's number in table 7-8 (0 where it is none); the next state; the count
 // of octets of the frame handed down, at the front of the output (0 where there is none); whether the lower layer is asked to abort; the
-// alert; a Suspend notification, which is never given for now; the responses in their order; the units confirmed and denied; the kind of the
-// frame handed down; the next sender.
+// alert; whether a Suspend notification is given (clause 7.9.2.18; document 02, order 9); the responses in their order; the units confirmed and
+// denied; the kind of the frame handed down; the next sender.
 pub struct Answer {
     pub refusal: u8,
     pub event: u8,

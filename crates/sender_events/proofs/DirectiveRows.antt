@@ -9,7 +9,7 @@ use borrow.Author.Tests.{lt-leb, le-leb, eqb-true, eqb-false}
 use Rattle.base.specs.Choice.{pick, must}
 use Rattle.fop.specs.Table.{FopEvent, E25, E26, E27, E28, E30, E31, E32, E33, E34, E35, E36, E37, E38, E39, E40}
 use Rattle.fop.specs.Events.{directiveEvent}
-use Rattle.fop.specs.Limits.{largestK, largestTransmissionLimit, largestTimer, largestNumber}
+use Rattle.fop.specs.Limits.{largestK, largestTransmissionLimit, largestTimer, largestNumber, largestTimeoutType}
 use Rattle.sender_values.specs.declared.SenderState.{SenderState}
 use Rattle.sender_values.specs.Start.{begun}
 use Rattle.sender_events.specs.Events.{eventNumber, directiveNumber}
@@ -95,11 +95,7 @@ module _ (d v : ℕ) (s : SenderState) where
       let timer : P 9 =
       ap (λ b. must (leb 1 v) 40 (must b 40 37)) (sym (le-leb v largestTimer (omega arith))) ∙ within-both (leb 1 v) (leb v largestTimer) E37 in
       let limit : P 10 = within-both (leb 1 v) (leb v largestTransmissionLimit) E38 in
-      e ∙ from P 9 d timer (λ g. from P 10 d limit (λ k. only P 11 d (timeout (eqb v 0)) k (omega arith)) g) l
-    where
-      timeout : (b : Bool) → pick b 39 40 ≡ eventNumber (pick (not b) E40 E39)
-      timeout true = refl
-      timeout false = refl
+      e ∙ from P 9 d timer (λ g. from P 10 d limit (λ k. only P 11 d (within (leb v largestTimeoutType) E39) k (omega arith)) g) l
 
   -- no directive has the number 0, nor one above 11
   pub no-directive : d < 1 → 40 ≡ directiveNumber d v s

@@ -5,7 +5,7 @@ use mathlib.Core.Bool.{Bool}
 use lib.Dec.{leb, ltb, eqb}
 use Rattle.base.specs.Choice.{pick, must}
 use Rattle.clcw.specs.declared.Clcw.{Clcw}
-use Rattle.fop.specs.Limits.{largestK, largestTransmissionLimit, largestNumber}
+use Rattle.fop.specs.Limits.{largestK, largestTransmissionLimit, largestNumber, largestTimeoutType}
 use Rattle.sender_values.specs.declared.SenderState.{SenderState}
 
 -- N(R) = V(S): E1 to E4
@@ -41,4 +41,4 @@ setNumber d v = pick (eqb d 7) (must (leb v largestNumber) 40 35) (must (leb 1 v
 
 -- Set timer (9): E37, E40; Set transmission limit (10): E38, E40; Set Timeout_Type (11): E39, E40. v is at most 65535, the largest timer.
 unfoldable pub setLimit : ℕ → ℕ → ℕ
-setLimit d v = pick (eqb d 11) (pick (eqb v 0) 39 40) (must (leb 1 v) 40 (pick (eqb d 9) 37 (must (leb v largestTransmissionLimit) 40 38)))
+setLimit d v = pick (eqb d 11) (must (leb v largestTimeoutType) 40 39) (must (leb 1 v) 40 (pick (eqb d 9) 37 (must (leb v largestTransmissionLimit) 40 38)))

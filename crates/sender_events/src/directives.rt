@@ -11,6 +11,8 @@ const LARGEST_K: u16 = base::LARGEST_K as u16;
 
 const LARGEST_TRANSMISSION_LIMIT: u16 = 255;
 
+const LARGEST_TIMEOUT_TYPE: u16 = sender_values::LARGEST_TIMEOUT_TYPE as u16;
+
 // Initiate AD service with Unlock (3) or with Set V(R) (4): by BC_Out_Flag.
 fn initiate_event(number: u8, value: u16, ready: bool) -> u8
     ensures { λ r. ⌜ r ≡ initiate number value ready ⌝ }
@@ -73,10 +75,10 @@ fn set_limit_event(number: u8, value: u16) -> u8
     ensures { λ r. ⌜ r ≡ setLimit number value ⌝ }
 {
     if number == 11 {
-        if value == 0 {
-            return 39;
+        if LARGEST_TIMEOUT_TYPE < value {
+            return 40;
         }
-        return 40;
+        return 39;
     }
     if value < 1 {
         return 40;

@@ -4,34 +4,32 @@ use mathlib.Core.Path.{_≡_, refl, sym, ap, subst, _∙_}
 use mathlib.Core.Bool.{Bool, true, false, not}
 use mathlib.Core.List.{List, []}
 use native.Mathlib.Omega.{arith}
-use borrow.Author.Tests.{eqb-true, eq-eqb, leb-true, not-true}
+use borrow.Author.Tests.{eqb-true, leb-true, not-true}
 use lib.Dec.{leb, eqb}
 use Rattle.base.specs.Choice.{pick, both}
 use Rattle.base.proofs.Tests.{apart, both-left, both-right}
 use Rattle.store.proofs.Parts.{slid-none}
 use Rattle.store.proofs.Moving.{without-none}
 use Rattle.fop.specs.Limits.{largestSuspendState}
-use Rattle.fop.specs.Effective.{effectiveOf}
+use Rattle.fop.specs.Effective.{effectiveOf, inService}
 use Rattle.fop.specs.Table.{Action, Cell, cell, ifNotSuspended, NotApplicable}
 use Rattle.fop.specs.Variables as machine
 use Rattle.fop.specs.Answers.{runOf}
 use Rattle.fop.specs.Machine.{performAll, performCell}
 use Rattle.sender_values.specs.declared.Control.{Control}
 use Rattle.sender_values.specs.declared.Handed.the-variants as handed
-use Rattle.sender_values.specs.declared.SenderState.{SenderState}
 use Rattle.fop.specs.declared.State.{State}
 use Rattle.fop.specs.declared.State.the-variants as state
 use Rattle.sender_values.specs.declared.Work.{Work}
 use Rattle.sender_values.specs.Actions as act
 use Rattle.sender_values.specs.Actions.{unitsHeld}
 use Rattle.sender_values.specs.Start.{begun, senderOf, noneTold}
-use Rattle.sender_view.specs.View.{fopOf}
 use Rattle.sender_view.proofs.SentQueue.{held-most}
 use Rattle.sender_view.proofs.ViewValues as values
-use Rattle.sender_table.specs.Rows.{doneAll, doneCell, inMain}
+use Rattle.sender_table.specs.Rows.{doneAll, doneCell}
 use Rattle.sender_rows_view.specs.State.{Good, initial}
 use Rattle.sender_rows_view.proofs.Rows.{Brings, nothing, acknowledging, again, offering, numbering, widening, clocking, limiting, timing, expiring, expiringAgain, resuming, brings, Needed, isOffering, storeBy, lengthsBy, Shows}
-use Rattle.sender_rows_view.proofs.Mode.{Stored, kept, moved, put, Idle, suspendedAt, Mode, fresh, going, half, over, bad, same, ceased, idleIn, repeats, expired, begins, implied, agrees, covers, notPut, putWhere, fits, maySuspend, stays, leaves, ends, afterAll, allows}
+use Rattle.sender_rows_view.proofs.Mode.{Stored, kept, moved, put, Idle, suspendedAt, Mode, fresh, going, half, over, bad, same, ceased, idleIn, repeats, expired, begins, implied, agrees, covers, notPut, putWhere, fits, maySuspend, leaves, ends, afterAll, allows}
 use Rattle.sender_rows_view.proofs.Known.{Case, seen, Where, Left, StoreIs, LengthsIs, IdleIs, most, Shut, At, known, where-on, suspends, none-below, no-more-first}
 use Rattle.sender_rows_view.proofs.Actions.{steps}
 
@@ -58,8 +56,8 @@ module _ (x : Case) (lengths store : List ℕ) (w : Work) where
     slid-both : notPut p ≡ true → LeftAfter nothing
     slid-both t = (slid-left _ _ _ _ _ p (without-none (x .sender .lengths) _ (x .store)) t s, slid-left _ _ _ _ _ p (slid-none (x .sender .lengths)) t l)
 
-    left-after : (b : Brings) → fits b (inMain (x .sender .state)) p ≡ true → LeftAfter b
-    left-after offering t = (put-left _ _ _ _ _ (inMain (x .sender .state)) p t s, put-left _ _ _ _ _ (inMain (x .sender .state)) p t l)
+    left-after : (b : Brings) → fits b (inService (x .sender .state)) p ≡ true → LeftAfter b
+    left-after offering t = (put-left _ _ _ _ _ (inService (x .sender .state)) p t s, put-left _ _ _ _ _ (inService (x .sender .state)) p t l)
     left-after nothing t = slid-both t
     left-after acknowledging t = slid-both t
     left-after again t = slid-both t
@@ -93,8 +91,8 @@ module _ (x : Case) (w : Work) where
   few-put false moved t h = absurd (apart t)
   few-put false put t h = absurd (apart t)
 
-  few-after : (p : Stored) (b : Brings) → fits b (inMain (x .sender .state)) p ≡ true → after ≤ most x p → Few b
-  few-after p offering t = few-put (inMain (x .sender .state)) p t
+  few-after : (p : Stored) (b : Brings) → fits b (inService (x .sender .state)) p ≡ true → after ≤ most x p → Few b
+  few-after p offering t = few-put (inService (x .sender .state)) p t
   few-after p nothing t = few-kept p t
   few-after p acknowledging t = few-kept p t
   few-after p again t = few-kept p t
@@ -166,29 +164,7 @@ module _ (x : Case) (good : Good (x .own) (x .sender) (x .store)) (meets : Neede
   abbrev before : ℕ
   before = x .sender .variables .«suspend_state»
 
-  -- "Suspend_State stays 0": within its limit Timeout_Type is not 1, so no timer expires with it
-  unexpired : (b : Brings) → Needed b (x .octets) (x .value) (x .sender) → expired b ≡ false
-  unfolding same
-  unexpired nothing h = refl
-  unexpired acknowledging h = refl
-  unexpired again h = refl
-  unexpired offering h = refl
-  unexpired numbering h = refl
-  unexpired widening h = refl
-  unexpired clocking h = refl
-  unexpired limiting h = refl
-  unexpired timing h = refl
-  unexpired expiring h = absurd (omega (arith, good .type-most, h .0))
-  unexpired expiringAgain h = absurd (omega (arith, good .type-most, h .1))
-  unexpired (resuming k) h = refl
-
-  still-serving : (n : ℕ) → stays (brings (x .event)) before n ≡ true → n ≡ 0
-  still-serving n t =
-      eqb-true n 0
-      (subst (λ (k : ℕ). pick (eqb k 0) (eqb n 0) true ≡ true) (good .serving)
-      (subst (λ (b : Bool). pick b true (pick (eqb before 0) (eqb n 0) true) ≡ true) (unexpired (brings (x .event)) meets) t))
-
-  enters : (p : Stored) (z : Idle) (t : State) (w : Work) (m : machine.Work) → leaves (brings (x .event)) (x .sender .state) before t p z ≡ true
+  enters : (p : Stored) (z : Idle) (t : State) (w : Work) (m : machine.Work) → leaves (brings (x .event)) (x .sender .state) t p z ≡ true
       → Shut x p z w m → Shown x (act.toState t w) (machine.onFop (machine.setState t (m .fop)) m)
   unfolding act.toState begun senderOf
   enters p z t w m a h =
@@ -196,11 +172,10 @@ module _ (x : Case) (good : Good (x .own) (x .sender) (x .store)) (meets : Neede
       let y = t in
       let n = w .variables .«suspend_state» in
       let known-suspend : z .suspend ≡ n = sym (e .idle .is-suspend) in
-      let now : leaves (brings (x .event)) (x .sender .state) before y p (suspendedAt n z) ≡ true =
-      subst (λ (k : ℕ). leaves (brings (x .event)) (x .sender .state) before y p (suspendedAt k z) ≡ true) known-suspend a in
-      let b = both-right (fits (brings (x .event)) (inMain (x .sender .state)) p) _ now in
-      let d = both-right (covers (idleIn y n) (suspendedAt n z)) _ b in
-      let f : maySuspend y n ≡ true = both-left _ _ d in
+      let now : leaves (brings (x .event)) (x .sender .state) y p (suspendedAt n z) ≡ true =
+      subst (λ (k : ℕ). leaves (brings (x .event)) (x .sender .state) y p (suspendedAt k z) ≡ true) known-suspend a in
+      let b = both-right (fits (brings (x .event)) (inService (x .sender .state)) p) _ now in
+      let f : maySuspend y n ≡ true = both-right (covers (idleIn y n) (suspendedAt n z)) _ b in
       let q = covered (idleIn y n) (suspendedAt n z) (both-left _ _ b) refl (suspends (e .idle) n) in
       let v = act.toState t w in
       let to : machine.Work → machine.Work = λ k. machine.onFop (machine.setState t (k .fop)) k in
@@ -224,7 +199,6 @@ module _ (x : Case) (good : Good (x .own) (x .sender) (x .store)) (meets : Neede
           type-most = e .settled .type-most;
           suspend-most = leb-true n largestSuspendState (both-left _ _ f);
           suspend-initial = suspend-outside (initial y) n (both-right (leb n largestSuspendState) _ f);
-          serving = still-serving n (both-right (maySuspend y n) _ d);
           sent-main = λ k. known (ap not k) (q .unsent);
           waiting-main = λ k. known (ap not k) (q .unasked);
           stopped = λ k. known (ap initial k) (q .stopped);
@@ -238,7 +212,7 @@ module _ (x : Case) (good : Good (x .own) (x .sender) (x .store)) (meets : Neede
         sent = e .below;
       })
 
-  ended : (mode : Mode) (t : State) (w : Work) (m : machine.Work) → ends (brings (x .event)) (x .sender .state) before t mode ≡ true → At x mode w m
+  ended : (mode : Mode) (t : State) (w : Work) (m : machine.Work) → ends (brings (x .event)) (x .sender .state) t mode ≡ true → At x mode w m
       → Shown x (act.toState t w) (machine.onFop (machine.setState t (m .fop)) m)
   ended (fresh f z) t w m y h = absurd (apart y)
   ended (going p f z u l) t w m y h = enters p z t w m y (record { lengths = h .lengths; store = h .store; c = h .c; d = h .d; is = h .is; formed = h .formed; ended = h .ended })
@@ -247,7 +221,7 @@ module _ (x : Case) (good : Good (x .own) (x .sender) (x .store)) (meets : Neede
   ended bad t w m y h = absurd (apart y)
 
   -- Not Applicable: nothing is done
-  unchanged : fits (brings (x .event)) (inMain (x .sender .state)) kept ≡ true → Shown x (begun (x .sender)) (seen x [] [] (begun (x .sender)) (x .sender .lengths) (x .store))
+  unchanged : fits (brings (x .event)) (inService (x .sender .state)) kept ≡ true → Shown x (begun (x .sender)) (seen x [] [] (begun (x .sender)) (x .sender .lengths) (x .store))
   unfolding begun noneTold senderOf
   unchanged a =
       shown x (begun (x .sender)) (seen x [] [] (begun (x .sender)) (x .sender .lengths) (x .store)) (x .sender .lengths) (x .store)
@@ -278,8 +252,8 @@ module _ (x : Case) (good : Good (x .own) (x .sender) (x .store)) (meets : Neede
       let s = x .sender .state in
       let y = effectiveOf s before in
       record {
-        unsent = where-on (not (inMain y)) (λ t. good .sent-main (not-true (inMain y) t));
-        unasked = where-on (not (inMain y)) (λ t. good .waiting-main (not-true (inMain y) t));
+        unsent = where-on (not (inService y)) (λ t. good .sent-main (not-true (inService y) t));
+        unasked = where-on (not (inService y)) (λ t. good .waiting-main (not-true (inService y) t));
         stopped = where-on (initial s) (λ t. good .stopped (initial-is s t));
         frame = good .control-s5;
         is-suspend = refl;
@@ -298,8 +272,8 @@ module _ (x : Case) (good : Good (x .own) (x .sender) (x .store)) (meets : Neede
   idle-expired clocking h = idle-first
   idle-expired limiting h = idle-first
   idle-expired timing h = idle-first
-  idle-expired expiring h = record { unsent = idle-first .unsent; unasked = idle-first .unasked; stopped = h .1; frame = idle-first .frame; is-suspend = refl }
-  idle-expired expiringAgain h = record { unsent = idle-first .unsent; unasked = idle-first .unasked; stopped = h .2; frame = idle-first .frame; is-suspend = refl }
+  idle-expired expiring h = record { unsent = idle-first .unsent; unasked = idle-first .unasked; stopped = h; frame = idle-first .frame; is-suspend = refl }
+  idle-expired expiringAgain h = record { unsent = idle-first .unsent; unasked = idle-first .unasked; stopped = h .1; frame = idle-first .frame; is-suspend = refl }
   idle-expired (resuming k) h = idle-first
 
   begin : At x (begins (brings (x .event)) (x .sender .state) before) (begun (x .sender)) (seen x [] [] (begun (x .sender)) (x .sender .lengths) (x .store))
@@ -314,7 +288,7 @@ module _ (x : Case) (good : Good (x .own) (x .sender) (x .store)) (meets : Neede
   -- its actions are allowed, and lead to what its next state asks
   abbrev allowsAll : State → List Action → Bool
   allowsAll t acts =
-      ends (brings (x .event)) (x .sender .state) before t (afterAll (brings (x .event)) acts (begins (brings (x .event)) (x .sender .state) before))
+      ends (brings (x .event)) (x .sender .state) t (afterAll (brings (x .event)) acts (begins (brings (x .event)) (x .sender .state) before))
 
   acted : (acts : List Action) (t : State)
       → allowsAll t acts ≡ true

@@ -10,16 +10,13 @@ use lib.ListN.{getD}
 use Rattle.base.specs.Choice.{pick, both}
 use Rattle.base.proofs.Tests.{both-left, both-right}
 use Rattle.fop.specs.Limits.{largestSuspendState}
-use Rattle.fop.specs.Table as table
 use Rattle.fop.specs.Table.{Action, Cell, cell, ifNotSuspended, NotApplicable}
 use Rattle.fop.specs.Table.{Ignore, Accept, Reject, Confirm, RejectAd, AcceptBd, RejectBd, AddToWaitQueue, LookForFdu, LookForDirective, RemoveAcknowledgedFrames}
 use Rattle.fop.specs.Table.{InitiateAdRetransmission, InitiateBcRetransmission, ReleaseBcFrame, CancelTimer, StartTimer, Alert, Initialise, TransmitUnlock, TransmitSetVr, TransmitBd}
 use Rattle.fop.specs.Table.{SetSuspendState, Suspend, Resume, SetVs, SetNnr, SetK, SetT1Initial, SetTransmissionLimit, SetTimeoutType, AdOutReady, BcOutReady, BdOutReady}
 use Rattle.fop.specs.declared.State.{State}
-use Rattle.fop.specs.declared.State.the-variants as state
 use Rattle.sender_values.specs.Limits.{largestResponses}
-use Rattle.sender_table.specs.Rows.{inMain}
-use Rattle.fop.specs.Effective.{effectiveOf}
+use Rattle.fop.specs.Effective.{effectiveOf, inService}
 use Rattle.sender_rows_view.specs.State.{withFrame, initial}
 use Rattle.sender_rows_view.proofs.Rows.{Brings, nothing, acknowledging, again, offering, numbering, widening, clocking, limiting, timing, expiring, expiringAgain, resuming}
 
@@ -245,8 +242,8 @@ afterAll b (a ∷ more) m = afterAll b more (after b a m)
 -- what is known of the queues and the timer in each state, at each Suspend_State (specs/State)
 abbrev pub idleIn : State → ℕ → Idle
 idleIn x n = record {
-  unsent = not (inMain (effectiveOf x n));
-  unasked = not (inMain (effectiveOf x n));
+  unsent = not (inService (effectiveOf x n));
+  unasked = not (inService (effectiveOf x n));
   stopped = initial x;
   frame = withFrame x;
   suspend = n;
@@ -324,24 +321,19 @@ fits (resuming k) x p = notPut p
 abbrev pub maySuspend : State → ℕ → Bool
 maySuspend x n = both (leb n largestSuspendState) (pick (initial x) true (eqb n 0))
 
--- "Suspend_State stays 0" where the timer has not expired with Timeout_Type 1
-abbrev pub stays : Brings → ℕ → ℕ → Bool
-stays b was n = pick (expired b) true (pick (eqb was 0) (eqb n 0) true)
+-- what is known at the end of a cell is what its next state asks
+abbrev pub leaves : Brings → State → State → Stored → Idle → Bool
+leaves b x y p z = both (fits b (inService x) p) (both (covers (idleIn y (z .suspend)) z) (maySuspend y (z .suspend)))
 
--- what is known at the end of a cell, at Suspend_State `was` before it, is what its next state asks
-abbrev pub leaves : Brings → State → ℕ → State → Stored → Idle → Bool
-leaves b x was y p z =
-    both (fits b (inMain x) p) (both (covers (idleIn y (z .suspend)) z) (both (maySuspend y (z .suspend)) (stays b was (z .suspend))))
-
-abbrev pub ends : Brings → State → ℕ → State → Mode → Bool
-ends b x was s (fresh f z) = false
-ends b x was s (going p f z u l) = leaves b x was s p z
-ends b x was s (half p z u l) = false
-ends b x was s (over p z) = leaves b x was s p z
-ends b x was s bad = false
+abbrev pub ends : Brings → State → State → Mode → Bool
+ends b x s (fresh f z) = false
+ends b x s (going p f z u l) = leaves b x s p z
+ends b x s (half p z u l) = false
+ends b x s (over p z) = leaves b x s p z
+ends b x s bad = false
 
 -- the actions of a cell are allowed, and leave the store, the queues, the timer and Suspend_State as they must
 unfoldable pub allows : Brings → State → ℕ → Cell → Bool
-allows b x n NotApplicable = fits b (inMain x) kept
-allows b x n (cell acts s) = ends b x n s (afterAll b acts (begins b x n))
-allows b x n (ifNotSuspended acts others s) = pick (eqb n 0) (ends b x n s (afterAll b acts (begins b x n))) (ends b x n s (afterAll b others (begins b x n)))
+allows b x n NotApplicable = fits b (inService x) kept
+allows b x n (cell acts s) = ends b x s (afterAll b acts (begins b x n))
+allows b x n (ifNotSuspended acts others s) = pick (eqb n 0) (ends b x s (afterAll b acts (begins b x n))) (ends b x s (afterAll b others (begins b x n)))

@@ -10,6 +10,7 @@ use Rattle.base.specs.Limits.{largestUnit}
 use Rattle.base.specs.Modulo.{offset}
 use Rattle.store.specs.Places.{unitPut, without}
 use Rattle.store.specs.Slid.{slid}
+use Rattle.fop.specs.Effective.{inService}
 use Rattle.fop.specs.Limits.{largestTransmissionLimit, largestTimeoutType}
 use Rattle.fop.specs.Units.{Own}
 use Rattle.fop.specs.Table.{FopEvent, E1, E2, E3, E4, E5, E6, E7, E8, E9, E10, E11, E12, E13, E14, E15, E16, E17, E18, E19, E20, E21, E22, E23, E24, E25, E26, E27, E28, E29, E30, E31, E32, E33, E34}
@@ -22,7 +23,6 @@ use Rattle.sender_values.specs.declared.Work.{Work}
 use Rattle.sender_values.specs.Actions.{unitsHeld}
 use Rattle.sender_values.specs.Start.{senderOf}
 use Rattle.sender_view.specs.View.{view}
-use Rattle.sender_table.specs.Rows.{inMain}
 use Rattle.sender_rows_view.specs.State.{Good}
 
 -- what an event brings, as its conditions in table 7-8 and document 01's limits give it
@@ -37,7 +37,7 @@ pub data Brings : Type 0 where
   offering : Brings
   -- V*, T1_Initial, Transmission_Limit, Timeout_Type within their limits; K, of a sender that has it already
   numbering widening clocking limiting timing : Brings
-  -- the timer has expired, with Timeout_Type 1; the same with Transmission_Count < Transmission_Limit
+  -- the timer has expired, so it is stopped; the same with Transmission_Count < Transmission_Limit
   expiring expiringAgain : Brings
   -- Suspend_State is this
   resuming : ℕ → Brings
@@ -95,7 +95,7 @@ brings E102 = nothing
 brings E103 = nothing
 brings E104 = expiringAgain
 
--- what holds of the unit, the value and the sender where an event brings that; what E18, E104 and E31 to E34 need is not met for now (`Good`)
+-- what holds of the unit, the value and the sender where an event brings that
 abbrev pub Needed : Brings → List ℕ → ℕ → SenderState → Type 0
 Needed nothing o n s = Unit {0}
 Needed acknowledging o n s = (n < 256) × (offset n (s .variables .nnr) ≤ offset (s .variables .vs) (s .variables .nnr))
@@ -106,9 +106,8 @@ Needed widening o n s = n ≡ s .settings .k
 Needed clocking o n s = 1 ≤ n
 Needed limiting o n s = (1 ≤ n) × (n ≤ largestTransmissionLimit)
 Needed timing o n s = n ≤ largestTimeoutType
-Needed expiring o n s = (s .settings .«timeout_type» ≡ 1) × (s .variables .timer ≡ 0)
-Needed expiringAgain o n s =
-    (s .variables .«transmission_count» < s .settings .«transmission_limit») × (s .settings .«timeout_type» ≡ 1) × (s .variables .timer ≡ 0)
+Needed expiring o n s = s .variables .timer ≡ 0
+Needed expiringAgain o n s = (s .variables .«transmission_count» < s .settings .«transmission_limit») × (s .variables .timer ≡ 0)
 Needed (resuming k) o n s = s .variables .«suspend_state» ≡ k
 
 -- the unit and the value are such as the event brings to the sender
@@ -138,7 +137,7 @@ unitsStaying s w = unitsHeld (s .queues .sent) (s .queues .waiting) - w .told .c
 -- removed from the front
 abbrev pub storeBy : Brings → List ℕ → SenderState → Work → List ℕ → List ℕ
 storeBy b o s w store =
-    pick (isOffering b) (pick (inMain (s .state)) (unitPut (s .queues .sent) o store) store)
+    pick (isOffering b) (pick (inService (s .state)) (unitPut (s .queues .sent) o store) store)
     (without (s .lengths) (w .told .confirmed .count) (unitsStaying s w) store)
 
 -- the store after the event
@@ -148,7 +147,7 @@ storeAfter e o s w store = storeBy (brings e) o s w store
 -- and so the lengths of the units
 abbrev pub lengthsBy : Brings → List ℕ → SenderState → Work → List ℕ
 lengthsBy b o s w =
-    pick (isOffering b) (pick (inMain (s .state)) (set (s .lengths) (s .queues .sent) (length o)) (s .lengths)) (slid (w .told .confirmed .count) (s .lengths))
+    pick (isOffering b) (pick (inService (s .state)) (set (s .lengths) (s .queues .sent) (length o)) (s .lengths)) (slid (w .told .confirmed .count) (s .lengths))
 
 -- the lengths after the event
 abbrev pub lengthsAfter : FopEvent → List ℕ → SenderState → Work → List ℕ

@@ -2,17 +2,14 @@
 -- allowed (proofs/Allowed), and an allowed cell shows the machine's work with the lengths and the store that the event leaves, and confirms and
 -- still holds no more units than were held before it and the one offered (proofs/Cells).
 use Prim.Native.Nat.{ℕ, suc, _+_, _≤_}
-use mathlib.Core.Path.{_≡_, refl, ap, _∙_}
+use mathlib.Core.Path.{_≡_, refl}
 use mathlib.Core.List.{List}
 use Rattle.base.specs.Choice.{pick}
 use Rattle.fop.specs.Units.{Own}
 use Rattle.fop.specs.Table.{FopEvent, table78, cell78}
 use Rattle.fop.specs.Effective as machine
-use Rattle.fop.specs.Effective.{effectiveOf}
 use Rattle.fop.specs.Machine.{fopDo}
 use Rattle.sender_values.specs.declared.SenderState.{SenderState}
-use Rattle.fop.specs.declared.State.{State}
-use Rattle.fop.specs.declared.State.the-variants as state
 use Rattle.sender_values.specs.Actions.{unitsHeld}
 use Rattle.sender_values.specs.Start.{begun, noneTold}
 use Rattle.sender_view.specs.View.{fopOf}
@@ -43,15 +40,3 @@ module _ (own : Own) (e : FopEvent) (o : List ℕ) (n : ℕ) (s : SenderState) (
 pub effective-is : (s : SenderState) (store : List ℕ) → effective s ≡ machine.effective (fopOf (begun s) (s .lengths) store)
 unfolding begun
 effective-is s store = refl
-
--- and with Suspend_State 0 it is the state
-effective-zero : (x : State) → effectiveOf x 0 ≡ x
-effective-zero state.S1 = refl
-effective-zero state.S2 = refl
-effective-zero state.S3 = refl
-effective-zero state.S4 = refl
-effective-zero state.S5 = refl
-effective-zero state.S6 = refl
-
-pub effective-state : (s : SenderState) → s .variables .«suspend_state» ≡ 0 → effective s ≡ s .state
-effective-state s z = ap (effectiveOf (s .state)) z ∙ effective-zero (s .state)

@@ -7,14 +7,14 @@ use lib.ListN.{getD}
 use Rattle.base.specs.Limits.{largestSpacecraft, largestChannel}
 use Rattle.fop.specs.Limits.{largestK, largestTransmissionLimit, largestTimeoutType, largestSuspendState}
 use Rattle.fop.specs.Units.{Own}
-use Rattle.fop.specs.Effective.{effectiveOf}
+use Rattle.fop.specs.Effective.{effectiveOf, inService}
 use Rattle.fop.specs.declared.State.{State}
 use Rattle.fop.specs.declared.State.the-variants.{S1, S2, S3, S4, S5, S6}
 use Rattle.sender_values.specs.declared.SenderState.{SenderState}
 use Rattle.sender_values.specs.Actions.{unitsHeld}
 use Rattle.sender_values.specs.Start.{begun}
 use Rattle.sender_view.specs.View.{WellFormed}
-use Rattle.sender_table.specs.Rows.{inMain, isFrame}
+use Rattle.sender_table.specs.Rows.{isFrame}
 
 -- Initialising with BC frame
 abbrev pub withFrame : State → Bool
@@ -41,7 +41,7 @@ effective s = effectiveOf (s .state) (s .variables .«suspend_state»)
 -- V(S), NN(R), counts, lengths and store as crate sender_view says; the settings within document 01's limits, with the address of both
 -- ends; Transmission_Count from 1 to the largest Transmission_Limit; Suspend_State at most its largest, and 0 but in Initial; no unit is held
 -- but where the effective state is one of the main protocol's; the timer is stopped in Initial; a type-BC frame is on the Sent_Queue in
--- Initialising with BC frame, and only there; each unit held has an octet. And, for now, "Suspend_State stays 0".
+-- Initialising with BC frame, and only there; each unit held has an octet.
 pub record Good (own : Own) (s : SenderState) (store : List ℕ) : Type 0 where
   pub formed : WellFormed (begun s) (s .lengths) store
   pub window-least : 1 ≤ s .settings .k
@@ -54,9 +54,8 @@ pub record Good (own : Own) (s : SenderState) (store : List ℕ) : Type 0 where
   pub type-most : s .settings .«timeout_type» ≤ largestTimeoutType
   pub suspend-most : s .variables .«suspend_state» ≤ largestSuspendState
   pub suspend-initial : initial (s .state) ≡ false → s .variables .«suspend_state» ≡ 0
-  pub serving : s .variables .«suspend_state» ≡ 0
-  pub sent-main : inMain (effective s) ≡ false → s .queues .sent ≡ 0
-  pub waiting-main : inMain (effective s) ≡ false → s .queues .waiting ≡ false
+  pub sent-main : inService (effective s) ≡ false → s .queues .sent ≡ 0
+  pub waiting-main : inService (effective s) ≡ false → s .queues .waiting ≡ false
   pub stopped : s .state ≡ S6 → s .variables .timer ≡ 0
   pub control-s5 : isFrame (s .queues .control) ≡ withFrame (s .state)
   pub filled : (i : ℕ) → i < unitsHeld (s .queues .sent) (s .queues .waiting) → 1 ≤ getD (s .lengths) i 0

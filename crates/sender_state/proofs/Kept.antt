@@ -11,7 +11,7 @@ use Rattle.base.specs.Choice.{both}
 use Rattle.base.specs.Limits.{largestUnit}
 use Rattle.base.specs.Modulo.{offset}
 use Rattle.base.proofs.Lists.{next}
-use Rattle.fop.specs.Limits.{largestK}
+use Rattle.fop.specs.Limits.{largestK, largestSuspendState}
 use Rattle.fop.specs.declared.State.{State}
 use Rattle.fop.specs.declared.State.the-variants as state
 use Rattle.sender_values.specs.declared.Variables.{Variables}
@@ -19,12 +19,12 @@ use Rattle.sender_values.specs.declared.Queues.{Queues}
 use Rattle.sender_values.specs.declared.SenderState.{SenderState}
 use Rattle.sender_table.specs.Rows.{isFrame}
 use Rattle.sender_values.specs.Actions.{unitsHeld}
-use Rattle.sender_state.specs.State.{settingsHold, numbersHold, isEmpty, stateHolds, lengthsHold, wellFormed}
+use Rattle.sender_state.specs.State.{settingsHold, numbersHold, isEmpty, isServing, initialHolds, stateHolds, lengthsHold, wellFormed}
 
 -- numbersHold with the difference given
 abbrev pub numbersWith : ℕ → Variables → Queues → Bool
 numbersWith d v q =
-    both (leb (q .sent) largestK) (both (leb (q .sent) d) (both (leb (q .marked) (q .sent)) (both (leb 1 (v .«transmission_count»)) (eqb (v .«suspend_state») 0))))
+    both (leb (q .sent) largestK) (both (leb (q .sent) d) (both (leb (q .marked) (q .sent)) (both (leb 1 (v .«transmission_count»)) (leb (v .«suspend_state») largestSuspendState))))
 
 pub numbers-by : (v : Variables) (q : Queues) (d : ℕ) (b : Bool) → d ≡ offset (v .vs) (v .nnr) → b ≡ numbersWith d v q → b ≡ numbersHold v q
 numbers-by v q d b e h = h ∙ ap (λ (x : ℕ). numbersWith x v q) e
@@ -89,26 +89,28 @@ module _ (q : Queues) where
   pub sent-none : q .sent ≡ 0 → not (q .waiting) ≡ isEmpty q
   sent-none h = sym (ap (λ (b : Bool). both b (not (q .waiting))) (eq-eqb (q .sent) 0 h))
 
--- each state's test, by the tests that the code has made: f a type-BC frame, e no unit, t the timer stopped
+-- each state's test, by the tests that the code has made: u Suspend_State 0, f a type-BC frame, e no unit, i the units of S6, t the timer stopped
 module _ (s : State) (v : Variables) (q : Queues) where
   told : (r : Bool) (x : State) → s ≡ x → r ≡ stateHolds x v q → r ≡ stateHolds s v q
   told r x p h = h ∙ ap (λ (y : State). stateHolds y v q) (sym p)
 
-  pub in-s1 : {f : Bool} → f ≡ isFrame (q .control) → s ≡ state.S1 → not f ≡ stateHolds s v q
-  in-s1 ef p = told _ state.S1 p (ap not ef)
+  pub in-s1 : {u f r : Bool} → u ≡ isServing v → f ≡ isFrame (q .control) → s ≡ state.S1 → r ≡ both u (not f) → r ≡ stateHolds s v q
+  in-s1 eu ef p h = told _ state.S1 p (h ∙ ap₂ (λ (x y : Bool). both x (not y)) eu ef)
 
-  pub in-s2 : {f : Bool} → f ≡ isFrame (q .control) → s ≡ state.S2 → not f ≡ stateHolds s v q
-  in-s2 ef p = told _ state.S2 p (ap not ef)
+  pub in-s2 : {u f r : Bool} → u ≡ isServing v → f ≡ isFrame (q .control) → s ≡ state.S2 → r ≡ both u (not f) → r ≡ stateHolds s v q
+  in-s2 eu ef p h = told _ state.S2 p (h ∙ ap₂ (λ (x y : Bool). both x (not y)) eu ef)
 
-  pub in-s3 : {f : Bool} → f ≡ isFrame (q .control) → s ≡ state.S3 → not f ≡ stateHolds s v q
-  in-s3 ef p = told _ state.S3 p (ap not ef)
+  pub in-s3 : {u f r : Bool} → u ≡ isServing v → f ≡ isFrame (q .control) → s ≡ state.S3 → r ≡ both u (not f) → r ≡ stateHolds s v q
+  in-s3 eu ef p h = told _ state.S3 p (h ∙ ap₂ (λ (x y : Bool). both x (not y)) eu ef)
 
-  pub in-s4 : {f e r : Bool} → f ≡ isFrame (q .control) → e ≡ isEmpty q → s ≡ state.S4 → r ≡ both e (not f) → r ≡ stateHolds s v q
-  in-s4 ef ee p h = told _ state.S4 p (h ∙ ap₂ (λ (x y : Bool). both x (not y)) ee ef)
-
-  pub in-s5 : {f e r : Bool} → f ≡ isFrame (q .control) → e ≡ isEmpty q → s ≡ state.S5 → r ≡ both e f → r ≡ stateHolds s v q
-  in-s5 ef ee p h = told _ state.S5 p (h ∙ ap₂ both ee ef)
-
-  pub in-s6 : {f e t u r : Bool} → f ≡ isFrame (q .control) → e ≡ isEmpty q → t ≡ eqb (v .timer) 0 → s ≡ state.S6 → u ≡ both (not f) t → r ≡ both e u
+  pub in-s4 : {u f e w r : Bool} → u ≡ isServing v → f ≡ isFrame (q .control) → e ≡ isEmpty q → s ≡ state.S4 → w ≡ both e (not f) → r ≡ both u w
       → r ≡ stateHolds s v q
-  in-s6 ef ee et p hu h = told _ state.S6 p (h ∙ ap₂ both ee (hu ∙ ap₂ (λ (x y : Bool). both (not x) y) ef et))
+  in-s4 eu ef ee p hw h = told _ state.S4 p (h ∙ ap₂ both eu (hw ∙ ap₂ (λ (x y : Bool). both x (not y)) ee ef))
+
+  pub in-s5 : {u f e w r : Bool} → u ≡ isServing v → f ≡ isFrame (q .control) → e ≡ isEmpty q → s ≡ state.S5 → w ≡ both e f → r ≡ both u w
+      → r ≡ stateHolds s v q
+  in-s5 eu ef ee p hw h = told _ state.S5 p (h ∙ ap₂ both eu (hw ∙ ap₂ both ee ef))
+
+  pub in-s6 : {i f t w r : Bool} → i ≡ initialHolds v q → f ≡ isFrame (q .control) → t ≡ eqb (v .timer) 0 → s ≡ state.S6 → w ≡ both (not f) t → r ≡ both i w
+      → r ≡ stateHolds s v q
+  in-s6 ei ef et p hw h = told _ state.S6 p (h ∙ ap₂ both ei (hw ∙ ap₂ (λ (x y : Bool). both (not x) y) ef et))

@@ -5,6 +5,8 @@ use base::LARGEST_SPACECRAFT;
 use base::LARGEST_UNIT;
 use fop::State;
 use sender_values::Control;
+use sender_values::LARGEST_SUSPEND_STATE;
+use sender_values::LARGEST_TIMEOUT_TYPE;
 use sender_values::Queues;
 use sender_values::SenderState;
 use sender_values::Settings;
@@ -15,7 +17,7 @@ ghost use mathlib.Core.Path.{_≡_};
 ghost use Rattle.base.specs.Choice.{both};
 ghost use Rattle.sender_table.specs.Rows.{isFrame};
 ghost use Rattle.sender_values.specs.Actions.{unitsHeld};
-ghost use Rattle.sender_state.specs.State.{settingsHold, numbersHold, isEmpty, stateHolds, lengthsHold, wellFormed};
+ghost use Rattle.sender_state.specs.State.{settingsHold, numbersHold, isEmpty, initialHolds, stateHolds, lengthsHold, wellFormed};
 
 // Document 01's limits of the settings.
 pub fn settings_hold(settings: Settings) -> bool
@@ -33,7 +35,7 @@ pub fn settings_hold(settings: Settings) -> bool
     if settings.transmission_limit < 1 {
         return false;
     }
-    if settings.timeout_type != 0 {
+    if LARGEST_TIMEOUT_TYPE < settings.timeout_type {
         return false;
     }
     if LARGEST_SPACECRAFT < settings.spacecraft {
@@ -59,7 +61,7 @@ fn numbers_hold(variables: Variables, queues: Queues) -> bool
     if variables.transmission_count < 1 {
         return false;
     }
-    variables.suspend_state == 0
+    variables.suspend_state <= LARGEST_SUSPEND_STATE
 }
 
 // A type-BC frame is on the sent queue.
@@ -93,21 +95,33 @@ fn both(a: bool, b: bool) -> bool
     false
 }
 
-// By the state: a type-BC frame in S5 and only there; no unit outside S1 to S3; the timer stopped in S6.
+// The units of S6: while suspended in S1 to S3 those held there, else none.
+fn initial_holds(variables: Variables, queues: Queues) -> bool
+    ensures { λ r. ⌜ r ≡ initialHolds variables queues ⌝ }
+{
+    match variables.suspend_state {
+        1..=3 => true,
+        _ => is_empty(queues),
+    }
+}
+
+// By the state: Suspend_State 0 outside S6; a type-BC frame in S5 and only there; no unit outside S1 to S3, but while suspended there; the
+// timer stopped in S6.
 fn state_holds(state: State, variables: Variables, queues: Queues) -> bool
     ensures { λ r. ⌜ r ≡ stateHolds state variables queues ⌝ }
 {
     let control = queues.control;
     let framed = is_frame(control);
     let empty = is_empty(queues);
+    let serving = variables.suspend_state == 0;
     let stopped = variables.timer == 0;
     match state {
-        State::S1 => !framed,
-        State::S2 => !framed,
-        State::S3 => !framed,
-        State::S4 => both(empty, !framed),
-        State::S5 => both(empty, framed),
-        State::S6 => both(empty, both(!framed, stopped)),
+        State::S1 => both(serving, !framed),
+        State::S2 => both(serving, !framed),
+        State::S3 => both(serving, !framed),
+        State::S4 => both(serving, both(empty, !framed)),
+        State::S5 => both(serving, both(empty, framed)),
+        State::S6 => both(initial_holds(variables, queues), both(!framed, stopped)),
     }
 }
 

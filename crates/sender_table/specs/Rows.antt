@@ -12,22 +12,11 @@ use Rattle.fop.specs.Table.{InitiateAdRetransmission, InitiateBcRetransmission,
 use Rattle.fop.specs.Table.{SetSuspendState, Suspend, Resume, SetVs, SetNnr, SetK, SetT1Initial, SetTransmissionLimit, SetTimeoutType, AdOutReady, BcOutReady, BdOutReady}
 use Rattle.fop.specs.Table.{E1, E2, E3, E4, E5, E6, E7, E8, E9, E10, E11, E12, E13, E14, E15, E16, E17, E18, E19, E20, E21, E22, E23, E24, E25, E26, E27, E28, E29, E30, E31, E32, E33, E34}
 use Rattle.fop.specs.Table.{E35, E36, E37, E38, E39, E40, E41, E42, E43, E44, E45, E46, E101, E102, E103, E104}
-use Rattle.fop.specs.declared.State.{State}
-use Rattle.fop.specs.declared.State.the-variants as state
 use Rattle.sender_values.specs.declared.Control.{Control}
 use Rattle.sender_values.specs.declared.Control.the-variants as control
 use Rattle.fop.specs.declared.Response.the-variants as response
 use Rattle.sender_values.specs.declared.Work.{Work}
 use Rattle.sender_values.specs.Actions as act
-
--- S1 to S3, the main protocol's states
-abbrev pub inMain : State → Bool
-inMain state.S1 = true
-inMain state.S2 = true
-inMain state.S3 = true
-inMain state.S4 = false
-inMain state.S5 = false
-inMain state.S6 = false
 
 -- a type-BC frame is on the sent queue
 abbrev pub isFrame : Control → Bool

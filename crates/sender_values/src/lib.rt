@@ -11,6 +11,12 @@ use store::PLACES;
 // The responses that one event can give at the most.
 pub const LARGEST_RESPONSES: usize = 4;
 
+// Timeout_Type is 0 or 1 (clause 7.2.2; document 02, order 9).
+pub const LARGEST_TIMEOUT_TYPE: u8 = 1;
+
+// Suspend_State is 0 to 4 (clause 7.2.2).
+pub const LARGEST_SUSPEND_STATE: u8 = 4;
+
 // K (FOP_Sliding_Window_Width), T1_Initial, Transmission_Limit, Timeout_Type, and the address of the frames.
 pub struct Settings {
     pub k: u8,

@@ -1,9 +1,8 @@
 -- What the answers of tied ends say: alerts and refusals.
 use mathlib.Core.Logic.{_⊎_, inl, inr}
 use mathlib.Core.Path.{_≡_, refl, sym, ap, _∙_, subst}
-use mathlib.Core.Bool.{Bool, true, false}
+use mathlib.Core.Bool.{Bool, true, false, false≢true}
 use mathlib.Core.List.{List, [], _∷_, map}
-use mathlib.Core.Option.{Option}
 use Prim.Native.Nat.{ℕ, _-_, _<_}
 use native.Mathlib.Omega.{arith}
 use lib.Dec.{ltb}
@@ -11,7 +10,7 @@ use lib.ListN.{length}
 use borrow.Author.Tests.{ltb-true, ltb-false}
 use Rattle.base.specs.Choice.{pick}
 use Rattle.fop.specs.Units.{Frame, Word, legal, written, wordOctets}
-use Rattle.fop.specs.Variables.{Fop, Work}
+use Rattle.fop.specs.Variables.{Fop, Work, Preset}
 use Rattle.fop.specs.Events.{SenderEvent, requestAd, requestBd, lower, directive, wordArrives, work, fopWord}
 use Rattle.fop.specs.Answers.{Answer, judged, needed, senderRefusal, senderAnswer, refused}
 use Rattle.session.specs.Ends.{Settings, Within, Ends, Brought, Tied, tables}
@@ -21,9 +20,13 @@ use Rattle.fop.specs.Events as fop
 use Rattle.fop.specs.declared.Alert.{Alert}
 use Rattle.fop.specs.declared.Alert.the-variants.{None, Synch, Clcw, Limit, Nnr, Lockout, T1, Term, Llif}
 use Rattle.session.specs.Stronger.{KnownAlert}
-use Rattle.session.proofs.Choices.{by-pick}
-use Rattle.session.proofs.Alerts.{Allowed, ownAlert, ad-alerts, bd-alerts, tick-alerts, lower-alerts, terminate-alerts}
-use Rattle.session.proofs.Inv.{in-mode, Inv, word-read, fine}
+use Rattle.suspension.specs.Suspension.{suspendsAt}
+use Rattle.suspension.proofs.Told.{tick-told}
+use Rattle.suspension.proofs.Begins.{tick-begins}
+use Rattle.suspension.proofs.Law.{work-told}
+use Rattle.fop.proofs.Choices.{by-pick}
+use Rattle.session.proofs.Alerts.{Allowed, ownAlert, ad-alerts, bd-alerts, tick-alerts, lower-alerts, directive-alerts}
+use Rattle.session.proofs.Inv.{in-mode, Inv, goes-is, word-read, fine}
 use Rattle.session.proofs.Core.{Session, goes, used, isHeld}
 use Rattle.session.proofs.Chan.{Wds}
 use Rattle.session.proofs.Receiver.{at}
@@ -43,21 +46,25 @@ use Rattle.receiver.specs.declared.Received.{Received}
 use Rattle.receiver.specs.declared.Released.the-variants.{Done, NoneTaken}
 use Rattle.session.specs.Receiver.{frameArrives, releaseBuffer, ReceiverAnswer, releaseAnswer, receiverAnswer}
 
-own-known : (l : ℕ) (r : Alert) → Allowed ownAlert r → KnownAlert l r
-own-known l r (inl e) = inl e
-own-known l r (inr (Term, e, t)) = inr (inl e)
-own-known l r (inr (T1, e, t)) = inr (inr (inl e))
-own-known l r (inr (Llif, e, t)) = inr (inr (inr (inl e)))
-own-known l r (inr (None, e, t)) = absurd t
-own-known l r (inr (Synch, e, t)) = absurd t
-own-known l r (inr (Clcw, e, t)) = absurd t
-own-known l r (inr (Nnr, e, t)) = absurd t
-own-known l r (inr (Lockout, e, t)) = absurd t
-own-known l r (inr (Limit, e, t)) = absurd t
+own-known : (set : Settings) (r : Alert) → Allowed ownAlert r → KnownAlert set r
+own-known set r (inl e) = inl e
+own-known set r (inr (Term, e, t)) = inr (inl e)
+own-known set r (inr (T1, e, t)) = absurd t
+own-known set r (inr (Llif, e, t)) = inr (inr (inr (inl e)))
+own-known set r (inr (None, e, t)) = absurd t
+own-known set r (inr (Synch, e, t)) = absurd t
+own-known set r (inr (Clcw, e, t)) = absurd t
+own-known set r (inr (Nnr, e, t)) = absurd t
+own-known set r (inr (Lockout, e, t)) = absurd t
+own-known set r (inr (Limit, e, t)) = absurd t
 
-limit-known : (l : ℕ) (r : Alert) → LimitOnly l r → KnownAlert l r
-limit-known l r (inl e) = inl e
-limit-known l r (inr e) = inr (inr (inr (inr e)))
+timer-known : (set : Settings) (r : Alert) (type : ℕ) → type ≡ set .timeoutType → (r ≡ None) ⊎ ((r ≡ T1) × (type ≡ 0)) → KnownAlert set r
+timer-known set r type s (inl e) = inl e
+timer-known set r type s (inr e) = inr (inr (inl (e .0, sym s ∙ e .1)))
+
+limit-known : (set : Settings) (r : Alert) → LimitOnly (set .limit) r → KnownAlert set r
+limit-known set r (inl e) = inl e
+limit-known set r (inr e) = inr (inr (inr (inr e)))
 
 -- an event of the session is one that it brings
 pub brought : (ws : List (List ℕ)) (e : SenderEvent) → InSession ws e → Brought e
@@ -108,19 +115,34 @@ module _ (set : Settings) (vw : Within set) (m : Ends) (t : Tied set m) (σ : Li
       (λ g. subst (λ (w : Work). LimitOnly (set .limit) (w .notices .alert)) (sym (l .5)) (word-alerts set κ I Q (l .0) (l .1) (l .2))) (inl refl)
 
   -- the alerts
-  known : (e : SenderEvent) → Brought e → (lent : ℕ) → Allowed ownAlert ((work (set .own) e (κ .fop)) .notices .alert) → KnownAlert (set .limit) ((m .answer e lent (σ .sender)) .alert)
-  known e i lent h = answer-ways (λ a. KnownAlert (set .limit) (a .alert)) e i lent (λ g. own-known (set .limit) _ h) (inl refl)
+  known : (e : SenderEvent) → Brought e → (lent : ℕ) → KnownAlert set ((work (set .own) e (κ .fop)) .notices .alert) → KnownAlert set ((m .answer e lent (σ .sender)) .alert)
+  known e i lent h = answer-ways (λ a. KnownAlert set (a .alert)) e i lent (λ g. h) (inl refl)
 
-  pub alerts : (e : SenderEvent) (lent : ℕ) → InSession (σ .words) e → KnownAlert (set .limit) ((m .answer e lent (σ .sender)) .alert)
+  pub alerts : (e : SenderEvent) (lent : ℕ) → InSession (σ .words) e → KnownAlert set ((m .answer e lent (σ .sender)) .alert)
   unfolding work
-  alerts (requestAd o) lent h = known (requestAd o) tt lent (ad-alerts (κ .fop) (in-mode set κ I) o)
-  alerts (requestBd o) lent h = known (requestBd o) tt lent (bd-alerts (κ .fop) (in-mode set κ I) o)
-  alerts fop.tick lent h = known fop.tick tt lent (tick-alerts (κ .fop) (in-mode set κ I))
-  alerts (lower l) lent h = known (lower l) tt lent (lower-alerts (κ .fop) (in-mode set κ I) l)
-  alerts (directive d v) lent h =
-      subst (λ (x : ℕ). KnownAlert (set .limit) ((m .answer (directive x v) lent (σ .sender)) .alert)) (sym h)
-      (known (directive 5 v) refl lent (terminate-alerts (κ .fop) (in-mode set κ I) v))
-  alerts (wordArrives s) lent h = limit-known (set .limit) _ (word-alert s (h .0) lent (h .1))
+  alerts (requestAd o) lent h = known (requestAd o) tt lent (own-known set _ (ad-alerts (κ .fop) (in-mode set κ I) o))
+  alerts (requestBd o) lent h = known (requestBd o) tt lent (own-known set _ (bd-alerts (κ .fop) (in-mode set κ I) o))
+  alerts fop.tick lent h = known fop.tick tt lent (timer-known set _ _ (ap (λ (p : Preset). p .timeoutType) (I .isSet)) (tick-alerts (κ .fop) (in-mode set κ I)))
+  alerts (lower l) lent h = known (lower l) tt lent (own-known set _ (lower-alerts (κ .fop) (in-mode set κ I) l))
+  alerts (directive d v) lent h = known (directive d v) h lent (own-known set _ (directive-alerts (κ .fop) (in-mode set κ I) d v h))
+  alerts (wordArrives s) lent h = limit-known set _ (word-alert s (h .0) lent (h .1))
+
+  -- the Suspend notification, which only an expiry that suspends gives
+  pub notified : (e : SenderEvent) (lent : ℕ) → InSession (σ .words) e → (m .answer e lent (σ .sender)) .suspended ≡ true
+      → (e ≡ fop.tick) × (suspendsAt (γ .sender) ≡ true)
+  notified e lent h s =
+      let t = answer-ways (λ a. a .suspended ≡ true → (e ≡ fop.tick) × (suspendsAt (κ .fop) ≡ true)) e (brought (σ .words) e h) lent
+      (λ g. work-told (set .own) e (κ .fop)) (λ x. absurd (false≢true x)) s in
+      (t .0, ap suspendsAt (G .fop) ∙ t .1)
+
+  pub notifies : (lent : ℕ) → suspendsAt (γ .sender) ≡ true → (m .answer fop.tick lent (σ .sender)) .suspended ≡ true
+  unfolding work judged needed senderAnswer
+  notifies lent s =
+      let u : suspendsAt (κ .fop) ≡ true = ap suspendsAt (sym (G .fop)) ∙ s in
+      let none : needed (set .own) fop.tick (κ .fop) ≡ 0 = ap ans.room (tick-begins (set .own) (κ .fop) u .2) in
+      ap (λ (a : Answer). a .suspended) (answer-is fop.tick tt lent)
+      ∙ ap (λ (b : Bool). (pick b (ans.answered (set .own) (work (set .own) fop.tick (κ .fop))) (refused (senderRefusal (set .own) fop.tick lent (κ .fop)) (κ .fop))) .suspended)
+      (goes-is (set .own) fop.tick lent (κ .fop) refl (omega (arith, none))) ∙ tick-told (κ .fop) .0 ∙ u
 
   judge : (e : SenderEvent) → InSession (σ .words) e → (judged (set .own) e ≡ 0) ⊎ (judged (set .own) e ≡ 10)
   unfolding judged
@@ -128,7 +150,8 @@ module _ (set : Settings) (vw : Within set) (m : Ends) (t : Tied set m) (σ : Li
   judge (requestBd o) h = by-legal (legal o)
   judge fop.tick h = inl refl
   judge (lower l) h = inl refl
-  judge (directive d v) h = inl (rw h)
+  judge (directive d v) (inl h) = inl (rw h)
+  judge (directive d v) (inr h) = inl (rw h)
   judge (wordArrives s) h = inl (oldest-read s (h .0) (h .1) .6)
 
   pub refusals : (e : SenderEvent) (lent : ℕ) → InSession (σ .words) e → Mild ((m .answer e lent (σ .sender)) .refusal)

@@ -21,8 +21,8 @@ use Rattle.farm.specs.declared.Event.{Event as FarmEvent}
 use Rattle.farm.specs.declared.Event.the-variants.{E1, E2, E3, E4, E6, E10}
 use Rattle.farm.specs.declared.Variables.{Variables}
 use Rattle.session.specs.Ends.{Settings, Within, startReceiver}
-use Rattle.session.specs.Session.{Event, adRequest, bdRequest, ticks, lowerSays, terminate, wordIn, wordLost, wordMade, frameIn, frameLost, release}
-use Rattle.session.proofs.Choices.{by-pick, never}
+use Rattle.session.specs.Session.{Event, adRequest, bdRequest, ticks, lowerSays, terminate, resume, wordIn, wordLost, wordMade, frameIn, frameLost, release}
+use Rattle.fop.proofs.Choices.{by-pick, never}
 use Rattle.session.proofs.Core.{Session, answered, sender, goes, channels, receiver, wordCome, frameCome, frameEvent, isHanded, taken, releases}
 use Rattle.session.proofs.Core.{stepWith, step, free, isHeld}
 use Rattle.session.proofs.Chan.{Fly}
@@ -128,6 +128,7 @@ stock-keeps set vw (bdRequest o lent) σ I h = sender-stock set (requestBd o) le
 stock-keeps set vw (ticks lent) σ I h = sender-stock set fop.tick lent σ h
 stock-keeps set vw (lowerSays l lent) σ I h = sender-stock set (lower l) lent σ h
 stock-keeps set vw (terminate v lent) σ I h = sender-stock set (directive 5 v) lent σ h
+stock-keeps set vw (resume v lent) σ I h = sender-stock set (directive 6 v) lent σ h
 stock-keeps set vw (wordIn lent) σ I h = word-stock set lent (σ .words) σ h
 stock-keeps set vw wordLost σ I h = h
 stock-keeps set vw (wordMade lent) σ I h = h

@@ -14,8 +14,9 @@ use Rattle.fop.specs.Units.{Fdu, Frame, AD, BD, Unlock, SetVR, Refused, Word}
 use Rattle.session.specs.Ends.{Settings, Within}
 use Rattle.session.specs.Session.{frameIn, noUnit}
 use Rattle.session.specs.Stronger.{Sub}
+use Rattle.session.specs.Suspension.{admits, linkRejects}
 use Rattle.session.specs.Channels.{LinkEvent, demanded, frameStays, wordStays, frameFilled, frameAgain, noise, wordNoise, isAd, stays, isFill, isKept}
-use Rattle.session.proofs.Choices.{by-pick}
+use Rattle.fop.proofs.Choices.{by-pick}
 use Rattle.session.proofs.Core.{Session, channels, wordCome, frameCome, free, step}
 use Rattle.session.proofs.Chan.{Fly, fly-mono, fly-add, Wds}
 use Rattle.session.proofs.Values.{refly}
@@ -126,33 +127,33 @@ module _ (set : Settings) (vw : Within set) (kept : ℕ) (most : kept ≤ set .w
   as-they-are : (σ : Session) → Inv set σ → Inv set (channels (σ .frames) (σ .words) σ)
   as-they-are σ I = words-are set σ (σ .words) I (I .words)
 
-  -- every event keeps the invariant
-  pub link-keeps : (e : LinkEvent) (σ : Session) → Inv set σ → Inv set (linkStep set kept e σ)
+  -- every event that is admitted keeps the invariant
+  pub link-keeps : (e : LinkEvent) (σ : Session) → admits (linkRejects e) (σ .fop) ≡ true → Inv set σ → Inv set (linkStep set kept e σ)
   unfolding linkStep
-  link-keeps (demanded e) σ I = step-keeps set vw e σ I
-  link-keeps (frameStays fill) σ I =
+  link-keeps (demanded e) σ a I = step-keeps set vw e σ a I
+  link-keeps (frameStays fill) σ a I =
       by-pick (Inv set) (isFill fill) (λ b.
       frame-keeps set vw σ (free set σ) (staysAd (σ .frames)) I (stays-under-way set vw σ I) (stays-bd (σ .acceptedBd) (σ .sentBd) (σ .frames) (I .bd)))
       (λ b. I)
-  link-keeps (wordStays lent) σ I = word-keeps set vw lent σ (stays (σ .words)) I (words-under-way σ I)
-  link-keeps (frameFilled fill) σ I = by-pick (Inv set) (isFill fill) (λ b. step-keeps set vw frameIn σ I) (λ b. I)
-  link-keeps (frameAgain i) σ I =
+  link-keeps (wordStays lent) σ a I = word-keeps set vw lent σ (stays (σ .words)) I (words-under-way σ I)
+  link-keeps (frameFilled fill) σ a I = by-pick (Inv set) (isFill fill) (λ b. step-keeps set vw frameIn σ a I) (λ b. I)
+  link-keeps (frameAgain i) σ a I =
       by-pick (λ (fs : List Frame). Inv set (channels fs (σ .words) σ)) (isKept kept (σ .sent) i) (λ t. again σ i I t) (λ t. as-they-are σ I)
-  link-keeps (noise o) σ I = I
-  link-keeps (wordNoise o lent) σ I = I
+  link-keeps (noise o) σ a I = I
+  link-keeps (wordNoise o lent) σ a I = I
 
   -- the flags' invariant
-  pub link-tidy : (e : LinkEvent) (σ : Session) → Inv set σ → Tidy (set .n) σ → Tidy (set .n) (linkStep set kept e σ)
+  pub link-tidy : (e : LinkEvent) (σ : Session) → admits (linkRejects e) (σ .fop) ≡ true → Inv set σ → Tidy (set .n) σ → Tidy (set .n) (linkStep set kept e σ)
   unfolding linkStep
-  link-tidy (demanded e) σ I t = step-tidy set vw e σ I t
-  link-tidy (frameStays fill) σ I t =
+  link-tidy (demanded e) σ a I t = step-tidy set vw e σ a I t
+  link-tidy (frameStays fill) σ a I t =
       by-pick (Tidy (set .n)) (isFill fill) (λ b. frame-tidy set vw σ (free set σ) (staysAd (σ .frames)) I t (stays-under-way set vw σ I)) (λ b. t)
-  link-tidy (wordStays lent) σ I t =
+  link-tidy (wordStays lent) σ a I t =
       word-tidy set vw lent σ (stays (σ .words)) I t (words-under-way σ I) (stays-keys (set .n) _ _ _ (σ .words) (t .keys))
-  link-tidy (frameFilled fill) σ I t = by-pick (Tidy (set .n)) (isFill fill) (λ b. step-tidy set vw frameIn σ I t) (λ b. t)
-  link-tidy (frameAgain i) σ I t = words-tidy (set .n) σ _ (σ .words) t (t .keys)
-  link-tidy (noise o) σ I t = t
-  link-tidy (wordNoise o lent) σ I t = t
+  link-tidy (frameFilled fill) σ a I t = by-pick (Tidy (set .n)) (isFill fill) (λ b. step-tidy set vw frameIn σ a I t) (λ b. t)
+  link-tidy (frameAgain i) σ a I t = words-tidy (set .n) σ _ (σ .words) t (t .keys)
+  link-tidy (noise o) σ a I t = t
+  link-tidy (wordNoise o lent) σ a I t = t
 
   -- what a transmission limit of 1 gives
   pub link-once : (e : LinkEvent) (σ : Session) → Once (σ .fop) → Once ((linkStep set kept e σ) .fop)

@@ -23,7 +23,7 @@ use Rattle.fop.specs.Answers.{needed}
 use Rattle.session.specs.Ends.{Settings, Within}
 use Rattle.session.specs.Session.{wordIn, places}
 use Rattle.session.specs.Claims.{IsOutstanding, outstanding, member, nextNumber, nextUnit, serves}
-use Rattle.session.proofs.Ways.{look-ways}
+use Rattle.fop.proofs.Ways.{look-ways}
 use Rattle.session.proofs.Core.{Session, answered, channels, step}
 use Rattle.session.proofs.Lists.{member-in}
 use Rattle.session.proofs.Values.{queue-length}
@@ -124,7 +124,7 @@ module _ (set : Settings) (vw : Within set) (σ : Session) (I : Inv set σ) (sv 
   pub clears-all : (i : ℕ) → IsOutstanding (historyOf σ) i → member i ((step set (wordIn lent) σ) .confirmed) ≡ true
   clears-all i o =
       let from : length (σ .confirmed) ≤ i = out-from set σ I (served (σ .fop .state) sv) i o in
-      let J : Inv set (step set (wordIn lent) σ) = step-keeps set vw (wordIn lent) σ I in
+      let J : Inv set (step set (wordIn lent) σ) = step-keeps set vw (wordIn lent) σ refl I in
       let l = conf-all (omega (arith, from, o .0)) in
       ap (member i) (J .places) ∙ member-in i 0 (length ((step set (wordIn lent) σ) .confirmed)) (omega arith) (omega (arith, l, o .0))
 

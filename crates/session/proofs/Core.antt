@@ -22,7 +22,7 @@ use Rattle.farm.specs.declared.AcceptedUnit.{AcceptedUnit}
 use Rattle.farm.specs.declared.AcceptedUnit.the-variants.{None, AdUnit, BdUnit}
 use Rattle.session.specs.Receiver.{wordLength}
 use Rattle.session.specs.Ends.{Settings}
-use Rattle.session.specs.Session.{Event, adRequest, bdRequest, ticks, lowerSays, terminate, wordIn, wordLost, wordMade, frameIn, frameLost, release, addSent, addBd, places, rest}
+use Rattle.session.specs.Session.{Event, adRequest, bdRequest, ticks, lowerSays, terminate, resume, wordIn, wordLost, wordMade, frameIn, frameLost, release, addSent, addBd, places, rest}
 
 -- the sender and FARM-1's variables as the tables have them, the channels, and the histories
 pub record Session : Type 0 where
@@ -184,6 +184,7 @@ stepWith set room held (bdRequest o lent) σ = sender set (requestBd o) lent σ
 stepWith set room held (ticks lent) σ = sender set fop.tick lent σ
 stepWith set room held (lowerSays l lent) σ = sender set (fop.lower l) lent σ
 stepWith set room held (terminate v lent) σ = sender set (directive 5 v) lent σ
+stepWith set room held (resume v lent) σ = sender set (directive 6 v) lent σ
 stepWith set room held (wordIn lent) σ = wordCome set lent (σ .words) σ
 stepWith set room held wordLost σ = channels (σ .frames) (rest (σ .words)) σ
 stepWith set room held (wordMade lent) σ = channels (σ .frames) (addWord (leb wordLength lent) (report (σ .farm)) (σ .words)) σ

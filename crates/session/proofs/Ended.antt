@@ -16,39 +16,31 @@ use Rattle.fop.specs.Table.{Cell, cell, ifNotSuspended, NotApplicable, FopEvent
 use Rattle.fop.specs.Variables.{Fop, Work, begin}
 use Rattle.fop.specs.Effective.{effective}
 use Rattle.fop.specs.Machine.{perform, performAll, performCell, fopDo}
-use Rattle.fop.specs.Events.{when, wordLines, wordEvent, seen, fopWord, fopAd, fopBd, isEmpty, fopTick, fopLower, fopDirective, directiveEvent, fopReceived}
+use Rattle.fop.specs.Events.{when, wordLines, wordEvent, seen, fopWord, fopAd, fopBd, isEmpty, fopTick, fopLower, fopDirective, directiveEvent, directiveLines, first, fopReceived}
 use Rattle.fop.specs.Events.{SenderEvent, requestAd, requestBd, lower, directive, wordArrives, work}
 use Rattle.fop.specs.Events as fop
 use Rattle.session.specs.Frames.{read}
-use Rattle.session.specs.Ends.{Settings, Within, Ends, Tied}
-use Rattle.session.specs.Session.{Linked, Event, adRequest, bdRequest, ticks, lowerSays, terminate, wordIn, wordLost, wordMade, frameIn, frameLost, release, rest}
+use Rattle.session.specs.Ends.{Settings, Within, Ends, Tied, SessionDirective}
+use Rattle.session.specs.Session.{Linked, Event, adRequest, bdRequest, ticks, lowerSays, terminate, resume, wordIn, wordLost, wordMade, frameIn, frameLost, release, rest}
 use Rattle.session.specs.Claims.{serves}
 use Rattle.session.specs.Stronger.{InSession}
 use Rattle.session.specs.Channels.{LinkEvent, demanded, frameStays, wordStays, frameFilled, frameAgain, noise, wordNoise, isAd, stays, isFill}
 use Rattle.session.specs.Beyond.{noAd, noneAgain}
-use Rattle.session.proofs.Choices.{by-pick, and-l, and-r, and-both}
-use Rattle.session.proofs.Test.{first-all, lower-all, lowered, tick-ways}
-use Rattle.session.proofs.Suspended.{suspendAll, suspend-all, effective-is}
+use Rattle.fop.proofs.Choices.{by-pick, and-l, and-r, and-both}
+use Rattle.fop.proofs.Test.{first-all, lower-all, lowered, tick-ways}
+use Rattle.session.proofs.Suspended.{isInitial, suspendAll, suspend-all, effective-is}
 use Rattle.session.proofs.Core.{Session, goes, sender, answered, wordCome, channels, frameCome, receiver, releases, free, isHeld, step, stepWith}
 use Rattle.session.proofs.Rows.{modeOf, sound}
 use Rattle.session.proofs.Inv.{Inv}
 use Rattle.session.proofs.Link.{Rel, Reads, reads, fly-reads}
 use Rattle.session.proofs.Channels.{staysAd, linkStep}
-use Rattle.session.proofs.Serving.{NoAd, none-more, Serving, ad-serving, bd-serving, tick-serving, lower-serving, terminate-serving, word-serving}
+use Rattle.session.proofs.Serving.{NoAd, none-more, Serving, ad-serving, bd-serving, tick-serving, lower-serving, directive-serving, word-serving}
 
 -- The sender.
 
 pub record Initial (f : Fop) : Type 0 where
   pub state : f .state ≡ S6
   pub unsuspended : f .suspendState ≡ 0
-
-abbrev isInitial : State → Bool
-isInitial S1 = false
-isInitial S2 = false
-isInitial S3 = false
-isInitial S4 = false
-isInitial S5 = false
-isInitial S6 = true
 
 is-initial : (s : State) → T (isInitial s) → s ≡ S6
 is-initial S1 t = absurd t
@@ -124,9 +116,12 @@ work-kept own ws (requestBd o) f i h =
     kept (fopBd o f) (do-initial _ o 0 f (first-all rowInitial (when (f .out .bd) FopEvent.E21 ∷ []) FopEvent.E22 tt) h) (bd-serving f (in-session f h) o)
 work-kept own ws fop.tick f i h = kept (fopTick f) (tick-initial f h) (tick-serving f (in-session f h))
 work-kept own ws (lower l) f i h = kept (fopLower l f) (do-initial _ [] 0 f (lower-all rowInitial tt l) h) (lower-serving f (in-session f h) l)
-work-kept own ws (directive d v) f i h =
-    subst (λ (x : ℕ). Kept (fopDirective x v f)) (sym i)
-    (kept (fopDirective 5 v f) (do-initial FopEvent.E29 [] v f tt h) (terminate-serving f (in-session f h) v))
+work-kept own ws (directive d v) f i h = kept (fopDirective d v f) (do-initial _ [] v f (by i) h) (directive-serving f (in-session f h) d v i)
+  where
+    -- Resume is refused: the sender is not suspended
+    by : SessionDirective d → T (rowInitial (first (directiveLines d v f) FopEvent.E39))
+    by (inl q) = rw q tt
+    by (inr q) = rw (q, h .unsuspended) tt
 work-kept own ws (wordArrives s) f i h = received-kept (readWord own s) f h
 
 -- The session.
@@ -202,7 +197,8 @@ module _ (set : Settings) where
   step-ended (bdRequest o lent) κ h = sender-ended [] (requestBd o) lent κ tt h
   step-ended (ticks lent) κ h = sender-ended [] fop.tick lent κ tt h
   step-ended (lowerSays l lent) κ h = sender-ended [] (lower l) lent κ tt h
-  step-ended (terminate v lent) κ h = sender-ended [] (directive 5 v) lent κ refl h
+  step-ended (terminate v lent) κ h = sender-ended [] (directive 5 v) lent κ (inl refl) h
+  step-ended (resume v lent) κ h = sender-ended [] (directive 6 v) lent κ (inr refl) h
   step-ended (wordIn lent) κ h = words-ended lent (κ .words) κ h
   step-ended wordLost κ h = channels-ended (κ .frames) (rest (κ .words)) κ (h .none) h
   step-ended (wordMade lent) κ h = channels-ended (κ .frames) _ κ (h .none) h

@@ -4,7 +4,7 @@ use mathlib.Core.Path.{_≡_}
 use mathlib.Core.Bool.{Bool, true, false, _&&_, false≢true}
 use lib.Dec.{T}
 use Rattle.fop.specs.Events.{Seen}
-use Rattle.session.proofs.Choices.{and-l, and-r}
+use Rattle.fop.proofs.Choices.{and-l, and-r}
 
 abbrev pub implies : Bool → Bool → Bool
 implies true b = b

@@ -23,8 +23,8 @@ use Rattle.fop.specs.Machine.{perform, performAll, performCell, removeAcknowled
 use Rattle.fop.specs.Events.{Seen, seen, wordEvent, fopWord}
 use Rattle.session.specs.Ends.{Settings}
 use Rattle.session.specs.Stronger.{inService}
-use Rattle.session.proofs.Ways.{directive-ways, purge-ways}
-use Rattle.session.proofs.Test.{isThere}
+use Rattle.fop.proofs.Ways.{directive-ways, purge-ways}
+use Rattle.fop.proofs.Test.{isThere}
 use Rattle.session.proofs.Core.{Session}
 use Rattle.session.proofs.Chan.{Wds, wds-le}
 use Rattle.session.proofs.Values.{word, queue-length}

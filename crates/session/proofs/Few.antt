@@ -21,9 +21,9 @@ use Rattle.fop.specs.declared.Lower.{Lower}
 use Rattle.fop.specs.Events.{when, expiryLines, wordLines, wordEvent, seen, fopWord, fopAd, fopBd, fopExpiry, fopTick, fopLower, fopDirective, directiveLines}
 use Rattle.fop.specs.Events.{directiveEvent, isEmpty, fopReceived, SenderEvent, requestAd, requestBd, lower, directive, wordArrives, work}
 use Rattle.fop.specs.Events as fop
-use Rattle.session.proofs.Choices.{by-pick, and-l, and-r}
-use Rattle.session.proofs.Ways.{look-ways, directive-ways, purge-ways}
-use Rattle.session.proofs.Test.{everyCell, every-cell, first-all, lower-all}
+use Rattle.fop.proofs.Choices.{by-pick, and-l, and-r}
+use Rattle.fop.proofs.Ways.{look-ways, directive-ways, purge-ways}
+use Rattle.fop.proofs.Test.{everyCell, every-cell, first-all, lower-all}
 
 abbrev Most : ℕ → Work → Type 0
 Most k w = length (w .frames) ≤ k

@@ -20,7 +20,7 @@ use Rattle.session.specs.Receiver.{frameArrives, receiverNext, receiverA
 use Rattle.session.specs.Ends.{Settings, Within, Ends, Tied}
 use Rattle.session.specs.Session.{Linked, frameCome}
 use Rattle.session.specs.Channels.{largestFill, isFill, withFill}
-use Rattle.session.proofs.Choices.{by-pick, and-both}
+use Rattle.fop.proofs.Choices.{by-pick, and-both}
 use Rattle.session.proofs.Core.{Session, used}
 use Rattle.session.proofs.Received.{Readable, receiverOf}
 use Rattle.session.proofs.Octets.{octets-are, filled-back, ad-legal, bd-legal}

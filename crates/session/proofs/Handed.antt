@@ -28,7 +28,7 @@ use Rattle.session.specs.Session.{noUnit}
 use Rattle.session.specs.Claims.{IsOutstanding, member}
 use Rattle.fop.specs.Machine.{purge}
 use Rattle.fop.specs.Table.{ifNotSuspended, Ignore, SetSuspendState, Suspend, Resume}
-use Rattle.session.proofs.Ways.{look-ways}
+use Rattle.fop.proofs.Ways.{look-ways}
 use Rattle.session.proofs.Core.{Session, addAll}
 use Rattle.session.proofs.Lists.{addAll-append, member-out}
 use Rattle.session.proofs.Values.{Bounds, Mode, live, dead, bad, Given, word, unit, nothing, Reports, same-sent, new-sent, queue-length, queue-at}

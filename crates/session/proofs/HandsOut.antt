@@ -71,7 +71,7 @@ module _ (set : Settings) (vw : Within set) (m : Ends) (t : Tied set m) (σ : Li
     accepted-is : (ses.step set m frameIn σ) .history .accepted ≡ taken (AD u) (isHanded unit) (κ .accepted)
     unfolding step stepWith frameCome receiver
     accepted-is =
-        ap (λ (h : History). h .accepted) (same-step set vw m t frameIn σ κ R I .history)
+        ap (λ (h : History). h .accepted) (same-step set vw m t frameIn σ κ refl R I .history)
         ∙ ap (λ (l : List Frame). (frameCome set (free set κ) l κ) .accepted) (place .1)
 
     before : κ .accepted ≡ σ .history .accepted
@@ -115,11 +115,11 @@ module _ (set : Settings) (vw : Within set) (m : Ends) (t : Tied set m) (σ : Li
       answer = λ s fs fill e f.
           by-frames (κ .frames) (fly-reads (set .n) _ (κ .sent) (I .base .num) _ _ (κ .frames) (I .base .fly)) s fs fill (sym e ∙ R .frames) f;
       history = λ fill f.
-          same-link set vw m t kept most (frameFilled fill) σ κ R I .history
+          same-link set vw m t kept most (frameFilled fill) σ κ refl R I .history
           ∙ ap (λ (b : Bool). historyOf (pick b (step set frameIn κ) κ)) f
-          ∙ sym (same-step set vw m t frameIn σ κ R I .history);
+          ∙ sym (same-step set vw m t frameIn σ κ refl R I .history);
       stays = λ fill f.
-          same-link set vw m t kept most (frameStays fill) σ κ R I .history
+          same-link set vw m t kept most (frameStays fill) σ κ refl R I .history
           ∙ ap (λ (b : Bool). historyOf (pick b (frameCome set (free set κ) (core.staysAd (κ .frames)) κ) κ)) f
-          ∙ sym (same-link set vw m t kept most (frameStays []) σ κ R I .history);
+          ∙ sym (same-link set vw m t kept most (frameStays []) σ κ refl R I .history);
     }

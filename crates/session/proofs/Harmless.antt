@@ -78,11 +78,11 @@ module _ (set : Settings) (vw : Within set) (m : Ends) (t : Tied set m) (kept : 
   unfolding core.linkStep
   harmless = record {
     frame = λ o n q.
-        (answer-is o n q, same-link set vw m t kept most (noise o) σ κ R I .history ∙ sym (R .history), noise-stays o n q);
+        (answer-is o n q, same-link set vw m t kept most (noise o) σ κ refl R I .history ∙ sym (R .history), noise-stays o n q);
     word = λ o lent n q. (
       word-answer-is o lent n q ∙ ap (refused n) (sym (G .fop)),
       word-number (set .own) o n q lent (κ .fop),
-      same-link set vw m t kept most (wordNoise o lent) σ κ R I .history ∙ sym (R .history),
+      same-link set vw m t kept most (wordNoise o lent) σ κ refl R I .history ∙ sym (R .history),
       word-stays o lent n q,
     );
   }

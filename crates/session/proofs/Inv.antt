@@ -1,20 +1,18 @@
 -- The session's invariant, and that every event of the sender keeps it.
-use mathlib.Core.Logic.{inl}
+use mathlib.Core.Logic.{inl, inr}
 use mathlib.Core.Path.{_≡_, refl, sym, ap, _∙_}
-use mathlib.Core.Bool.{Bool, true, false, false≢true}
+use mathlib.Core.Bool.{Bool, true, false}
 use mathlib.Core.List.{List, [], _∷_, _++_, append-nil}
 use mathlib.Core.Option.{Option, none, some}
 use Prim.Native.Nat.{ℕ, _+_, _/_, _%_, _≤_, _<_}
 use native.Mathlib.Nat.{zero-add}
 use native.Mathlib.Omega.{arith}
-use lib.Dec.{leb, eqb, T}
+use lib.Dec.{T}
 use lib.ListN.{length, drop, length-append}
 use lib.Seq.{drop-drop, drop-append-seam}
-use borrow.Author.Tests.{eq-eqb, eqb-true, leb-true, le-leb}
 use Rattle.base.specs.Choice.{pick}
 use Rattle.base.specs.Modulo.{advanced}
-use Rattle.fop.specs.Limits.{largestTimeoutType}
-use Rattle.fop.specs.Units.{Fdu, Frame, Word, Own, legal, wordOctets}
+use Rattle.fop.specs.Units.{Fdu, Frame, Word, legal, wordOctets, valid}
 use Rattle.fop.specs.declared.State.{State}
 use Rattle.fop.specs.Table.{FopEvent}
 use Rattle.fop.specs.Variables.{Fop, Work, Preset, begin, setClock}
@@ -22,24 +20,26 @@ use Rattle.fop.specs.Effective.{effective}
 use Rattle.fop.specs.Machine.{fdus, fopDo}
 use Rattle.fop.specs.Events.{fopWord, fopAd, fopBd, fopTick, fopLower, fopDirective, directiveEvent, fopReceived, isEmpty, SenderEvent, requestAd}
 use Rattle.fop.specs.declared.Lower.{Lower}
-use Rattle.fop.specs.Events.{requestBd, lower, directive, wordArrives, work, lowerEvent, seen}
-use Rattle.fop.specs.Answers.{judged, senderRefusal, needed}
+use Rattle.fop.specs.Events.{requestBd, lower, directive, wordArrives, work, lowerEvent, isReject, seen}
+use Rattle.fop.specs.Answers.{judged}
 use Rattle.farm.specs.declared.State.{State as FarmState}
 use Rattle.farm.specs.declared.State.the-variants.{Open, Wait, Lockout}
 use Rattle.farm.specs.declared.Variables.{Variables}
-use Rattle.fop.specs.Events.{first}
 use Rattle.session.specs.Ends.{Settings, Within}
 use Rattle.session.specs.Session.{places}
 use Rattle.session.specs.Stronger.{Sub}
+use Rattle.session.specs.Suspension.{admits}
 use Rattle.fop.specs.Events as fop
-use Rattle.session.proofs.Choices.{by-pick, unrefused}
-use Rattle.session.proofs.Test.{lowered, tick-ways, never-suspends}
+use Rattle.fop.proofs.Choices.{by-pick, unrefused}
+use Rattle.fop.proofs.Test.{lowered, tick-ways}
+pub use Rattle.session.proofs.Fit.{fit, goes-is}
+use Rattle.session.proofs.Idle.{Idle, Stays, ad-still, bd-still, tick-still, lower-still, session-still, received-still}
 use Rattle.session.proofs.Suspended.{unsuspended}
 use Rattle.session.proofs.Core.{Session, addAll, firstOf, answered, sender, goes, channels, wordCome}
 use Rattle.session.proofs.Lists.{iota, iota-append, length-iota}
 use Rattle.session.proofs.Chan.{Wds, wds-le, wds-lower}
 use Rattle.session.proofs.Values.{Bounds, Base, Live, Dead, Mode, live, dead, bad, Given, word, unit, nothing, Reports, WaitOk, WI, run-places}
-use Rattle.session.proofs.Rows.{modeOf, sound, rowAny, Tested, any, Passes, passes, do-stays, do-sound, do-unsuspended, word-ok, timer-ok, ad-ok, bd-ok, lower-ok, terminate-ok}
+use Rattle.session.proofs.Rows.{modeOf, sound, rowAny, Tested, any, Passes, passes, do-sound, do-unsuspended, word-ok, timer-ok, suspending-ok, ad-ok, bd-ok, lower-ok, terminate-ok, resume-ok}
 use Rattle.session.proofs.Sender.{do-keeps, WInv}
 use Rattle.session.proofs.Octets.{word-back}
 use Rattle.session.proofs.Bds.{bdsOf, bd-handed}
@@ -71,11 +71,10 @@ pub record Rcv (set : Settings) (v : Variables) (A D : ℕ) : Type 0 where
   pub noLock : v .lockout ≡ false
   pub counted : v .counter ≡ (set .counter + D) % 4
 
--- Suspend_State is 0 but in Initial. For now it "stays 0", with Timeout_Type within its limit.
+-- Suspend_State is 0 but in Initial, and at Timeout_Type 0 always
 pub record Suspension (set : Settings) (state : State) (suspendState : ℕ) : Type 0 where
   pub outside : T (unsuspended state suspendState)
-  pub serving : suspendState ≡ 0
-  pub type-most : set .timeoutType ≤ largestTimeoutType
+  pub alerting : set .timeoutType ≡ 0 → suspendState ≡ 0
 
 -- the invariant; it knows nothing of buffers
 pub record Inv (set : Settings) (σ : Session) : Type 0 where
@@ -205,6 +204,14 @@ answered-keeps set σ ws given a w I ss g h ww =
 pub in-mode : (set : Settings) (σ : Session) → Inv set σ → T (sound (modeOf (effective (σ .fop))))
 in-mode set σ I = is-sound (modeOf (effective (σ .fop))) (set .n) _ _ _ _ _ _ (I .side)
 
+-- at Timeout_Type 0 the work on an event does not suspend
+abbrev Alerts : Settings → Work → Type 0
+Alerts set w = set .timeoutType ≡ 0 → w .fop .suspendState ≡ 0
+
+-- a sender of the session at Timeout_Type 0 (Idle)
+idle-at : (set : Settings) (σ : Session) → Inv set σ → set .timeoutType ≡ 0 → Idle (σ .fop)
+idle-at set σ I z = record { notSuspended = I .suspension .alerting z; alerting = ap (λ (p : Preset). p .timeoutType) (I .isSet) ∙ z }
+
 -- a row that passes the test does so for the sender, and keeps what is known of Suspend_State
 module _ (set : Settings) (σ : Session) (I : Inv set σ) (given : Given) (e : FopEvent) (t : Tested given e (σ .fop .suspendState)) where
   pub row-passes : Passes given e (σ .fop)
@@ -213,12 +220,9 @@ module _ (set : Settings) (σ : Session) (I : Inv set σ) (given : Given) (e : F
   pub row-sound : (o : List ℕ) (v : ℕ) → T (sound (modeOf (effective ((fopDo e o v (σ .fop)) .fop))))
   row-sound o v = do-sound given e o v (σ .fop) row-passes (in-mode set σ I)
 
-  row-suspension : (o : List ℕ) (v : ℕ) → Suspension set ((fopDo e o v (σ .fop)) .fop .state) ((fopDo e o v (σ .fop)) .fop .suspendState)
-  row-suspension o v = record {
-    outside = do-unsuspended given e o v (σ .fop) row-passes (I .suspension .outside);
-    serving = do-stays given e (σ .fop) t (in-mode set σ I) (I .suspension .serving) o v;
-    type-most = I .suspension .type-most;
-  }
+  row-suspension : (o : List ℕ) (v : ℕ) → Alerts set (fopDo e o v (σ .fop))
+      → Suspension set ((fopDo e o v (σ .fop)) .fop .state) ((fopDo e o v (σ .fop)) .fop .suspendState)
+  row-suspension o v z = record { outside = do-unsuspended given e o v (σ .fop) row-passes (I .suspension .outside); alerting = z }
 
 -- the work on an event, as it begins and after its row; a is what the word in hand reports, or the count confirmed
 module _ (set : Settings) (σ : Session) (I : Inv set σ) (given : Given) (a : ℕ) (o : List ℕ) (v : ℕ) (l : length (σ .confirmed) ≤ a)
@@ -239,9 +243,9 @@ module _ (set : Settings) (σ : Session) (I : Inv set σ) (given : Given) (a : �
 -- a row of the table keeps the invariant
 row-keeps : (set : Settings) (σ : Session) (ws : List Word) (given : Given) (a : ℕ) (e : FopEvent) (o : List ℕ) (v : ℕ) → Inv set σ
     → Tested given e (σ .fop .suspendState) → length (σ .confirmed) ≤ a → Reports given (set .n) a (length (σ .accepted)) v o → Wds (set .n) a (length (σ .accepted)) ws
-    → Inv set (answered (set .n) (fopDo e o v (σ .fop)) (channels (σ .frames) ws σ))
-row-keeps set σ ws given a e o v I t l rp ww =
-    answered-keeps set σ ws given a (fopDo e o v (σ .fop)) I (row-suspension set σ I given e t o v) (row-sound set σ I given e t o v)
+    → Alerts set (fopDo e o v (σ .fop)) → Inv set (answered (set .n) (fopDo e o v (σ .fop)) (channels (σ .frames) ws σ))
+row-keeps set σ ws given a e o v I t l rp ww z =
+    answered-keeps set σ ws given a (fopDo e o v (σ .fop)) I (row-suspension set σ I given e t o v z) (row-sound set σ I given e t o v)
     (row-does set σ I given a o v l rp e t) ww
 
 -- no more is confirmed than what is reported
@@ -287,46 +291,21 @@ words-are set σ ws I h =
 
 -- a row that no word brings
 plain-keeps : (set : Settings) (σ : Session) (given : Given) (e : FopEvent) (o : List ℕ) (v : ℕ) → Inv set σ → Tested given e (σ .fop .suspendState)
-    → Reports given (set .n) (length (σ .confirmed)) (length (σ .accepted)) v o
+    → Reports given (set .n) (length (σ .confirmed)) (length (σ .accepted)) v o → (Idle (σ .fop) → Stays (fopDo e o v (σ .fop)))
     → Inv set (answered (set .n) (fopDo e o v (σ .fop)) σ)
 unfolding channels
-plain-keeps set σ given e o v I t r = row-keeps set σ (σ .words) given (length (σ .confirmed)) e o v I t (omega arith) r (I .words)
-
--- Timeout_Type is 0
-pub alerting : (set : Settings) (σ : Session) → Inv set σ → eqb (σ .fop .preset .timeoutType) 0 ≡ true
-alerting set σ I = eq-eqb (σ .fop .preset .timeoutType) 0 (omega (arith, ap (λ (p : Preset). p .timeoutType) (I .isSet), I .suspension .type-most))
+plain-keeps set σ given e o v I t r s =
+    row-keeps set σ (σ .words) given (length (σ .confirmed)) e o v I t (omega arith) r (I .words) (λ z. s (idle-at set σ I z) .0 .notSuspended)
 
 tick-keeps : (set : Settings) (σ : Session) → Inv set σ → Inv set (answered (set .n) (fopTick (σ .fop)) σ)
 unfolding answered channels
 tick-keeps set σ I =
     let τ : Session = withFop (lowered (σ .fop)) σ in
     let J : Inv set τ = timed set _ _ σ I in
-    tick-ways (rowAny nothing) timer-ok (λ w. Inv set (answered (set .n) w σ)) (σ .fop) (never-suspends (σ .fop) (alerting set σ I))
-    (λ e t. row-keeps set τ (σ .words) nothing (length (σ .confirmed)) e [] 0 J (any nothing e t) (omega arith) tt (I .words))
-    (answered-keeps set τ (σ .words) nothing (length (σ .confirmed)) (begin none [] 0 (τ .fop)) J (J .suspension) (in-mode set σ I)
-    (row-begins set σ I nothing (length (σ .confirmed)) [] 0 (omega arith) tt none) (I .words))
-
--- an event that goes through was judged fit, and had its room
-judge : (j need lent : ℕ) → eqb (pick (eqb j 0) (pick (leb need lent) 0 11) j) 0 ≡ true → (j ≡ 0) × (need ≤ lent)
-judge j need lent = first (eqb j 0) refl
-  where
-    second : (b : Bool) → leb need lent ≡ b → eqb j 0 ≡ true → eqb (pick b 0 11) 0 ≡ true → (j ≡ 0) × (need ≤ lent)
-    second true e z t = (eqb-true j 0 z, leb-true need lent e)
-    second false e z t = absurd (false≢true t)
-
-    first : (b : Bool) → eqb j 0 ≡ b → eqb (pick b (pick (leb need lent) 0 11) j) 0 ≡ true → (j ≡ 0) × (need ≤ lent)
-    first true z t = second (leb need lent) refl z t
-    first false z t = absurd (false≢true (sym z ∙ t))
-
--- so a sender's event that goes through
-pub fit : (own : Own) (e : SenderEvent) (lent : ℕ) (f : Fop) → goes own e lent f ≡ true → (judged own e ≡ 0) × (needed own e f ≤ lent)
-unfolding senderRefusal
-fit own e lent f t = judge (judged own e) (needed own e f) lent t
-
--- and the other way
-pub goes-is : (own : Own) (e : SenderEvent) (lent : ℕ) (f : Fop) → judged own e ≡ 0 → needed own e f ≤ lent → goes own e lent f ≡ true
-unfolding senderRefusal
-goes-is own e lent f j l = rw (j, le-leb (needed own e f) lent l)
+    tick-ways (rowAny nothing) timer-ok (λ w. Alerts set w → Inv set (answered (set .n) w σ)) (σ .fop) (λ b. suspending-ok)
+    (λ e t z. row-keeps set τ (σ .words) nothing (length (σ .confirmed)) e [] 0 J (any nothing e t) (omega arith) tt (I .words) z)
+    (λ z. answered-keeps set τ (σ .words) nothing (length (σ .confirmed)) (begin none [] 0 (τ .fop)) J (J .suspension) (in-mode set σ I)
+    (row-begins set σ I nothing (length (σ .confirmed)) [] 0 (omega arith) tt none) (I .words)) (λ z. tick-still (σ .fop) (idle-at set σ I z) .0 .notSuspended)
 
 -- a request that is not refused by 10 is legal
 pub legal-of : (o : List ℕ) → _≡_ {A = ℕ} (pick (legal o) 0 10) 0 → legal o ≡ true
@@ -341,15 +320,16 @@ sender-keeps set e lent σ I h =
 
 pub ad-keeps : (set : Settings) (lent : ℕ) (o : List ℕ) (σ : Session) → Inv set σ → Inv set (sender set (requestAd o) lent σ)
 unfolding fopAd judged work
-ad-keeps set lent o σ I = sender-keeps set (requestAd o) lent σ I (λ j. plain-keeps set σ unit _ o 0 I (any unit _ (ad-ok (isEmpty (σ .fop .queues .waitQueue)))) (legal-of o j))
+ad-keeps set lent o σ I = sender-keeps set (requestAd o) lent σ I (λ j. plain-keeps set σ unit _ o 0 I (any unit _ (ad-ok (isEmpty (σ .fop .queues .waitQueue)))) (legal-of o j) (ad-still o (σ .fop)))
 
 pub bd-keeps : (set : Settings) (lent : ℕ) (o : List ℕ) (σ : Session) → Inv set σ → Inv set (sender set (requestBd o) lent σ)
 unfolding fopBd judged work
-bd-keeps set lent o σ I = sender-keeps set (requestBd o) lent σ I (λ j. plain-keeps set σ unit _ o 0 I (any unit _ (bd-ok (σ .fop .out .bd))) (legal-of o j))
+bd-keeps set lent o σ I = sender-keeps set (requestBd o) lent σ I (λ j. plain-keeps set σ unit _ o 0 I (any unit _ (bd-ok (σ .fop .out .bd))) (legal-of o j) (bd-still o (σ .fop)))
 
-pub lower-keeps : (set : Settings) (lent : ℕ) (l : Lower) (σ : Session) → Inv set σ → Inv set (sender set (lower l) lent σ)
+pub lower-keeps : (set : Settings) (lent : ℕ) (l : Lower) (σ : Session) → admits (isReject l) (σ .fop) ≡ true → Inv set σ → Inv set (sender set (lower l) lent σ)
 unfolding fopLower work
-lower-keeps set lent l σ I = sender-keeps set (lower l) lent σ I (λ j. plain-keeps set σ nothing (lowerEvent l) [] 0 I (lower-ok l, inl (I .suspension .serving)) tt)
+lower-keeps set lent l σ a I =
+    sender-keeps set (lower l) lent σ I (λ j. plain-keeps set σ nothing (lowerEvent l) [] 0 I (lower-ok l (σ .fop) a) tt (lower-still l (σ .fop)))
 
 pub ticks-keeps : (set : Settings) (lent : ℕ) (σ : Session) → Inv set σ → Inv set (sender set fop.tick lent σ)
 unfolding work
@@ -357,7 +337,16 @@ ticks-keeps set lent σ I = sender-keeps set fop.tick lent σ I (λ j. tick-keep
 
 pub terminate-keeps : (set : Settings) (v lent : ℕ) (σ : Session) → Inv set σ → Inv set (sender set (directive 5 v) lent σ)
 unfolding fopDirective directiveEvent work
-terminate-keeps set v lent σ I = sender-keeps set (directive 5 v) lent σ I (λ j. plain-keeps set σ nothing FopEvent.E29 [] v I (any nothing FopEvent.E29 terminate-ok) tt)
+terminate-keeps set v lent σ I =
+    sender-keeps set (directive 5 v) lent σ I
+    (λ j. plain-keeps set σ nothing FopEvent.E29 [] v I (any nothing FopEvent.E29 terminate-ok) tt (session-still 5 v (σ .fop) (inl refl)))
+
+pub resume-keeps : (set : Settings) (v lent : ℕ) (σ : Session) → Inv set σ → Inv set (sender set (directive 6 v) lent σ)
+unfolding fopDirective work
+resume-keeps set v lent σ I =
+    sender-keeps set (directive 6 v) lent σ I
+    (λ j. plain-keeps set σ nothing (directiveEvent 6 v (σ .fop)) [] v I (resume-ok v (σ .fop) (in-mode set σ I) (I .suspension .outside)) tt
+    (session-still 6 v (σ .fop) (inr refl)))
 
 -- a word under way is read as it was reported
 pub word-read : (set : Settings) → Within set → (w : Word) (f : Fop) → w .counter ≤ 3 → w .nr < 256
@@ -373,9 +362,10 @@ fine set vw w c b = rw (word-back (set .own) (vw .spacecraft) (vw .channel) w c 
 pub word-keeps : (set : Settings) → Within set → (lent : ℕ) (σ : Session) (l : List Word) → Inv set σ
     → Wds (set .n) (length (σ .confirmed)) (length (σ .accepted)) l
     → Inv set (wordCome set lent l σ)
-unfolding wordCome fopWord channels
+unfolding wordCome fopReceived fopWord channels
 word-keeps set vw lent σ [] I h = I
 word-keeps set vw lent σ (w ∷ ws) I h =
     sender-keeps set _ lent (channels (σ .frames) ws σ) (words-are set σ ws I (wds-lower (set .n) (h .0) _ _ ws (h .2) (h .4)))
     (λ j. rw (word-read set vw w (σ .fop) (h .3) (omega (arith, h .1)))
-    (row-keeps set σ ws word (h .0) _ [] (w .nr) I (any word _ (word-ok (seen w (σ .fop)))) (h .2) (h .1, wds-le (set .n) (h .0) _ ws (h .4)) (h .4)))
+    (row-keeps set σ ws word (h .0) _ [] (w .nr) I (any word _ (word-ok (seen w (σ .fop)))) (h .2) (h .1, wds-le (set .n) (h .0) _ ws (h .4)) (h .4)
+    (λ z. received-still (valid w) (σ .fop) (idle-at set σ I z) .0 .notSuspended)))

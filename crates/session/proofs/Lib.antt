@@ -1,6 +1,3 @@
-pub mod Choices
-pub mod Ways
-pub mod Test
 pub mod Suspended
 pub mod Core
 pub mod Lists
@@ -11,6 +8,8 @@ pub mod Rows
 pub mod Sender
 pub mod Bds
 pub mod Octets
+pub mod Fit
+pub mod Idle
 pub mod Inv
 pub mod Receiver
 pub mod Buffers
@@ -39,7 +38,6 @@ pub mod Split
 pub mod Refusals
 pub mod Answered
 pub mod Strong
-pub mod Idle
 pub mod Once
 pub mod Channels
 pub mod Noise
@@ -53,6 +51,8 @@ pub mod Premises
 pub mod Refuted
 pub mod Pass
 pub mod Beyond
+pub mod Alerting
+pub mod Resumed
 pub mod Renumbered
 pub mod Recorder
 pub mod Repeating

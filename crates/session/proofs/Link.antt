@@ -1,4 +1,5 @@
 -- The session of tied ends, octets and all, is that of the table machines.
+use mathlib.Core.Logic.{inl, inr}
 use mathlib.Core.Path.{_≡_, refl, sym, ap, _∙_, subst}
 use mathlib.Core.Bool.{Bool, true, false}
 use mathlib.Core.List.{List, [], _∷_, _++_, map, append-nil, map-append}
@@ -26,11 +27,12 @@ use Rattle.session.specs.Receiver as rcv
 use Rattle.session.specs.Receiver.{frameArrives, releaseBuffer, ReceiverAnswer, receiverNext, releaseAnswer, receiverAnswer, wordLength, receiverWord}
 use Rattle.session.specs.Frames.{read}
 use Rattle.session.specs.Ends.{Settings, Within, Ends, Brought, Tied, tables, startReceiver}
-use Rattle.session.specs.Session.{Linked, History, Event, adRequest, bdRequest, ticks, lowerSays, terminate, wordIn, wordLost, wordMade, frameIn, frameLost, release}
+use Rattle.session.specs.Session.{Linked, History, Event, adRequest, bdRequest, ticks, lowerSays, terminate, resume, wordIn, wordLost, wordMade, frameIn, frameLost, release}
 use Rattle.session.specs.Session.{begins, toSender, afterSender, afterFrame, afterRelease, enters, sentAfter, sentBdAfter, locks}
 use Rattle.session.specs.Session.{addSent, addBd, rest}
 use Rattle.fop.specs.Events as fop
 use Rattle.session.specs.Session as ses
+use Rattle.session.specs.Suspension.{admits, rejects}
 use Rattle.session.proofs.Core as core
 use Rattle.session.proofs.Received.{Readable, receiverOf, received-is, part-is, released-is, answerBy, accepted-is, acceptedBd-is, used-is}
 use Rattle.session.proofs.Buffers.{Stocked, stock-keeps, start-stock}
@@ -321,27 +323,29 @@ module _ (set : Settings) (vw : Within set) where
         ∙ word-told (wordOf (receiverOf set (used κ) (κ .farm))) lent (vw .channel) (omega (arith, I .receiver .counted))
 
     -- every event
-    pub same-step : (e : Event) (σ : Linked m) (κ : Session) → Rel σ κ → Inv set κ → Rel (ses.step set m e σ) (core.step set e κ)
+    pub same-step : (e : Event) (σ : Linked m) (κ : Session) → admits (rejects e) (κ .fop) ≡ true → Rel σ κ → Inv set κ
+        → Rel (ses.step set m e σ) (core.step set e κ)
     unfolding ses.step core.step core.stepWith receiverNext receiverAnswer
-    same-step (adRequest o lent) σ κ R I = plain σ κ (requestAd o) tt lent R (step-keeps set vw (adRequest o lent) κ I)
-    same-step (bdRequest o lent) σ κ R I = plain σ κ (requestBd o) tt lent R (step-keeps set vw (bdRequest o lent) κ I)
-    same-step (ticks lent) σ κ R I = plain σ κ fop.tick tt lent R (step-keeps set vw (ticks lent) κ I)
-    same-step (lowerSays l lent) σ κ R I = plain σ κ (fop.lower l) tt lent R (step-keeps set vw (lowerSays l lent) κ I)
-    same-step (terminate v lent) σ κ R I = plain σ κ (directive 5 v) refl lent R (step-keeps set vw (terminate v lent) κ I)
-    same-step (wordIn lent) σ κ R I =
+    same-step (adRequest o lent) σ κ a R I = plain σ κ (requestAd o) tt lent R (step-keeps set vw (adRequest o lent) κ a I)
+    same-step (bdRequest o lent) σ κ a R I = plain σ κ (requestBd o) tt lent R (step-keeps set vw (bdRequest o lent) κ a I)
+    same-step (ticks lent) σ κ a R I = plain σ κ fop.tick tt lent R (step-keeps set vw (ticks lent) κ a I)
+    same-step (lowerSays l lent) σ κ a R I = plain σ κ (fop.lower l) tt lent R (step-keeps set vw (lowerSays l lent) κ a I)
+    same-step (terminate v lent) σ κ a R I = plain σ κ (directive 5 v) (inl refl) lent R (step-keeps set vw (terminate v lent) κ a I)
+    same-step (resume v lent) σ κ a R I = plain σ κ (directive 6 v) (inr refl) lent R (step-keeps set vw (resume v lent) κ a I)
+    same-step (wordIn lent) σ κ a R I =
         subst (λ (l : List (List ℕ)). Rel (ses.wordCome set m lent l σ) (core.wordCome set lent (κ .words) κ)) (sym (R .words))
-        (word-in σ κ lent (κ .words) R (step-keeps set vw (wordIn lent) κ I))
-    same-step wordLost σ κ R I =
+        (word-in σ κ lent (κ .words) R (step-keeps set vw (wordIn lent) κ a I))
+    same-step wordLost σ κ a R I =
         relink σ κ (κ .frames) (rest (κ .words)) (σ .frames) (rest (σ .words)) R (R .frames) (ap rest (R .words) ∙ map-rest (wordOctets (set .own)) (κ .words))
-    same-step (wordMade lent) σ κ R I =
+    same-step (wordMade lent) σ κ a R I =
         relink σ κ (κ .frames) _ (σ .frames) _ R (R .frames)
         (rw (R .words, word-is σ κ R I lent) (word-enters (leb wordLength lent) (core.report (κ .farm)) (κ .words)))
-    same-step frameIn σ κ R I =
+    same-step frameIn σ κ a R I =
         subst (λ (l : List (List ℕ)). Rel (ses.frameCome set m l σ) (core.frameCome set (free set κ) (κ .frames) κ)) (sym (R .frames))
         (got σ κ (κ .frames) R I (I .base .fly) (stock-keeps set vw frameIn κ I (R .stock)))
-    same-step frameLost σ κ R I =
+    same-step frameLost σ κ a R I =
         relink σ κ (rest (κ .frames)) (κ .words) (rest (σ .frames)) (σ .words) R (ap rest (R .frames) ∙ map-rest (written (set .own)) (κ .frames)) (R .words)
-    same-step release σ κ R I =
+    same-step release σ κ a R I =
         gave (isHeld κ) σ κ R (stock-keeps set vw release κ I (R .stock))
         (t .nextReceiver releaseBuffer (σ .receiver) (R .goodReceiver) ∙ ap (λ (f : Receiver). receiverNext releaseBuffer f) (R .farm)
         ∙ ap (λ (y : Released). rcv.afterRelease y (receiverOf set (used κ) (κ .farm))) (released-is set vw (used κ) (κ .farm)))

@@ -1,13 +1,14 @@
 -- The session of tied ends over channels that repeat and noise, octets and all, is Core's over the same events (Channels); and what holds of
 -- Core's session after every list of them holds of both.
 use mathlib.Core.Path.{_≡_, refl, sym, ap, _∙_, subst}
-use mathlib.Core.Bool.{Bool, true, false}
+use mathlib.Core.Bool.{Bool, true, false, _&&_}
 use mathlib.Core.List.{List, [], _∷_, _++_, map, map-append}
 use mathlib.Core.Option.{none, some}
 use Prim.Native.Nat.{ℕ, _/_, _≤_}
 use lib.ListN.{getD}
 use Rattle.base.specs.Choice.{pick}
 use Rattle.fop.specs.Units.{Fdu, Frame, AD, BD, Unlock, SetVR, Refused, WordReceived, valid, invalid, other, written, wordOctets, readWord}
+use Rattle.fop.specs.Variables.{Fop}
 use Rattle.fop.specs.Events.{wordArrives}
 use Rattle.receiver.specs.declared.Receiver.{Receiver}
 use Rattle.session.specs.Frames.{read}
@@ -17,6 +18,8 @@ use Rattle.session.specs.Session.{Event, Linked, History, frameIn, begin
 use Rattle.session.specs.Session as ses
 use Rattle.session.specs.Channels.{LinkEvent, demanded, frameStays, wordStays, frameFilled, frameAgain, noise, wordNoise, isAd, isRefused, isRefusedWord, stays, isFill, withFill, arriving, isKept}
 use Rattle.session.specs.Channels as spec
+use Rattle.session.specs.Suspension.{admits, rejects, linkRejects, unrejected, linkUnrejected}
+use Rattle.fop.proofs.Choices.{and-both}
 use Rattle.session.proofs.Core as core
 use Rattle.session.proofs.Core.{Session, used, free}
 use Rattle.session.proofs.Received.{receiverOf}
@@ -114,11 +117,11 @@ module _ (set : Settings) (vw : Within set) where
 
     module _ (kept : ℕ) (most : kept ≤ set .w / 2) where
       -- every event
-      pub same-link : (e : LinkEvent) (σ : Linked m) (κ : Session) → Rel set vw m t σ κ → Inv set κ
+      pub same-link : (e : LinkEvent) (σ : Linked m) (κ : Session) → admits (linkRejects e) (κ .fop) ≡ true → Rel set vw m t σ κ → Inv set κ
           → Rel set vw m t (spec.linkStep set kept m e σ) (linkStep set kept e κ)
       unfolding spec.linkStep linkStep ses.step
-      same-link (demanded e) σ κ R I = same-step set vw m t e σ κ R I
-      same-link (frameStays fill) σ κ R I =
+      same-link (demanded e) σ κ a R I = same-step set vw m t e σ κ a R I
+      same-link (frameStays fill) σ κ a R I =
           let all : Reads (κ .frames) = fly-reads (set .n) _ (κ .sent) (I .base .num) _ _ (κ .frames) (I .base .fly) in
           let l = ap (spec.staysAd (set .own)) (R .frames) ∙ map-stays-ad (κ .frames) all in
           let τ = core.frameCome set (free set κ) (staysAd (κ .frames)) κ in
@@ -126,21 +129,21 @@ module _ (set : Settings) (vw : Within set) where
           (filled-in set vw m t σ κ τ fill (staysAd (κ .frames)) (reads-stay (κ .frames) all) R
           (got set vw m t σ κ (staysAd (κ .frames)) R I (stays-under-way set vw κ I)
           (frame-stock set vw κ (staysAd (κ .frames)) I (stays-under-way set vw κ I) (R .stock))))
-      same-link (wordStays lent) σ κ R I =
+      same-link (wordStays lent) σ κ a R I =
           let l = ap stays (R .words) ∙ map-stays (wordOctets (set .own)) (κ .words) in
           subst (λ (ws : List (List ℕ)). Rel set vw m t (ses.wordCome set m lent ws σ) (core.wordCome set lent (stays (κ .words)) κ)) (sym l)
-          (word-in set vw m t σ κ lent (stays (κ .words)) R (link-keeps set vw kept most (wordStays lent) κ I))
-      same-link (frameFilled fill) σ κ R I =
+          (word-in set vw m t σ κ lent (stays (κ .words)) R (link-keeps set vw kept most (wordStays lent) κ a I))
+      same-link (frameFilled fill) σ κ a R I =
           let rd : Reads (κ .frames) = fly-reads (set .n) _ (κ .sent) (I .base .num) _ _ (κ .frames) (I .base .fly) in
           let S = subst (λ (fs : List (List ℕ)). Rel set vw m t (ses.frameCome set m fs σ) (core.step set frameIn κ)) (R .frames)
-          (same-step set vw m t frameIn σ κ R I) in
+          (same-step set vw m t frameIn σ κ a R I) in
           subst (λ (fs : List (List ℕ)). Rel set vw m t (ses.frameCome set m (withFill fill fs) σ) (pick (isFill fill) (core.step set frameIn κ) κ)) (sym (R .frames))
           (filled-in set vw m t σ κ (core.step set frameIn κ) fill (κ .frames) rd R S)
-      same-link (frameAgain i) σ κ R I =
+      same-link (frameAgain i) σ κ a R I =
           relink set vw m t σ κ (addAgain kept (κ .sent) i (κ .frames)) (κ .words) _ (σ .words) R
           (rw (R .frames, R .history) (map-again (isKept kept (κ .sent) i) (getD (κ .sent) i noUnit) (κ .frames))) (R .words)
-      same-link (noise o) σ κ R I = noise-arrives (isRefused (read (set .own) o)) σ κ o R refl
-      same-link (wordNoise o lent) σ κ R I = word-noise-arrives (readWord (set .own) o) σ κ o lent R I refl
+      same-link (noise o) σ κ a R I = noise-arrives (isRefused (read (set .own) o)) σ κ o R refl
+      same-link (wordNoise o lent) σ κ a R I = word-noise-arrives (readWord (set .own) o) σ κ o lent R I refl
 
 -- the two sessions after a list of events, both seen as one, with whatever X else every event keeps
 module _ (set : Settings) (vw : Within set) (m : Ends) (t : Tied set m) (kept : ℕ) (most : kept ≤ set .w / 2) where
@@ -152,25 +155,31 @@ module _ (set : Settings) (vw : Within set) (m : Ends) (t : Tied set m) (kept : 
     pub inv : Inv set session
     pub also : X session
 
-  pub same-run : (X : Session → Type 0) → ((e : LinkEvent) (κ : Session) → Inv set κ → X κ → X (linkStep set kept e κ))
-      → (es : List LinkEvent) (σ : Linked m) (γ : Linked (tables set)) → Same X σ γ
+  -- what every event keeps that is admitted
+  abbrev pub Keeping : (Session → Type 0) → Type 0
+  Keeping X = (e : LinkEvent) (κ : Session) → admits (linkRejects e) (κ .fop) ≡ true → Inv set κ → X κ → X (linkStep set kept e κ)
+
+  pub same-run : (X : Session → Type 0) → Keeping X → (es : List LinkEvent) (σ : Linked m) (γ : Linked (tables set))
+      → linkUnrejected set kept es γ ≡ true → Same X σ γ
       → Same X (spec.linkRun set kept m es σ) (spec.linkRun set kept (tables set) es γ)
-  unfolding spec.linkRun
-  same-run X keeps [] σ γ s = s
-  same-run X keeps (e ∷ es) σ γ s =
-      same-run X keeps es (spec.linkStep set kept m e σ) (spec.linkStep set kept (tables set) e γ) (record {
+  unfolding spec.linkRun linkUnrejected
+  same-run X keeps [] σ γ u s = s
+  same-run X keeps (e ∷ es) σ γ u s =
+      let b = and-both (admits (linkRejects e) (γ .sender)) _ u in
+      let a : admits (linkRejects e) (s .session .fop) ≡ true = subst (λ (f : Fop). admits (linkRejects e) f ≡ true) (s .ofTables .fop) (b .0) in
+      same-run X keeps es (spec.linkStep set kept m e σ) (spec.linkStep set kept (tables set) e γ) (b .1) (record {
         session = linkStep set kept e (s .session);
-        ends = same-link set vw m t kept most e σ (s .session) (s .ends) (s .inv);
-        ofTables = same-link set vw (tables set) (tables-tied set) kept most e γ (s .session) (s .ofTables) (s .inv);
-        inv = link-keeps set vw kept most e (s .session) (s .inv);
-        also = keeps e (s .session) (s .inv) (s .also);
+        ends = same-link set vw m t kept most e σ (s .session) a (s .ends) (s .inv);
+        ofTables = same-link set vw (tables set) (tables-tied set) kept most e γ (s .session) a (s .ofTables) (s .inv);
+        inv = link-keeps set vw kept most e (s .session) a (s .inv);
+        also = keeps e (s .session) a (s .inv) (s .also);
       })
 
   -- and so from the start
-  pub from-start : (X : Session → Type 0) → ((e : LinkEvent) (κ : Session) → Inv set κ → X κ → X (linkStep set kept e κ)) → X (begun set)
-      → (es : List LinkEvent) → Same X (spec.linkRun set kept m es (begins m)) (spec.linkRun set kept (tables set) es (begins (tables set)))
-  from-start X keeps x es =
-      same-run X keeps es (begins m) (begins (tables set)) (record {
+  pub from-start : (X : Session → Type 0) → Keeping X → X (begun set) → (es : List LinkEvent) → linkUnrejected set kept es (begins (tables set)) ≡ true
+      → Same X (spec.linkRun set kept m es (begins m)) (spec.linkRun set kept (tables set) es (begins (tables set)))
+  from-start X keeps x es u =
+      same-run X keeps es (begins m) (begins (tables set)) u (record {
         session = begun set;
         ends = at-start set vw m t;
         ofTables = at-start set vw (tables set) (tables-tied set);
@@ -183,6 +192,13 @@ pub run-demanded : (set : Settings) (kept : ℕ) (m : Ends) (es : List Event) (�
 unfolding spec.linkRun spec.linkStep run
 run-demanded set kept m [] σ = refl
 run-demanded set kept m (e ∷ es) σ = run-demanded set kept m es (ses.step set m e σ)
+
+-- in which no lower-layer reject comes while suspended
+pub unrejected-demanded : (set : Settings) (kept : ℕ) (es : List Event) (γ : Linked (tables set)) → linkUnrejected set kept (map demanded es) γ ≡ unrejected set es γ
+unfolding linkUnrejected unrejected spec.linkStep
+unrejected-demanded set kept [] γ = refl
+unrejected-demanded set kept (e ∷ es) γ =
+    ap (λ (b : Bool). admits (rejects e) (γ .sender) && b) (unrejected-demanded set kept es (ses.step set (tables set) e γ))
 
 -- so what holds over all events, holds over demand 3's
 pub as-demanded : (set : Settings) (m : Ends) (P : Linked m → Linked (tables set) → Type 0) (es : List Event)

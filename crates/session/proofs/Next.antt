@@ -29,7 +29,7 @@ use Rattle.session.specs.Session.{History, adRequest, ticks, lowerSays, 
 use Rattle.session.specs.Claims.{IsOutstanding, outstanding, remaining, member, nextUnit, serves, Marked}
 use Rattle.session.specs.Stronger.{inService}
 use Rattle.fop.specs.Events as fop
-use Rattle.session.proofs.Test.{lowered}
+use Rattle.fop.proofs.Test.{lowered}
 use Rattle.session.proofs.Core.{stepWith, Session, answered, channels, wordCome, sender, step}
 use Rattle.session.proofs.Lists.{nums, length-nums, left-iota, member-in, member-out}
 use Rattle.session.proofs.Chan.{Wds}
@@ -106,10 +106,14 @@ out-is set σ I f =
     let b : length (σ .sent) - (length (σ .confirmed) - 0) ≡ length (σ .sent) - length (σ .confirmed) = omega arith in
     rw f (ap (λ (l : List (Option ℕ)). remaining l [] 0 (length (σ .sent))) (I .places) ∙ left-iota (length (σ .confirmed)) 0 (length (σ .sent)) ∙ rw (a, b))
 
+-- a sender in service, or suspended there, is live
+pub live-in : (set : Settings) (σ : Session) → Inv set σ → inService (effective (σ .fop)) ≡ true
+    → Live (set .n) (length (σ .confirmed)) (σ .denied) (σ .sent) [] [] (fdus (σ .fop .queues .sentQueue)) (σ .fop .numbers .vs) (σ .fop .numbers .nnr)
+live-in set σ I e = live-of (effective (σ .fop)) (set .n) _ _ _ _ _ _ e (I .side)
+
 module _ (set : Settings) (σ : Session) (I : Inv set σ) (sv : inService (σ .fop .state) ≡ true) where
-  -- the sender is live
   pub lv : Live (set .n) (length (σ .confirmed)) (σ .denied) (σ .sent) [] [] (fdus (σ .fop .queues .sentQueue)) (σ .fop .numbers .vs) (σ .fop .numbers .nnr)
-  lv = live-of (effective (σ .fop)) (set .n) _ _ _ _ _ _ (ap inService (serves-as (σ .fop .state) (σ .fop .suspendState) sv) ∙ sv) (I .side)
+  lv = live-in set σ I (ap inService (serves-as (σ .fop .state) (σ .fop .suspendState) sv) ∙ sv)
 
   -- how many are outstanding
   pub out-count : length (outstanding (historyOf σ)) ≡ length (σ .sent) - length (σ .confirmed)

@@ -31,7 +31,7 @@ use Rattle.clcw.proofs.Back as cback
 use Rattle.session.specs.Frames.{read}
 use Rattle.session.specs.Receiver.{wordLength, WordAnswer, wordTold}
 use Rattle.session.specs.Ends.{largestCounter}
-use Rattle.session.proofs.Choices.{and-both}
+use Rattle.fop.proofs.Choices.{and-both}
 
 pub octets-are : (o : List ℕ) → areOctets o ≡ true → Octets o
 octets-are [] e = tt

@@ -1,5 +1,6 @@
 -- At a transmission limit of 1 no unit is sent twice: E101, E102 and E17 alert where the other limits resend, so nothing is ever marked, and
 -- every AD frame that an event of the session hands down carries V(S), which then advances (`work-once`).
+use mathlib.Core.Logic.{inl, inr}
 use mathlib.Core.Path.{_≡_, refl, sym, ap, _∙_, subst}
 use mathlib.Core.Bool.{Bool, true, false, not, _&&_, false≢true, true≢false}
 use mathlib.Core.List.{List, [], _∷_, _++_}
@@ -17,16 +18,17 @@ use Rattle.fop.specs.Table.{ReleaseBcFrame, CancelTimer, StartTimer, Alert, Ini
 use Rattle.fop.specs.Table.{SetVs, SetNnr, SetK, SetT1Initial, SetTransmissionLimit, SetTimeoutType, AdOutReady, BcOutReady, BdOutReady}
 use Rattle.fop.specs.Variables.{Entry, Fop, Work, begin}
 use Rattle.fop.specs.Machine.{firstMarked, unacknowledged, isAcknowledged, countFor, markBc, perform, performCell, sendNext, sendWaiting, transmitAd, lookForDirective, removeAcknowledged, fopDo}
-use Rattle.fop.specs.Events.{when, first, Seen, wordLines, wordEvent, seen, fopWord, fopAd, fopBd, expiryLines, fopExpiry, fopTick, fopLower, directiveEvent, fopDirective, fopReceived, isEmpty, SenderEvent, requestAd, requestBd, lower, directive, wordArrives, work}
+use Rattle.fop.specs.Events.{when, first, Seen, wordLines, wordEvent, seen, fopWord, fopAd, fopBd, expiryLines, fopExpiry, fopTick, fopLower, fopDirective, fopReceived, isEmpty, SenderEvent, requestAd, requestBd, lower, directive, wordArrives, work}
 use Rattle.fop.specs.Events as fop
 use Rattle.session.specs.Ends.{Settings, startSender}
-use Rattle.session.specs.Session.{Event, adRequest, bdRequest, ticks, lowerSays, terminate, wordIn, wordLost, wordMade, frameIn, frameLost, release}
+use Rattle.session.specs.Session.{Event, adRequest, bdRequest, ticks, lowerSays, terminate, resume, wordIn, wordLost, wordMade, frameIn, frameLost, release}
 use Rattle.session.specs.Stronger.{InSession}
 use Rattle.session.proofs.Receiver.{begun}
 use Rattle.session.proofs.Core.{Session, goes, sender, answered, wordCome, channels, frameCome, receiver, releases, free, isHeld, step, stepWith}
-use Rattle.session.proofs.Choices.{by-pick, none-some}
-use Rattle.session.proofs.Ways.{look-ways, purge-ways}
-use Rattle.session.proofs.Test.{everyCell, every-cell, first-all, lower-all, lowered, Keeps, allKeep, all-keep}
+use Rattle.fop.proofs.Choices.{by-pick, none-some}
+use Rattle.fop.proofs.Ways.{look-ways, purge-ways}
+use Rattle.session.proofs.Suspended.{session-all}
+use Rattle.fop.proofs.Test.{everyCell, every-cell, first-all, lower-all, lowered, Keeps, allKeep, all-keep}
 
 -- frames handed down while V(S) goes from a to b: each AD frame has the number that V(S) has then
 abbrev pub Run : ℕ → List Frame → ℕ → Type 0
@@ -211,13 +213,12 @@ received-once (other r) f h = (h, refl)
 
 -- an event of the session
 pub work-once : (own : Own) (ws : List (List ℕ)) (e : SenderEvent) (f : Fop) → InSession ws e → Once f → Stays (f .numbers .vs) (work own e f)
-unfolding work fopAd fopBd fopLower fopDirective directiveEvent table78 once
+unfolding work fopAd fopBd fopLower fopDirective table78 once
 work-once own ws (requestAd o) f i h = do-once _ o 0 f (first-all (rowOnce (f .numbers .vs)) (when (isEmpty (f .queues .waitQueue)) FopEvent.E19 ∷ []) FopEvent.E20 tt) h
 work-once own ws (requestBd o) f i h = do-once _ o 0 f (first-all (rowOnce (f .numbers .vs)) (when (f .out .bd) FopEvent.E21 ∷ []) FopEvent.E22 tt) h
 work-once own ws fop.tick f i h = tick-once f h
 work-once own ws (lower l) f i h = do-once _ [] 0 f (lower-all (rowOnce (f .numbers .vs)) tt l) h
-work-once own ws (directive d v) f i h =
-    subst (λ (x : ℕ). Stays (f .numbers .vs) (fopDirective x v f)) (sym i) (do-once FopEvent.E29 [] v f tt h)
+work-once own ws (directive d v) f i h = do-once _ [] v f (session-all (rowOnce (f .numbers .vs)) tt d v f i) h
 work-once own ws (wordArrives s) f i h = received-once (readWord own s) f h
 
 -- The session's sender at a limit of 1, at the start and after each event.
@@ -249,7 +250,8 @@ module _ (set : Settings) where
   step-once (bdRequest u lent) κ o = sender-once [] (requestBd u) lent κ tt o
   step-once (ticks lent) κ o = sender-once [] fop.tick lent κ tt o
   step-once (lowerSays l lent) κ o = sender-once [] (lower l) lent κ tt o
-  step-once (terminate v lent) κ o = sender-once [] (directive 5 v) lent κ refl o
+  step-once (terminate v lent) κ o = sender-once [] (directive 5 v) lent κ (inl refl) o
+  step-once (resume v lent) κ o = sender-once [] (directive 6 v) lent κ (inr refl) o
   step-once (wordIn lent) κ o = word-in lent (κ .words) κ o
   step-once wordLost κ o = o
   step-once (wordMade lent) κ o = o

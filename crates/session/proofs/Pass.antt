@@ -21,7 +21,9 @@ use Rattle.session.specs.Session.{Linked, Event, begins}
 use Rattle.session.specs.Session as ses
 use Rattle.session.specs.Claims.{unitsAt, nextNumber}
 use Rattle.session.specs.Beyond.{Rest, Passed, passOf, pass, numbered, allLegal}
-use Rattle.session.proofs.Choices.{and-both}
+use Rattle.session.specs.Suspension.{rejects}
+use Rattle.session.proofs.Suspended.{noneReject, none-first, admitted}
+use Rattle.fop.proofs.Choices.{and-both}
 use Rattle.session.proofs.Core.{Session, step}
 use Rattle.session.proofs.Lists.{iota, units-iota}
 use Rattle.session.proofs.Inv.{Inv}
@@ -38,19 +40,28 @@ pub pass-length : (os : List (List ℕ)) → length (pass os) ≡ 6 * length os
 pass-length [] = refl
 pass-length (o ∷ os) = omega (arith, pass-length os)
 
--- a list of events keeps the invariant, and what is known of the buffers
-pub keeps : (set : Settings) → Within set → (es : List Event) (κ : Session) → Inv set κ → Stocked set κ → Inv set (run set es κ) × Stocked set (run set es κ)
+-- in a pass there is no reject of the lower layer
+pub none-rejects : (os : List (List ℕ)) → noneReject (pass os) ≡ true
+none-rejects [] = refl
+none-rejects (o ∷ os) = none-rejects os
+
+-- a list without one keeps the invariant, and what is known of the buffers
+pub keeps : (set : Settings) → Within set → (es : List Event) (κ : Session) → noneReject es ≡ true → Inv set κ → Stocked set κ → Inv set (run set es κ) × Stocked set (run set es κ)
 unfolding run
-keeps set vw [] κ I b = (I, b)
-keeps set vw (e ∷ es) κ I b = keeps set vw es (step set e κ) (step-keeps set vw e κ I) (stock-keeps set vw e κ I b)
+keeps set vw [] κ n I b = (I, b)
+keeps set vw (e ∷ es) κ n I b =
+    let q = none-first e es n in
+    keeps set vw es (step set e κ) (q .1) (step-keeps set vw e κ (admitted (rejects e) (κ .fop) (q .0)) I) (stock-keeps set vw e κ I b)
 
 -- a session of tied ends over a list of events is a session of the table machines
 pub through : (set : Settings) (vw : Within set) (m : Ends) (t : Tied set m) (es : List Event) (σ : Linked m) (κ : Session)
-    → Rel set vw m t σ κ → Inv set κ → Rel set vw m t (ses.run set m es σ) (run set es κ)
+    → noneReject es ≡ true → Rel set vw m t σ κ → Inv set κ → Rel set vw m t (ses.run set m es σ) (run set es κ)
 unfolding ses.run run
-through set vw m t [] σ κ R I = R
-through set vw m t (e ∷ es) σ κ R I =
-    through set vw m t es (ses.step set m e σ) (step set e κ) (same-step set vw m t e σ κ R I) (step-keeps set vw e κ I)
+through set vw m t [] σ κ n R I = R
+through set vw m t (e ∷ es) σ κ n R I =
+    let q = none-first e es n in
+    let a = admitted (rejects e) (κ .fop) (q .0) in
+    through set vw m t es (ses.step set m e σ) (step set e κ) (q .1) (same-step set vw m t e σ κ a R I) (step-keeps set vw e κ a I)
 
 -- after a pass of the units os, which led from κ to τ
 record Rounds (set : Settings) (os : List (List ℕ)) (κ τ : Session) : Type 0 where
@@ -76,7 +87,7 @@ rounds set vw [] κ I b r g = record { sent = sym (append-nil (κ .sent)); accep
 rounds set vw (o ∷ os) κ I b r g =
     let l = and-both (legal o) (allLegal os) g in
     let first = round set vw κ I b r o (l .0) in
-    let k = keeps set vw (passOf o) κ I b in
+    let k = keeps set vw (passOf o) κ refl I b in
     let more = rounds set vw os (run set (passOf o) κ) (k .0) (k .1) (first .rest) (l .1) in
     let x : nextNumber set (historyOf (run set (passOf o) κ)) ≡ advanced (nextNumber set (historyOf κ)) 1 =
     ap (λ (s : List Fdu). advanced (set .n) (length s)) (first .sent) ∙ next-after (set .n) (κ .sent) _ in
@@ -145,9 +156,9 @@ pub passes : (set : Settings) (vw : Within set) (m : Ends) (t : Tied set m) (σ 
     → Passed set os σ (ses.run set m (pass os) σ) (ses.run set (tables set) (pass os) γ)
 passes set vw m t σ γ κ R G I r os g =
     let p = rounds set vw os κ I (R .stock) (resting set vw m t σ γ κ R G r) g in
-    let J = keeps set vw (pass os) κ I (R .stock) .0 in
-    let S = through set vw m t (pass os) σ κ R I in
-    let H = through set vw (tables set) (tables-tied set) (pass os) γ κ G I in
+    let J = keeps set vw (pass os) κ (none-rejects os) I (R .stock) .0 in
+    let S = through set vw m t (pass os) σ κ (none-rejects os) R I in
+    let H = through set vw (tables set) (tables-tied set) (pass os) γ κ (none-rejects os) G I in
     record {
       events = pass-length os;
       sent = rw (S .history, R .history) (p .sent);

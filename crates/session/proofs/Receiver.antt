@@ -22,16 +22,17 @@ use Rattle.farm.specs.declared.Event.the-variants.{E1, E2, E3, E4, E5, E6, E10}
 use Rattle.farm.specs.declared.Variables.{Variables}
 use Rattle.session.specs.Receiver.{wordLength}
 use Rattle.session.specs.Ends.{Settings, Within, startSender, startReceiver}
-use Rattle.session.specs.Session.{noUnit, rest, Event, adRequest, bdRequest, ticks, lowerSays, terminate, wordIn, wordLost, wordMade, frameIn, frameLost, release}
+use Rattle.session.specs.Session.{noUnit, rest, Event, adRequest, bdRequest, ticks, lowerSays, terminate, resume, wordIn, wordLost, wordMade, frameIn, frameLost, release}
 use Rattle.session.specs.Stronger.{Sub, none-left}
-use Rattle.session.proofs.Choices.{by-pick, never}
+use Rattle.session.specs.Suspension.{admits, rejects}
+use Rattle.fop.proofs.Choices.{by-pick, never}
 use Rattle.session.proofs.Core.{Session, channels, receiver, frameCome, frameEvent, isHanded, releases, taken, takenBd, report, stepWith, step, free}
 use Rattle.session.proofs.Core.{isHeld}
 use Rattle.session.proofs.Lists.{numbered-nil}
 use Rattle.session.proofs.Chan.{Fly, fly-mono, Wds, wds-lower, wds-higher, wds-add}
 use Rattle.session.proofs.Values.{refly}
 use Rattle.session.proofs.Bds.{bdsOf, bd-lost, bd-accepted}
-use Rattle.session.proofs.Inv.{Inv, Rcv, isLocked, words-are, ad-keeps, bd-keeps, lower-keeps, ticks-keeps, terminate-keeps, word-keeps}
+use Rattle.session.proofs.Inv.{Inv, Rcv, isLocked, words-are, ad-keeps, bd-keeps, lower-keeps, ticks-keeps, terminate-keeps, resume-keeps, word-keeps}
 
 -- a receiver that accepted no AD unit, with fs the frames left
 unchanged : (set : Settings) (σ : Session) (v : Variables) (b : List (List ℕ)) (fs : List Frame) (r : ℕ) → Inv set σ
@@ -249,26 +250,28 @@ reported : (set : Settings) (σ : Session) → Inv set σ → Wds (set .n) (leng
 unfolding report
 reported set σ I = wds-add (set .n) _ _ (σ .words) (report (σ .farm)) (I .receiver .isVr) (omega (arith, I .receiver .counted)) (I .words)
 
--- every event keeps the invariant, whatever it is told of the buffers
-pub stepWith-keeps : (set : Settings) → Within set → (room held : Bool) (e : Event) (σ : Session) → Inv set σ → Inv set (stepWith set room held e σ)
+-- every event that is admitted keeps the invariant, whatever it is told of the buffers
+pub stepWith-keeps : (set : Settings) → Within set → (room held : Bool) (e : Event) (σ : Session) → admits (rejects e) (σ .fop) ≡ true → Inv set σ
+    → Inv set (stepWith set room held e σ)
 unfolding stepWith releases
-stepWith-keeps set vw room held (adRequest o lent) σ I = ad-keeps set lent o σ I
-stepWith-keeps set vw room held (bdRequest o lent) σ I = bd-keeps set lent o σ I
-stepWith-keeps set vw room held (ticks lent) σ I = ticks-keeps set lent σ I
-stepWith-keeps set vw room held (lowerSays l lent) σ I = lower-keeps set lent l σ I
-stepWith-keeps set vw room held (terminate v lent) σ I = terminate-keeps set v lent σ I
-stepWith-keeps set vw room held (wordIn lent) σ I = word-keeps set vw lent σ (σ .words) I (I .words)
-stepWith-keeps set vw room held wordLost σ I = words-are set σ (rest (σ .words)) I (rest-words (set .n) _ _ (σ .words) (I .words))
-stepWith-keeps set vw room held (wordMade lent) σ I =
+stepWith-keeps set vw room held (adRequest o lent) σ a I = ad-keeps set lent o σ I
+stepWith-keeps set vw room held (bdRequest o lent) σ a I = bd-keeps set lent o σ I
+stepWith-keeps set vw room held (ticks lent) σ a I = ticks-keeps set lent σ I
+stepWith-keeps set vw room held (lowerSays l lent) σ a I = lower-keeps set lent l σ a I
+stepWith-keeps set vw room held (terminate v lent) σ a I = terminate-keeps set v lent σ I
+stepWith-keeps set vw room held (resume v lent) σ a I = resume-keeps set v lent σ I
+stepWith-keeps set vw room held (wordIn lent) σ a I = word-keeps set vw lent σ (σ .words) I (I .words)
+stepWith-keeps set vw room held wordLost σ a I = words-are set σ (rest (σ .words)) I (rest-words (set .n) _ _ (σ .words) (I .words))
+stepWith-keeps set vw room held (wordMade lent) σ a I =
     words-are set σ _ I (by-pick (Wds (set .n) _ _) (leb wordLength lent) (λ t. reported set σ I) (λ t. I .words))
-stepWith-keeps set vw room held frameIn σ I = frame-keeps set vw σ room (σ .frames) I (I .base .fly) (I .bd)
-stepWith-keeps set vw room held frameLost σ I = lost-keeps set σ I
-stepWith-keeps set vw room held release σ I =
+stepWith-keeps set vw room held frameIn σ a I = frame-keeps set vw σ room (σ .frames) I (I .base .fly) (I .bd)
+stepWith-keeps set vw room held frameLost σ a I = lost-keeps set σ I
+stepWith-keeps set vw room held release σ a I =
     by-pick (Inv set) held (λ t. release-cell set σ I (σ .farm .state) (I .receiver .unlocked)) (λ t. I)
 
-pub step-keeps : (set : Settings) → Within set → (e : Event) (σ : Session) → Inv set σ → Inv set (step set e σ)
+pub step-keeps : (set : Settings) → Within set → (e : Event) (σ : Session) → admits (rejects e) (σ .fop) ≡ true → Inv set σ → Inv set (step set e σ)
 unfolding step
-step-keeps set vw e σ I = stepWith-keeps set vw (free set σ) (isHeld σ) e σ I
+step-keeps set vw e σ a I = stepWith-keeps set vw (free set σ) (isHeld σ) e σ a I
 
 -- the start
 abbrev pub begun : Settings → Session
@@ -301,7 +304,7 @@ start-inv set vw =
         fly = tt;
       };
       side = record { cut = refl; undenied = refl; fresh = refl; isVs = omega (arith, vw .number); isNn = omega (arith, vw .number) };
-      suspension = record { outside = tt; serving = refl; type-most = vw .timeoutMost };
+      suspension = record { outside = tt; alerting = λ z. refl };
       isSet = refl;
       waiting = tt;
       places = refl;

@@ -12,7 +12,7 @@ use Rattle.fop.specs.Variables.{Fop}
 use Rattle.fop.specs.Events.{SenderEvent}
 use Rattle.fop.specs.Answers.{Answer, senderRefusal, senderAnswer, senderNext}
 use Rattle.session.specs.Stronger.{RefusedKeeps}
-use Rattle.session.proofs.Choices.{by-pick}
+use Rattle.fop.proofs.Choices.{by-pick}
 use Rattle.session.proofs.Receiver.{at}
 use Rattle.base.specs.Choice.{must}
 use Rattle.frame.specs.Answers.{readingOf}

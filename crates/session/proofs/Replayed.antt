@@ -4,7 +4,6 @@
 use mathlib.Core.Path.{_≡_, refl, ap, sym, _∙_}
 use mathlib.Core.Bool.{Bool, true, true≢false}
 use mathlib.Core.List.{List, [], _∷_, _++_, map}
-use mathlib.Core.Option.{some}
 use Prim.Native.Nat.{ℕ, zero, suc, _+_, _-_, _/_}
 use native.Mathlib.Omega.{arith}
 use borrow.Author.Tests.{lt-ltb, le-ltb, le-leb, lt-leb, ne-eqb}
@@ -37,7 +36,7 @@ use Rattle.session.proofs.Next.{historyOf}
 use Rattle.session.proofs.Link.{Rel, reads, at-start, tables-tied}
 use Rattle.session.proofs.Linked.{run-demanded}
 use Rattle.session.proofs.Round as core
-use Rattle.session.proofs.Pass.{keeps, through, passes-from-start}
+use Rattle.session.proofs.Pass.{none-rejects, keeps, through, passes-from-start}
 
 -- legal units
 seven-legal : (c : ℕ) → allLegal (replicate c (7 ∷ [])) ≡ true
@@ -102,11 +101,11 @@ module _ (set : Settings) (vw : Within set) (m : Ends) (t : Tied set m) (before 
   κ = core.run set (pass units) (begun set)
 
   rel : Rel set vw m t passed κ
-  rel = through set vw m t (pass units) (begins m) (begun set) (at-start set vw m t) (start-inv set vw)
+  rel = through set vw m t (pass units) (begins m) (begun set) (none-rejects units) (at-start set vw m t) (start-inv set vw)
 
   vr-is : κ .farm .vr ≡ advanced (set .n) age
   vr-is =
-      keeps set vw (pass units) (begun set) (start-inv set vw) (start-stock set) .0 .receiver .isVr
+      keeps set vw (pass units) (begun set) (none-rejects units) (start-inv set vw) (start-stock set) .0 .receiver .isVr
       ∙ ap (advanced (set .n)) (ap (λ (h : History). length (h .accepted)) (sym (rel .history)) ∙ accepted-length)
 
   -- judges the frame by how far it is behind
@@ -169,7 +168,7 @@ module _ (set : Settings) (vw : Within set) (m : Ends) (t : Tied set m) where
 
   tables-rel : Rel set vw (tables set) (tables-tied set) (run set (tables set) (pass (units set vw m t full)) (begins (tables set))) (κ set vw m t full)
   tables-rel =
-      through set vw (tables set) (tables-tied set) (pass (units set vw m t full)) (begins (tables set)) (begun set)
+      through set vw (tables set) (tables-tied set) (pass (units set vw m t full)) (begins (tables set)) (begun set) (none-rejects (units set vw m t full))
       (at-start set vw (tables set) (tables-tied set)) (start-inv set vw)
 
   opened : κ set vw m t full .farm .state ≡ Open

@@ -37,8 +37,8 @@ use Rattle.session.specs.Session.{Event, adRequest, lowerSays, wordIn, w
 use Rattle.session.specs.Claims.{BufferFree, nextNumber}
 use Rattle.session.specs.Stronger.{inService}
 use Rattle.session.specs.Beyond.{passOf}
-use Rattle.session.proofs.Choices.{none-some}
-use Rattle.session.proofs.Ways.{look-ways}
+use Rattle.fop.proofs.Choices.{none-some}
+use Rattle.fop.proofs.Ways.{look-ways}
 use Rattle.session.proofs.Core.{Session, addAll, answered, sender, channels, receiver, wordCome, frameCome, frameEvent, isHanded, report, releases, stepWith, step, free, isHeld}
 use Rattle.session.proofs.Octets.{legal-is}
 use Rattle.session.proofs.Values.{new-sent, queue-length}

@@ -1,7 +1,7 @@
 -- One computed test of table 7-8: what its actions do to the sender's mode, which is that of its effective state, cell by cell.
 use mathlib.Core.Logic.{_⊎_, inl, inr}
-use mathlib.Core.Path.{_≡_, refl, sym, ap, subst, _∙_}
-use mathlib.Core.Bool.{Bool, true, false, _&&_}
+use mathlib.Core.Path.{_≡_, refl, sym, subst}
+use mathlib.Core.Bool.{Bool, true, false, not, _&&_}
 use mathlib.Core.List.{List, [], _∷_}
 use mathlib.Core.Option.{some}
 use Prim.Native.Nat.{ℕ, zero, suc, _≤_}
@@ -19,10 +19,12 @@ use Rattle.fop.specs.Variables.{begin}
 use Rattle.fop.specs.Effective.{suspendedIn, effectiveOf, effective}
 use Rattle.fop.specs.Machine.{performCell, fopDo}
 use Rattle.fop.specs.declared.Lower.{Lower}
-use Rattle.fop.specs.Events.{when, first, Seen, wordLines, wordEvent, lowerEvent}
-use Rattle.session.proofs.Choices.{and-l, and-r}
-use Rattle.session.proofs.Test.{first-all, lower-all}
-use Rattle.session.proofs.Suspended.{suspendAll, suspend-all, unsuspended}
+use Rattle.fop.specs.Events.{when, first, Seen, wordLines, wordEvent, lowerEvent, isReject, directiveLines, directiveEvent}
+use Rattle.fop.proofs.Choices.{and-l, and-r}
+use Rattle.session.specs.Suspension.{admits}
+use Rattle.base.proofs.Computed.{is-true}
+use Rattle.fop.proofs.Test.{first-all}
+use Rattle.session.proofs.Suspended.{suspendAll, suspend-all, unsuspended, not-suspended}
 use Rattle.session.proofs.Values.{Mode, live, dead, bad, Given, word, unit, nothing}
 
 -- what an action does to the mode; bad: the invariant does not cover it
@@ -171,51 +173,51 @@ leads g n s xs u t =
     let b : Mode = modeOf (effectiveOf u (suspendAll xs n)) in
     matched a b (and-l (match a b) (unsuspended u (suspendAll xs n)) t)
 
--- "Suspend_State stays 0"
-abbrev stays : Cell → Bool
-stays NotApplicable = true
-stays (ifNotSuspended xs ys u) = false
-stays (cell xs u) = eqb (suspendAll xs 0) 0
-
 -- the test of a row, at Suspend_State 0
 abbrev pub rowOk : Given → FopEvent → Bool
-rowOk g e = atAll (cellOk g 0) (table78 e) && atAll (λ s c. stays c) (table78 e)
+rowOk g e = atAll (cellOk g 0) (table78 e)
 
 -- while suspended
 abbrev pub rowSuspended : Given → FopEvent → Bool
 rowSuspended g e = atSuspended (cellOk g) (table78 e)
 
+-- at one Suspend_State that is not 0, which a sender has in Initial alone
+abbrev pub atInitial : (ℕ → State → Cell → Bool) → ℕ → Row → Bool
+atInitial t n r = not (eqb n 0) && t n S6 (cell78 r S6)
+
+pub at-initial : (t : ℕ → State → Cell → Bool) (r : Row) (s : State) (n : ℕ) → T (atInitial t n r) → T (unsuspended s n) → T (t n s (cell78 r s))
+at-initial t r s n h o = by s o
+  where
+    suspends : {A : Type 0} → T (eqb n 0) → A
+    suspends z = absurd (subst (λ (b : Bool). T (not b && t n S6 (cell78 r S6))) (is-true (eqb n 0) z) h)
+
+    by : (s : State) → T (unsuspended s n) → T (t n s (cell78 r s))
+    by S1 o = suspends o
+    by S2 o = suspends o
+    by S3 o = suspends o
+    by S4 o = suspends o
+    by S5 o = suspends o
+    by S6 o = and-r (not (eqb n 0)) _ h
+
 -- a row is tested at a Suspend_State
 abbrev pub Tested : Given → FopEvent → ℕ → Type 0
-Tested g e n = T (rowOk g e) × ((n ≡ 0) ⊎ T (rowSuspended g e))
+Tested g e n = (T (rowOk g e) × ((n ≡ 0) ⊎ T (rowSuspended g e))) ⊎ T (atInitial (cellOk g) n (table78 e))
 
 -- at every one
 abbrev pub rowAny : Given → FopEvent → Bool
 rowAny g e = rowOk g e && rowSuspended g e
 
 pub any : (g : Given) (e : FopEvent) {n : ℕ} → T (rowAny g e) → Tested g e n
-any g e t = (and-l (rowOk g e) (rowSuspended g e) t, inr (and-r (rowOk g e) (rowSuspended g e) t))
+any g e t = inl (and-l (rowOk g e) (rowSuspended g e) t, inr (and-r (rowOk g e) (rowSuspended g e) t))
 
 -- the cell that a sender meets passes the test
 abbrev pub Passes : Given → FopEvent → Fop → Type 0
 Passes g e f = T (cellOk g (f .suspendState) (f .state) (cell78 (table78 e) (f .state)))
 
-module _ (g : Given) (e : FopEvent) (f : Fop) (t : Tested g e (f .suspendState)) (h : T (sound (modeOf (effective f)))) where
-  row-ok : T (atAll (cellOk g 0) (table78 e))
-  row-ok = and-l (atAll (cellOk g 0) (table78 e)) _ (t .0)
-
-  pub passes : T (unsuspended (f .state) (f .suspendState)) → Passes g e f
-  passes o = at-any (cellOk g) (table78 e) (f .state) (f .suspendState) row-ok (t .1) h o
-
-  pub do-stays : f .suspendState ≡ 0 → (o : List ℕ) (v : ℕ) → (fopDo e o v f) .fop .suspendState ≡ 0
-  unfolding fopDo performCell
-  do-stays z o v =
-      go (cell78 (table78 e) (f .state)) (at-cell (λ s c. stays c) (table78 e) (f .state) (f .suspendState) (and-r (atAll (cellOk g 0) (table78 e)) _ (t .0)) h)
-    where
-      go : (c : Cell) → T (stays c) → (performCell c (begin (some e) o v f)) .fop .suspendState ≡ 0
-      go NotApplicable t = z
-      go (ifNotSuspended xs ys s) t = absurd t
-      go (cell xs s) t = suspend-all xs (begin (some e) o v f) ∙ ap (suspendAll xs) z ∙ eqb→eq (suspendAll xs 0) 0 t
+pub passes : (g : Given) (e : FopEvent) (f : Fop) → Tested g e (f .suspendState) → T (sound (modeOf (effective f)))
+    → T (unsuspended (f .state) (f .suspendState)) → Passes g e f
+passes g e f (inl t) h o = at-any (cellOk g) (table78 e) (f .state) (f .suspendState) (t .0) (t .1) h o
+passes g e f (inr t) h o = at-initial (cellOk g) (table78 e) (f .state) (f .suspendState) t o
 
 match-sound : (a b : Mode) → T (match a b) → T (sound b)
 match-sound a live t = tt
@@ -254,15 +256,24 @@ pub word-ok : (s : Seen) → T (rowAny word (wordEvent s))
 unfolding table78 wordEvent
 word-ok s = first-all (rowAny word) (wordLines s) FopEvent.E103 tt
 
--- the answers of the lower layer: a reject alerts, and while suspended it leaves Suspend_State with nothing to resume
-pub lower-ok : (l : Lower) → T (rowOk nothing (lowerEvent l))
+-- the answers of the lower layer: a reject alerts, and while suspended it would leave Suspend_State with nothing to resume
+pub lower-ok : (l : Lower) (f : Fop) → admits (isReject l) f ≡ true → Tested nothing (lowerEvent l) (f .suspendState)
 unfolding table78
-lower-ok = lower-all (rowOk nothing) tt
+lower-ok Lower.AdAccept f a = any nothing FopEvent.E41 tt
+lower-ok Lower.AdReject f a = inl (tt, inl (not-suspended f a))
+lower-ok Lower.BcAccept f a = any nothing FopEvent.E43 tt
+lower-ok Lower.BcReject f a = inl (tt, inl (not-suspended f a))
+lower-ok Lower.BdAccept f a = any nothing FopEvent.E45 tt
+lower-ok Lower.BdReject f a = inl (tt, inl (not-suspended f a))
 
--- the expiry of the timer, at Timeout_Type 0
+-- the expiry of the timer: it suspends at Timeout_Type 1 only
 pub timer-ok : T (rowAny nothing FopEvent.E16 && rowAny nothing FopEvent.E17)
 unfolding table78
 timer-ok = tt
+
+pub suspending-ok : T (rowAny nothing FopEvent.E104 && rowAny nothing FopEvent.E18)
+unfolding table78
+suspending-ok = tt
 
 pub ad-ok : (c : Bool) → T (rowAny unit (first (when c FopEvent.E19 ∷ []) FopEvent.E20))
 unfolding table78
@@ -275,3 +286,32 @@ bd-ok c = first-all (rowAny unit) (when c FopEvent.E21 ∷ []) FopEvent.E22 tt
 pub terminate-ok : T (rowAny nothing FopEvent.E29)
 unfolding table78
 terminate-ok = tt
+
+-- Resume: its row by Suspend_State, which is that of a state of the main protocol
+pub resume-rows : (P : FopEvent → ℕ → Type 0) → P FopEvent.E30 0 → P FopEvent.E31 1 → P FopEvent.E32 2 → P FopEvent.E33 3
+    → (v : ℕ) (f : Fop) → T (sound (modeOf (effective f))) → T (unsuspended (f .state) (f .suspendState)) → P (directiveEvent 6 v f) (f .suspendState)
+unfolding directiveEvent
+resume-rows P none one two three v f g o = by (f .suspendState) refl
+  where
+    by : (n : ℕ) → f .suspendState ≡ n → P (first (directiveLines 6 v f) FopEvent.E39) (f .suspendState)
+    by zero z = rw z none
+    by (suc zero) z = rw z one
+    by (suc (suc zero)) z = rw z two
+    by (suc (suc (suc zero))) z = rw z three
+    by (suc (suc (suc (suc k)))) z = absurd (beyond (f .state) (rw z at g) (rw z at o))
+      where
+        outside : T (eqb (suc (suc (suc (suc k)))) 0) → ⊥
+        outside o = let e : suc (suc (suc (suc k))) ≡ 0 = eqb→eq (suc (suc (suc (suc k)))) 0 o in omega arith
+
+        beyond : (s : State) → T (sound (modeOf (effectiveOf s (suc (suc (suc (suc k))))))) → T (unsuspended s (suc (suc (suc (suc k))))) → ⊥
+        beyond S1 g o = outside o
+        beyond S2 g o = outside o
+        beyond S3 g o = outside o
+        beyond S4 g o = outside o
+        beyond S5 g o = outside o
+        beyond S6 g o = subst (λ (s : State). T (sound (modeOf s))) (above-three (suc (suc (suc (suc k)))) (omega arith)) g
+
+pub resume-ok : (v : ℕ) (f : Fop) → T (sound (modeOf (effective f))) → T (unsuspended (f .state) (f .suspendState))
+    → Tested nothing (directiveEvent 6 v f) (f .suspendState)
+unfolding table78
+resume-ok = resume-rows (Tested nothing) (any nothing FopEvent.E30 tt) (inr tt) (inr tt) (inr tt)

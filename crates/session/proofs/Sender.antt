@@ -18,7 +18,7 @@ use Rattle.fop.specs.Machine.{fdus, firstMarked, acknowledged, unacknowledged, 
 use Rattle.fop.specs.Variables.{begin}
 use Rattle.fop.specs.Effective.{effectiveOf, effective}
 use Rattle.fop.specs.Machine.{performCell, transmitAd, sendWaiting, sendNext, lookForFdu, purge, removeAcknowledged, fopDo}
-use Rattle.session.proofs.Ways.{look-ways, purge-ways}
+use Rattle.fop.proofs.Ways.{look-ways, purge-ways}
 use Rattle.session.proofs.Core.{addAll}
 use Rattle.session.proofs.Lists.{addAll-append}
 use Rattle.session.proofs.Values.{Bounds, Mode, live, dead, bad, Given, word, unit, nothing, WI, resent, sent-new, sent-bd, confirmed, queue-length, queue-at}

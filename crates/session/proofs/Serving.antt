@@ -1,14 +1,17 @@
 -- An AD frame is handed down only by an event that leaves the sender active or resending without wait: a computed test shows that no other
 -- cell of table 7-8 has an action that may hand one down.
 use mathlib.Core.Logic.{_⊎_, inl, inr}
-use mathlib.Core.Path.{_≡_, refl}
-use mathlib.Core.Bool.{Bool, true, false, _||_}
+use mathlib.Core.Path.{_≡_, refl, ap, _∙_}
+use mathlib.Core.Bool.{Bool, true, false, _||_, false≢true}
 use mathlib.Core.List.{List, [], _∷_, _++_}
 use mathlib.Core.Option.{Option, none, some}
 use Prim.Native.Nat.{ℕ}
 use lib.Dec.{T}
 use Rattle.fop.specs.Units.{Frame, AD, BD, Unlock, SetVR, Refused, Word}
 use Rattle.fop.specs.declared.State.{State}
+use Rattle.fop.specs.declared.State.the-variants.{S1, S2, S3, S4, S5, S6}
+use Rattle.fop.specs.declared.Alert.the-variants.{Llif}
+use Rattle.fop.specs.Table.{main, alerts}
 use Rattle.fop.specs.Table.{Action, Cell, cell, ifNotSuspended, NotApplicable, FopEvent, table78, cell78, Ignore, Accept, Reject, Confirm}
 use Rattle.fop.specs.Table.{RejectAd, AcceptBd, RejectBd, AddToWaitQueue, LookForFdu, LookForDirective, RemoveAcknowledgedFrames, InitiateAdRetransmission}
 use Rattle.fop.specs.Table.{InitiateBcRetransmission, ReleaseBcFrame, CancelTimer, StartTimer, Alert, Initialise, TransmitUnlock, TransmitSetVr, TransmitBd, SetSuspendState}
@@ -17,9 +20,11 @@ use Rattle.fop.specs.Variables.{Fop, Work, begin}
 use Rattle.fop.specs.Effective.{effective}
 use Rattle.fop.specs.Machine.{perform, performAll, performCell, removeAcknowledged, transmitBc, fopDo}
 use Rattle.fop.specs.declared.Lower.{Lower}
-use Rattle.fop.specs.Events.{when, wordLines, wordEvent, seen, fopWord, fopAd, fopBd, isEmpty, fopTick, fopLower, fopDirective, directiveEvent}
+use Rattle.fop.specs.Events.{when, wordLines, wordEvent, seen, fopWord, fopAd, fopBd, isEmpty, fopTick, fopLower, fopDirective, isReject}
+use Rattle.session.specs.Ends.{SessionDirective}
 use Rattle.session.specs.Claims.{serves}
-use Rattle.session.proofs.Test.{first-all, lower-all, lowered, tick-ways, Keeps, allKeep, all-keep}
+use Rattle.session.proofs.Suspended.{session-all}
+use Rattle.fop.proofs.Test.{first-all, lower-all, lowered, tick-ways, Keeps, allKeep, all-keep}
 use Rattle.session.proofs.Rows.{atAll, at-cell, modeOf, sound}
 use Rattle.session.proofs.Few.{purge-few}
 
@@ -120,10 +125,33 @@ module _ (f : Fop) (g : T (sound (modeOf (effective f)))) where
   unfolding fopBd table78 withoutAd
   bd-serving o = do-serving _ o 0 f (first-all rowServing (when (f .out .bd) FopEvent.E21 ∷ []) FopEvent.E22 tt) g
 
-  pub terminate-serving : (v : ℕ) → Serving (fopDirective 5 v f)
-  unfolding fopDirective directiveEvent table78 withoutAd
-  terminate-serving v = do-serving FopEvent.E29 [] v f tt g
+  -- the directives of a session
+  pub directive-serving : (d v : ℕ) → SessionDirective d → Serving (fopDirective d v f)
+  unfolding fopDirective table78 withoutAd
+  directive-serving d v h = do-serving _ [] v f (session-all rowServing tt d v f h) g
 
   pub word-serving : (w : Word) → Serving (fopWord w f)
   unfolding fopWord wordEvent table78 withoutAd
   word-serving w = do-serving _ [] (w .nr) f (first-all rowServing (wordLines (seen w f)) FopEvent.E103 tt) g
+
+-- a reject of the lower layer alerts in every state, and hands nothing down
+everywhere : (s : State) → cell78 (main (alerts Llif) (alerts Llif) (alerts Llif) (alerts Llif)) s ≡ alerts Llif
+everywhere S1 = refl
+everywhere S2 = refl
+everywhere S3 = refl
+everywhere S4 = refl
+everywhere S5 = refl
+everywhere S6 = refl
+
+alert-none : (s : State) (w : Work) → (performCell (cell78 (main (alerts Llif) (alerts Llif) (alerts Llif) (alerts Llif)) s) w) .frames ≡ w .frames
+unfolding performCell performAll perform
+alert-none s w = ap (λ (c : Cell). (performCell c w) .frames) (everywhere s) ∙ purge-few w
+
+pub reject-none : (l : Lower) (f : Fop) → isReject l ≡ true → (fopLower l f) .frames ≡ []
+unfolding fopLower fopDo table78
+reject-none Lower.AdAccept f q = absurd (false≢true q)
+reject-none Lower.AdReject f q = alert-none (f .state) (begin (some FopEvent.E42) [] 0 f)
+reject-none Lower.BcAccept f q = absurd (false≢true q)
+reject-none Lower.BcReject f q = alert-none (f .state) (begin (some FopEvent.E44) [] 0 f)
+reject-none Lower.BdAccept f q = absurd (false≢true q)
+reject-none Lower.BdReject f q = alert-none (f .state) (begin (some FopEvent.E46) [] 0 f)

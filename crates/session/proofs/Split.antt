@@ -15,6 +15,8 @@ use Rattle.session.specs.Session.{Linked, History, noUnit}
 use Rattle.session.specs.Claims.{member}
 use Rattle.session.specs.Channels.{LinkEvent, demanded, frameStays, wordStays, frameFilled, frameAgain, noise, wordNoise, negativeWindow, linkStep, linkRun}
 use Rattle.session.specs.Beyond.{noAd, noneAgain, OnBoard, Before, Split}
+use Rattle.session.specs.Suspension.{linkRejects}
+use Rattle.session.proofs.Suspended.{admitted-serving}
 use Rattle.session.proofs.Core.{Session}
 use Rattle.session.proofs.Inv.{Inv}
 use Rattle.session.proofs.Link.{Rel, tables-tied}
@@ -42,8 +44,9 @@ no-more set vw m t kept most [] n σ κ R I h = ap (λ (x : History). x .accepte
 no-more set vw m t kept most (e ∷ es) n σ κ R I h =
     let b = none-first e es n in
     let k = link-ended set kept e κ (b .0) h in
-    no-more set vw m t kept most es (b .1) (linkStep set kept m e σ) (core.linkStep set kept e κ) (same-link set vw m t kept most e σ κ R I)
-    (link-keeps set vw kept most e κ I) (k .0)
+    let a = admitted-serving (linkRejects e) (κ .fop) (h .initial .unsuspended) in
+    no-more set vw m t kept most es (b .1) (linkStep set kept m e σ) (core.linkStep set kept e κ) (same-link set vw m t kept most e σ κ a R I)
+    (link-keeps set vw kept most e κ a I) (k .0)
     ∙ k .1
 
 module _ (set : Settings) (vw : Within set) (m : Ends) (t : Tied set m) (σ : Linked m) (γ : Linked (tables set)) (κ : Session)

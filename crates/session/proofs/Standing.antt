@@ -2,29 +2,30 @@
 -- nothing is denied; out of service all that is not confirmed is denied. So at most K are outstanding.
 use mathlib.Core.Logic.{_⊎_, inl, inr}
 use mathlib.Core.Path.{_≡_, refl, sym, ap, _∙_, subst}
-use mathlib.Core.Bool.{true, false, true≢false}
+use mathlib.Core.Bool.{Bool, true, false, not, true≢false, false≢true}
 use mathlib.Core.List.{List, [], _++_, map, append-nil}
 use mathlib.Core.Option.{Option, some}
 use Prim.Native.Nat.{ℕ, _+_, _-_, _≤_}
 use native.Mathlib.Nat.{zero-add}
 use native.Mathlib.Omega.{arith}
-use lib.Dec.{T}
+use lib.Dec.{T, eqb}
 use lib.ListN.{length, drop, length-drop}
 use lib.Seq.{take-all, take-length}
 use Rattle.fop.specs.declared.State.{State}
 use Rattle.fop.specs.declared.State.the-variants.{S1, S2, S3, S4, S5, S6}
 use Rattle.fop.specs.Machine.{fdus}
-use Rattle.fop.specs.Effective.{effectiveOf, effective}
+use Rattle.fop.specs.Effective.{effectiveOf, effective, isSuspended}
 use Rattle.session.specs.Ends.{Settings}
 use Rattle.session.specs.Claims.{unitsAt, outstanding, remaining, BufferFree}
 use Rattle.session.specs.Stronger.{unitsOf, somes, inService}
 use Rattle.session.proofs.Core.{Session}
+use Rattle.session.proofs.Suspended.{unsuspended, suspended-left}
 use Rattle.session.proofs.Lists.{iota, iota-append, length-nums, somes-nums, units-iota, unitsOf-nums, left-none}
 use Rattle.session.proofs.Values.{Dead}
 use Rattle.session.proofs.Rows.{modeOf, sound}
 use Rattle.session.proofs.Inv.{Inv, Side, in-mode, isLocked}
 use Rattle.session.proofs.Buffers.{Full}
-use Rattle.session.proofs.Next.{historyOf, live-of, lv, out-is}
+use Rattle.session.proofs.Next.{historyOf, live-in, out-is}
 use Rattle.farm.specs.declared.State.{State as FarmState}
 use Rattle.farm.specs.declared.State.the-variants.{Open, Wait, Lockout}
 
@@ -79,26 +80,50 @@ module _ (set : Settings) (κ : Session) (I : Inv set κ) where
       by S5 h = absurd h
       by S6 h = inr refl
 
+  -- a suspended sender is in Initial, and its effective state is one of the main protocol's
+  pub suspended-in : isSuspended (κ .fop) ≡ true → (κ .fop .state ≡ S6) × (inService (effective (κ .fop)) ≡ true)
+  suspended-in u = by (eqb (κ .fop .suspendState) 0) refl u
+    where
+      initial : (s : State) → eqb (κ .fop .suspendState) 0 ≡ false → T (unsuspended s (κ .fop .suspendState)) → s ≡ S6
+      initial S1 q o = absurd (subst T q o)
+      initial S2 q o = absurd (subst T q o)
+      initial S3 q o = absurd (subst T q o)
+      initial S4 q o = absurd (subst T q o)
+      initial S5 q o = absurd (subst T q o)
+      initial S6 q o = refl
+
+      serves : eqb (κ .fop .suspendState) 0 ≡ false → κ .fop .state ≡ S6 → (inService (effective (κ .fop)) ≡ true) ⊎ (effective (κ .fop) ≡ S6)
+          → inService (effective (κ .fop)) ≡ true
+      serves q i (inl e) = e
+      serves q i (inr e) =
+          absurd (suspended-left (κ .fop .suspendState) q (ap (λ (s : State). effectiveOf s (κ .fop .suspendState)) (sym i) ∙ e))
+
+      by : (b : Bool) → eqb (κ .fop .suspendState) 0 ≡ b → not b ≡ true → (κ .fop .state ≡ S6) × (inService (effective (κ .fop)) ≡ true)
+      by true q u = absurd (false≢true u)
+      by false q u =
+          let i = initial (κ .fop .state) q (I .suspension .outside) in
+          (i, serves q i (state-is (effective (κ .fop)) (I .side)))
+
   pub at-most : length (outstanding (historyOf κ)) ≤ set .k
   unfolding outstanding
   at-most = by (state-is (effective (κ .fop)) (I .side))
     where
       by : (inService (effective (κ .fop)) ≡ true) ⊎ (effective (κ .fop) ≡ S6) → length (outstanding (historyOf κ)) ≤ set .k
-      by (inl e) = omega (arith, ap length (out-is set κ I (live-of (effective (κ .fop)) (set .n) _ _ _ _ _ _ e (I .side) .fresh)), length-nums C (S - C), I .base)
+      by (inl e) = omega (arith, ap length (out-is set κ I (live-in set κ I e .fresh)), length-nums C (S - C), I .base)
       by (inr e) =
           let z : remaining (κ .confirmed) (κ .denied) 0 S ≡ [] =
           ap (λ (x : List (Option ℕ)). remaining x (κ .denied) 0 S) (I .places)
           ∙ ap (λ (x : List (Option ℕ)). remaining (iota 0 C) x 0 S) (initial-denied (effective (κ .fop)) (I .side) e) ∙ left-none C (S - C) 0 S (omega (arith, low)) in
           omega (arith, ap length z)
 
-  pub standing : inService (κ .fop .state) ≡ true → unitsAt (κ .sent) (κ .confirmed ++ somes (outstanding (historyOf κ))) ≡ map some (κ .sent)
+  pub standing : inService (effective (κ .fop)) ≡ true → unitsAt (κ .sent) (κ .confirmed ++ somes (outstanding (historyOf κ))) ≡ map some (κ .sent)
   standing e =
-      let l = lv set κ I e in
+      let l = live-in set κ I e in
       ap (λ (x : List (Option ℕ)). unitsAt (κ .sent) (κ .confirmed ++ x)) (ap somes (out-is set κ I (l .fresh)) ∙ somes-nums C (S - C)) ∙ all-units
 
-  pub queued : inService (κ .fop .state) ≡ true → fdus (κ .fop .queues .sentQueue) ≡ unitsOf (κ .sent) (outstanding (historyOf κ))
+  pub queued : inService (effective (κ .fop)) ≡ true → fdus (κ .fop .queues .sentQueue) ≡ unitsOf (κ .sent) (outstanding (historyOf κ))
   queued e =
-      let l = lv set κ I e in
+      let l = live-in set κ I e in
       let lo = low in
       l .cut ∙ sym (take-all (length (κ .sent) - length (κ .confirmed)) (drop (length (κ .confirmed)) (κ .sent))
       (omega (arith, length-drop (length (κ .confirmed)) (κ .sent))))

@@ -1,18 +1,27 @@
 -- Suspend_State through the actions of table 7-8, and the effective state that it gives (crate fop, specs/Effective).
-use mathlib.Core.Path.{_≡_, refl, ap, _∙_}
-use mathlib.Core.Bool.{Bool, true}
+use mathlib.Core.Logic.{inl, inr}
+use mathlib.Core.Path.{_≡_, refl, sym, ap, _∙_}
+use mathlib.Core.Bool.{Bool, true, false, not, _&&_, false≢true}
 use mathlib.Core.List.{List, [], _∷_}
 use Prim.Native.Nat.{ℕ}
-use lib.Dec.{eqb}
+use lib.Dec.{T, eqb}
+use borrow.Author.Tests.{eqb-true}
 use Rattle.fop.specs.declared.State.{State}
 use Rattle.fop.specs.declared.State.the-variants.{S1, S2, S3, S4, S5, S6}
 use Rattle.fop.specs.Table.{Action, Ignore, Accept, Reject, Confirm, RejectAd, AcceptBd, RejectBd, AddToWaitQueue, LookForFdu, LookForDirective}
 use Rattle.fop.specs.Table.{RemoveAcknowledgedFrames, InitiateAdRetransmission, InitiateBcRetransmission, ReleaseBcFrame, CancelTimer, StartTimer, Alert, Initialise, TransmitUnlock}
 use Rattle.fop.specs.Table.{TransmitSetVr, TransmitBd, SetSuspendState, Suspend, Resume, SetVs, SetNnr, SetK, SetT1Initial, SetTransmissionLimit, SetTimeoutType, AdOutReady, BcOutReady, BdOutReady}
+use Rattle.fop.specs.Table.{FopEvent, E29, E30, E31, E32, E33, E34}
+use Rattle.fop.specs.Events.{when, directiveEvent}
+use Rattle.fop.proofs.Test.{first-all}
 use Rattle.fop.specs.Variables.{Fop, Work}
-use Rattle.fop.specs.Effective.{effectiveOf, effective}
+use Rattle.fop.specs.Effective.{suspendedIn, effectiveOf, effective}
 use Rattle.fop.specs.Machine.{perform, performAll, sendNext, sendWaiting, transmitAd, transmitBc, removeAcknowledged}
-use Rattle.session.proofs.Ways.{look-ways, directive-ways, purge-ways}
+use Rattle.session.specs.Ends.{Settings, tables, SessionDirective}
+use Rattle.session.specs.Session.{Event, Linked, step}
+use Rattle.session.specs.Suspension.{admits, rejects, unrejected}
+use Rattle.fop.proofs.Choices.{by-pick, and-l, and-r}
+use Rattle.fop.proofs.Ways.{look-ways, directive-ways, purge-ways}
 
 -- Suspend_State after an action, and after actions in their order
 abbrev suspendAfter : Action → ℕ → ℕ
@@ -115,3 +124,67 @@ effective-zero S6 = refl
 
 pub effective-is : (f : Fop) → f .suspendState ≡ 0 → effective f ≡ f .state
 effective-is f z = ap (effectiveOf (f .state)) z ∙ effective-zero (f .state)
+
+-- an event that is admitted and would not be to a suspended sender
+pub not-suspended : (f : Fop) → admits true f ≡ true → f .suspendState ≡ 0
+not-suspended f a = by (eqb (f .suspendState) 0) refl a
+  where
+    by : (b : Bool) → eqb (f .suspendState) 0 ≡ b → not (true && not b) ≡ true → f .suspendState ≡ 0
+    by true e a = eqb-true (f .suspendState) 0 e
+    by false e a = absurd (false≢true a)
+
+-- an event that is no reject of the lower layer is admitted
+pub admitted : (b : Bool) (f : Fop) → b ≡ false → admits b f ≡ true
+admitted b f q = ap (λ (x : Bool). admits x f) q
+
+-- to a sender that is not suspended every event is
+pub admitted-serving : (b : Bool) (f : Fop) → f .suspendState ≡ 0 → admits b f ≡ true
+admitted-serving true f z = rw z
+admitted-serving false f z = refl
+
+-- no event of a list is a reject of the lower layer
+abbrev pub noneReject : List Event → Bool
+noneReject [] = true
+noneReject (e ∷ es) = not (rejects e) && noneReject es
+
+pub none-first : (e : Event) (es : List Event) → noneReject (e ∷ es) ≡ true → (rejects e ≡ false) × (noneReject es ≡ true)
+none-first e es h = by (rejects e) refl h
+  where
+    by : (b : Bool) → rejects e ≡ b → (not b && noneReject es) ≡ true → (rejects e ≡ false) × (noneReject es ≡ true)
+    by true q h = absurd (false≢true h)
+    by false q h = (q, h)
+
+-- so none comes while suspended
+pub unrejected-none : (set : Settings) (es : List Event) (γ : Linked (tables set)) → noneReject es ≡ true → unrejected set es γ ≡ true
+unfolding unrejected
+unrejected-none set [] γ h = refl
+unrejected-none set (e ∷ es) γ h =
+    let n = none-first e es h in
+    ap (λ (b : Bool). b && unrejected set es (step set (tables set) e γ)) (admitted (rejects e) (γ .sender) (n .0))
+    ∙ unrejected-none set es (step set (tables set) e γ) (n .1)
+
+-- the Initial state
+abbrev pub isInitial : State → Bool
+isInitial S1 = false
+isInitial S2 = false
+isInitial S3 = false
+isInitial S4 = false
+isInitial S5 = false
+isInitial S6 = true
+
+-- Suspend_State above 0 is that of no Initial state
+pub suspended-left : (n : ℕ) → eqb n 0 ≡ false → suspendedIn n ≡ S6 → ⊥
+suspended-left n q e =
+    let not-initial : isInitial (suspendedIn n) ≡ false =
+    rw q (by-pick (λ s. isInitial s ≡ false) (eqb n 1) (λ t. refl)
+    (λ t. by-pick (λ s. isInitial s ≡ false) (eqb n 2) (λ t. refl) (λ t. by-pick (λ s. isInitial s ≡ false) (eqb n 3) (λ t. refl) (λ t. refl)))) in
+    false≢true (sym not-initial ∙ ap isInitial e)
+
+-- the directives of a session: Terminate, and Resume by Suspend_State
+pub session-all : (t : FopEvent → Bool) → T (t E29 && ((t E30 && (t E31 && (t E32 && (t E33 && true)))) && t E34)) → (d v : ℕ) (f : Fop) → SessionDirective d
+    → T (t (directiveEvent d v f))
+unfolding directiveEvent
+session-all t h d v f (inl q) = rw q (and-l (t E29) _ h)
+session-all t h d v f (inr q) =
+    let ss : ℕ → Bool = eqb (f .suspendState) in
+    rw q (first-all t (when (ss 0) E30 ∷ when (ss 1) E31 ∷ when (ss 2) E32 ∷ when (ss 3) E33 ∷ []) E34 (and-r (t E29) _ h))

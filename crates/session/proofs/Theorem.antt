@@ -7,7 +7,7 @@
 -- octets and all, is a session of Core, so the ends' run and the tables' run share one (Linked).
 use mathlib.Core.Logic.{_⊎_, inl, inr, _↔_}
 use mathlib.Core.Path.{_≡_, refl, sym, ap, _∙_, subst}
-use mathlib.Core.Bool.{true, true≢false}
+use mathlib.Core.Bool.{true, false, true≢false}
 use mathlib.Core.List.{List, [], _∷_, _++_, map, map-append}
 use mathlib.Core.Option.{Option, some}
 use Prim.Native.Nat.{ℕ, _≤_}
@@ -23,8 +23,10 @@ use Rattle.receiver.specs.declared.Receiver.{Receiver}
 use Rattle.farm.specs.declared.State.the-variants.{Open}
 use Rattle.session.specs.Frames.{read}
 use Rattle.session.specs.Ends.{Settings, Within, Ends, Tied, tables}
-use Rattle.session.specs.Session.{Linked, History, Event, adRequest, ticks, lowerSays, wordIn, frameIn, begins, run, noUnit}
+use Rattle.session.specs.Session.{Linked, History, Event, adRequest, ticks, lowerSays, wordIn, frameIn, begins, noUnit}
 use Rattle.session.specs.Channels.{LinkEvent, demanded, negativeWindow, linkRun}
+use Rattle.session.specs.Suspension.{rejects, linkUnrejected}
+use Rattle.session.specs.Signed.{Demanded}
 use Rattle.session.specs.Claims.{unitsAt, member, Sends, Resends, Marked, Claims, serves, expected, BufferFree, nextUnit, nextNumber}
 use Rattle.fop.specs.Events as fop
 use Rattle.session.specs.Session as ses
@@ -39,7 +41,8 @@ use Rattle.session.proofs.Arrive.{accepts}
 use Rattle.session.proofs.Next.{historyOf, Sent, Resent, offers, ready-again, ready-new, expires}
 use Rattle.session.proofs.Words.{word-made}
 use Rattle.session.proofs.Link.{Rel, same-step, tables-tied, reads, fly-reads, Reads}
-use Rattle.session.proofs.Linked.{from-start, as-demanded}
+use Rattle.session.proofs.Linked.{from-start, as-demanded, unrejected-demanded}
+use Rattle.session.proofs.Suspended.{admitted}
 
 -- confirmed units are a first part of those accepted, and these of those sent
 pub confirmed-are : (set : Settings) (κ : Session) → Inv set κ → unitsAt (κ .sent) (κ .confirmed) ≡ map some (take (length (κ .confirmed)) (κ .accepted))
@@ -68,27 +71,28 @@ module _ (set : Settings) (vw : Within set) where
 
 module _ (set : Settings) (vw : Within set) (m : Ends) (t : Tied set m) (σ : Linked m) (γ : Linked (tables set)) (κ : Session)
     (R : Rel set vw m t σ κ) (G : Rel set vw (tables set) (tables-tied set) γ κ) (I : Inv set κ) where
-  next : (e : Event) → Rel set vw m t (ses.step set m e σ) (core.step set e κ)
-  next e = same-step set vw m t e σ κ R I
+  -- an event that is no reject of the lower layer is admitted
+  next : (e : Event) → rejects e ≡ false → Rel set vw m t (ses.step set m e σ) (core.step set e κ)
+  next e q = same-step set vw m t e σ κ (admitted (rejects e) (κ .fop) q) R I
 
-  down : (e : Event) (u : Fdu) → (core.step set e κ) .frames ≡ κ .frames ++ (AD u ∷ [])
+  down : (e : Event) → rejects e ≡ false → (u : Fdu) → (core.step set e κ) .frames ≡ κ .frames ++ (AD u ∷ [])
       → (ses.step set m e σ) .frames ≡ σ .frames ++ (written (set .own) (AD u) ∷ [])
-  down e u d =
-      next e .frames ∙ ap (map (written (set .own))) d ∙ map-append (written (set .own)) (κ .frames) (AD u ∷ [])
+  down e q u d =
+      next e q .frames ∙ ap (map (written (set .own))) d ∙ map-append (written (set .own)) (κ .frames) (AD u ∷ [])
       ∙ ap (λ (l : List (List ℕ)). l ++ (written (set .own) (AD u) ∷ [])) (sym (R .frames))
 
-  sends : (e : Event) (u : Fdu) → Sent u κ (core.step set e κ) → Sends set u σ (ses.step set m e σ)
-  sends e u s =
+  sends : (e : Event) → rejects e ≡ false → (u : Fdu) → Sent u κ (core.step set e κ) → Sends set u σ (ses.step set m e σ)
+  sends e q u s =
       record {
-        down = down e u (s .down);
-        counted = ap (λ (h : History). h .sent) (next e .history) ∙ s .counted ∙ ap (λ (h : History). h .sent ++ (u ∷ [])) (sym (R .history));
+        down = down e q u (s .down);
+        counted = ap (λ (h : History). h .sent) (next e q .history) ∙ s .counted ∙ ap (λ (h : History). h .sent ++ (u ∷ [])) (sym (R .history));
       }
 
-  resends : (e : Event) (u : Fdu) → Resent u κ (core.step set e κ) → Resends set u σ (ses.step set m e σ)
-  resends e u s =
+  resends : (e : Event) → rejects e ≡ false → (u : Fdu) → Resent u κ (core.step set e κ) → Resends set u σ (ses.step set m e σ)
+  resends e q u s =
       record {
-        down = down e u (s .down);
-        counted = ap (λ (h : History). h .sent) (next e .history) ∙ s .counted ∙ ap (λ (h : History). h .sent) (sym (R .history));
+        down = down e q u (s .down);
+        counted = ap (λ (h : History). h .sent) (next e q .history) ∙ s .counted ∙ ap (λ (h : History). h .sent) (sym (R .history));
         place = s .place;
         out = rw (R .history) (s .out);
         is = rw (R .history) (s .is);
@@ -114,10 +118,10 @@ module _ (set : Settings) (vw : Within set) (m : Ends) (t : Tied set m) (σ : Li
         subst (λ (x : List ℕ). needed (set .own) (wordArrives x) (κ .fop) ≤ lent) so (lent-is (wordArrives s) lent r),
       )
 
-  pub either : (e : Event) (i : ℕ) → Resent (getD (κ .sent) i noUnit) κ (core.step set e κ) ⊎ Marked (getD (κ .sent) i noUnit) ((core.step set e κ) .fop)
+  pub either : (e : Event) → rejects e ≡ false → (i : ℕ) → Resent (getD (κ .sent) i noUnit) κ (core.step set e κ) ⊎ Marked (getD (κ .sent) i noUnit) ((core.step set e κ) .fop)
       → Resends set (getD (κ .sent) i noUnit) σ (ses.step set m e σ) ⊎ Marked (getD (κ .sent) i noUnit) ((ses.step set (tables set) e γ) .sender)
-  either e i (inl s) = inl (resends e _ s)
-  either e i (inr k) = inr (subst (Marked (getD (κ .sent) i noUnit)) (sym (same-step set vw (tables set) (tables-tied set) e γ κ G I .fop)) k)
+  either e q i (inl s) = inl (resends e q _ s)
+  either e q i (inr k) = inr (subst (Marked (getD (κ .sent) i noUnit)) (sym (same-step set vw (tables set) (tables-tied set) e γ κ (admitted (rejects e) (κ .fop) q) G I .fop)) k)
 
   pub claims : Claims set m σ γ
   claims =
@@ -143,53 +147,55 @@ module _ (set : Settings) (vw : Within set) (m : Ends) (t : Tied set m) (σ : Li
             let l = oldest-frame set vw (κ .frames) s fs (AD u) (fly-reads (set .n) _ (κ .sent) (I .base .num) _ _ (κ .frames) (I .base .fly))
             (sym e ∙ R .frames) q in
             let a = accepts set vw κ I u (l .0) (l .1) in
-            let n = ap (λ (h : History). h .accepted) (next frameIn .history) in
+            let n = ap (λ (h : History). h .accepted) (next frameIn refl .history) in
             let g = ap (λ (f : Receiver). f .farm .channel .variables .state) (G .farm) in
             by (λ h. ((ses.step set m frameIn σ) .history .accepted ≡ h .accepted ++ (u ∷ [])) ↔
             ((γ .receiver .farm .channel .variables .state ≡ Open) × (u .ns ≡ expected set h) × BufferFree set h))
             (λ x. let r = a .0 (sym n ∙ x) in (g ∙ r .0, r .1, r .2), λ x. n ∙ a .1 (sym g ∙ x .0, x .1, x .2));
         offered = λ o lent g r a b c d k.
             by (λ h. Sends set (nextUnit set h o) σ (ses.step set m (adRequest o lent) σ))
-            (sends (adRequest o lent) _ (offers set κ I o lent g (lent-is (requestAd o) lent r) (rw (G .fop) at a) (rw (G .fop) at b)
+            (sends (adRequest o lent) refl _ (offers set κ I o lent g (lent-is (requestAd o) lent r) (rw (G .fop) at a) (rw (G .fop) at b)
             (rw (G .fop) at c) (rw (G .fop) at d) (rw (R .history) at k)));
         readyAgain = λ u lent r a b.
-            resends (lowerSays AdAccept lent) u (ready-again set κ I u lent (lent-is (lower AdAccept) lent r) (rw (G .fop) at a) (rw (G .fop) at b));
+            resends (lowerSays AdAccept lent) refl u (ready-again set κ I u lent (lent-is (lower AdAccept) lent r) (rw (G .fop) at a) (rw (G .fop) at b));
         readyNew = λ o lent r a b k w.
             by (λ h. Sends set (nextUnit set h o) σ (ses.step set m (lowerSays AdAccept lent) σ))
-            (sends (lowerSays AdAccept lent) _
+            (sends (lowerSays AdAccept lent) refl _
             (ready-new set κ I o lent (lent-is (lower AdAccept) lent r) (rw (G .fop) at a) (rw (G .fop) at b) (rw (R .history) at k) (rw (G .fop) at w)));
         expires = λ i lent r a b c o.
             by (λ h. Resends set (getD (h .sent) i noUnit) σ (ses.step set m (ticks lent) σ)
             ⊎ Marked (getD (h .sent) i noUnit) ((ses.step set (tables set) (ticks lent) γ) .sender))
-            (either (ticks lent) i (expires set κ I i lent (lent-is fop.tick lent r) (rw (G .fop) at a) (rw (G .fop) at b) (rw (G .fop) at c)
+            (either (ticks lent) refl i (expires set κ I i lent (lent-is fop.tick lent r) (rw (G .fop) at a) (rw (G .fop) at b) (rw (G .fop) at c)
             (rw (R .history) at o)));
         clears = λ s ws w lent e q r a b c d f.
             let k = word-comes s ws w lent e q r in
             let a' : serves (κ .fop .state) ≡ true = rw (G .fop) at a in
             let f' : w .nr ≡ nextNumber set (historyOf κ) = rw (R .history) at f in (
-              λ i o. ap (λ (h : History). member i (h .confirmed)) (next (wordIn lent) .history)
+              λ i o. ap (λ (h : History). member i (h .confirmed)) (next (wordIn lent) refl .history)
                   ∙ clears-all set vw κ I a' w (k .0) lent (k .1) (k .2) b c d f' i (rw (R .history) at o),
               λ o p x y. by (λ h. Sends set (nextUnit set h o) σ (ses.step set m (wordIn lent) σ))
-                  (sends (wordIn lent) _
+                  (sends (wordIn lent) refl _
                   (clears-sends set vw κ I a' w (k .0) lent (k .1) (k .2) b c d f' o (rw (R .history) at p) (rw (G .fop) at x) (rw (G .fop) at y))),
             );
         words = word-made set vw m t σ κ R I (γ .receiver .farm .channel .variables) (ap (λ (f : Receiver). f .farm .channel .variables) (G .farm));
       }
 
 -- All of demand 3 over channels that repeat and noise, for all settings within their limits and all ends that do as the tables say, with a
--- recorder that keeps at most NW units: after every list of events and at whatever event of demand 3 comes next.
+-- recorder that keeps at most NW units: after every list of events in which no lower-layer reject comes while suspended, and at whatever event of
+-- demand 3 comes next.
 pub claims-linked : (set : Settings) → Within set → (m : Ends) → Tied set m → (kept : ℕ) → kept ≤ negativeWindow set → (es : List LinkEvent)
+    → linkUnrejected set kept es (begins (tables set)) ≡ true
     → Claims set m (linkRun set kept m es (begins m)) (linkRun set kept (tables set) es (begins (tables set)))
-claims-linked set vw m t kept most es =
-    let k = from-start set vw m t kept most (λ κ. Unit {0}) (λ e κ I x. tt) tt es in
+claims-linked set vw m t kept most es u =
+    let k = from-start set vw m t kept most (λ κ. Unit {0}) (λ e κ a I x. tt) tt es u in
     claims set vw m t _ _ (k .session) (k .ends) (k .ofTables) (k .inv)
 
 -- Demand 3, whole: the case of its own events alone.
-pub demand3 : (set : Settings) → Within set → (m : Ends) → Tied set m → (es : List Event)
-    → Claims set m (run set m es (begins m)) (run set (tables set) es (begins (tables set)))
-demand3 set vw m t es = as-demanded set m (Claims set m) es (claims-linked set vw m t 0 (omega arith) (map demanded es))
+pub demand3 : (set : Settings) → Within set → (m : Ends) → Tied set m → Demanded set m
+demand3 set vw m t es u =
+    as-demanded set m (Claims set m) es
+    (claims-linked set vw m t 0 (omega arith) (map demanded es) (unrejected-demanded set 0 es (begins (tables set)) ∙ u))
 
 -- and the table machines are such ends
-pub demand3-tables : (set : Settings) → Within set → (es : List Event)
-    → Claims set (tables set) (run set (tables set) es (begins (tables set))) (run set (tables set) es (begins (tables set)))
-demand3-tables set vw es = demand3 set vw (tables set) (tables-tied set) es
+pub demand3-tables : (set : Settings) → Within set → Demanded set (tables set)
+demand3-tables set vw = demand3 set vw (tables set) (tables-tied set)

@@ -24,18 +24,20 @@ use Rattle.fop.specs.Events.{when, first, lowerEvent, isEmpty, SenderEvent, req
 use Rattle.fop.specs.Answers.{judged}
 use Rattle.session.specs.Receiver.{wordLength}
 use Rattle.session.specs.Ends.{Settings, Within, startSender, startReceiver}
-use Rattle.session.specs.Session.{Event, adRequest, bdRequest, ticks, lowerSays, terminate, wordIn, wordLost, wordMade, frameIn, frameLost, release, places}
+use Rattle.session.specs.Session.{Event, adRequest, bdRequest, ticks, lowerSays, terminate, resume, wordIn, wordLost, wordMade, frameIn, frameLost, release, places}
 use Rattle.session.specs.Session.{rest, addSent}
 use Rattle.fop.specs.Events as fop
-use Rattle.session.proofs.Choices.{by-pick, never, and-l, and-r, _also_}
-use Rattle.session.proofs.Test.{first-all, first-each, lower-all, lowered, tick-ways, never-suspends}
+use Rattle.fop.proofs.Choices.{by-pick, never, and-l, and-r, _also_}
+use Rattle.fop.proofs.Test.{first-all, first-each, lower-all, lowered, tick-ways}
 use Rattle.session.proofs.Suspended.{suspendAll, suspend-all, unsuspended}
 use Rattle.session.proofs.Core.{Session, addAll, firstOf, answered, sender, goes, channels, wordCome, frameCome, receiver, taken, step, stepWith}
 use Rattle.session.proofs.Core.{releases, frameEvent, isHanded, free, isHeld}
 use Rattle.session.proofs.Chan.{Fly, Wds}
 use Rattle.session.proofs.Values.{Given, word, unit, nothing, Reports}
-use Rattle.session.proofs.Rows.{modeOf, sound, atAll, atSuspended, at-any, at-zero, rowAny, Tested, any, word-ok, ad-ok, bd-ok, lower-ok, terminate-ok}
-use Rattle.session.proofs.Inv.{Inv, alerting, in-mode, isLocked, row-bound, withFop, timed, fit, word-read, legal-of}
+use Rattle.session.proofs.Rows.{modeOf, sound, atAll, atSuspended, atInitial, at-any, at-zero, at-initial, rowAny, Tested, any, word-ok, ad-ok, bd-ok, lower-ok, terminate-ok}
+use Rattle.session.proofs.Rows.{resume-rows, resume-ok}
+use Rattle.session.specs.Suspension.{admits, rejects}
+use Rattle.session.proofs.Inv.{Inv, in-mode, isLocked, row-bound, withFop, timed, fit, word-read, legal-of}
 use Rattle.session.proofs.Receiver.{ad-cases, begun, at}
 use Rattle.session.proofs.Clear.{length-places}
 use Rattle.session.proofs.Keys.{bit, bit-le, rank, rank-le, floor, waits, Keys, keys-le, keys-mono, keys-add, Tidy}
@@ -63,6 +65,16 @@ holds n s (ifNotSuspended xs ys u) = false
 
 abbrev rowHolds : FopEvent → Bool
 rowHolds e = atAll (holds 0) (table78 e) && atSuspended holds (table78 e)
+
+-- at every Suspend_State, or at the one at hand
+abbrev Holds : FopEvent → ℕ → Type 0
+Holds e n = T (rowHolds e) ⊎ T (atInitial holds n (table78 e))
+
+holds-at : (e : FopEvent) (f : Fop) → Holds e (f .suspendState) → T (sound (modeOf (effective f))) → T (unsuspended (f .state) (f .suspendState))
+    → T (holds (f .suspendState) (f .state) (cell78 (table78 e) (f .state)))
+holds-at e f (inl h) g o =
+    at-any holds (table78 e) (f .state) (f .suspendState) (and-l (atAll (holds 0) (table78 e)) _ h) (inr (and-r (atAll (holds 0) (table78 e)) _ h)) g o
+holds-at e f (inr h) g o = at-initial holds (table78 e) (f .state) (f .suspendState) h o
 
 -- by what is known of Suspend_State after the actions
 rank-after : (xs : List Action) (w : Work) (u : State) (k : ℕ) → T (leb (rank (effectiveOf u (suspendAll xs (w .fop .suspendState)))) k)
@@ -147,6 +159,10 @@ timer-holds : T (timerRow FopEvent.E16 && timerRow FopEvent.E17)
 unfolding table78
 timer-holds = tt
 
+suspending-holds : T (timerRow FopEvent.E104 && timerRow FopEvent.E18)
+unfolding table78
+suspending-holds = tt
+
 ad-holds : (c : Bool) → T (rowHolds (first (when c FopEvent.E19 ∷ []) FopEvent.E20))
 unfolding table78
 ad-holds c = first-all rowHolds (when c FopEvent.E19 ∷ []) FopEvent.E20 tt
@@ -162,6 +178,10 @@ lower-holds = lower-all rowHolds tt
 terminate-holds : T (rowHolds FopEvent.E29)
 unfolding table78
 terminate-holds = tt
+
+resume-holds : (v : ℕ) (f : Fop) → T (sound (modeOf (effective f))) → T (unsuspended (f .state) (f .suspendState)) → Holds (directiveEvent 6 v f) (f .suspendState)
+unfolding table78
+resume-holds = resume-rows Holds (inl tt) (inr tt) (inr tt) (inr tt)
 
 -- the sender's answers
 one-grows : (n : ℕ) (s : List Fdu) (f : Frame) → length s ≤ length (addSent n s f)
@@ -198,14 +218,13 @@ tidy-answered n σ ws w low t k a b =
     }
 
 -- a row that confirms nothing
-plain-tidy : (set : Settings) (σ : Session) (given : Given) (e : FopEvent) (o : List ℕ) (v : ℕ) → Inv set σ → Tidy (set .n) σ → Tested given e (σ .fop .suspendState) → T (rowHolds e)
+plain-tidy : (set : Settings) (σ : Session) (given : Given) (e : FopEvent) (o : List ℕ) (v : ℕ) → Inv set σ → Tidy (set .n) σ → Tested given e (σ .fop .suspendState) → Holds e (σ .fop .suspendState)
     → Reports given (set .n) (length (σ .confirmed)) (length (σ .accepted)) v o
     → Tidy (set .n) (answered (set .n) (fopDo e o v (σ .fop)) (channels (σ .frames) (σ .words) σ))
 unfolding fopDo
 plain-tidy set σ given e o v I t ok h r =
     let rk : rank (effective ((fopDo e o v (σ .fop)) .fop)) ≤ rank (effective (σ .fop)) =
-    holds-next (cell78 (table78 e) (σ .fop .state)) (begin (some e) o v (σ .fop)) (at-any holds (table78 e) (σ .fop .state) (σ .fop .suspendState)
-    (and-l (atAll (holds 0) (table78 e)) _ h) (inr (and-r (atAll (holds 0) (table78 e)) _ h)) (in-mode set σ I) (I .suspension .outside)) in
+    holds-next (cell78 (table78 e) (σ .fop .state)) (begin (some e) o v (σ .fop)) (holds-at e (σ .fop) h (in-mode set σ I) (I .suspension .outside)) in
     let cb = row-bound set σ given (length (σ .confirmed)) e o v I ok (omega arith) r in
     tidy-answered (set .n) σ (σ .words) (fopDo e o v (σ .fop)) (floor (effective (σ .fop)) (length (σ .confirmed))) t (t .keys) (omega (arith, rk, cb)) (t .below)
 
@@ -220,8 +239,8 @@ unfolding answered channels
 tick-tidy set σ I t =
     let τ : Session = withFop (lowered (σ .fop)) σ in
     let t' : Tidy (set .n) τ = record { keys = t .keys; waitFlag = t .waitFlag; waitMissing = t .waitMissing; missing = t .missing; below = t .below } in
-    tick-ways timerRow timer-holds (λ w. Tidy (set .n) (answered (set .n) w σ)) (σ .fop) (never-suspends (σ .fop) (alerting set σ I))
-    (λ e h. plain-tidy set τ nothing e [] 0 (timed set _ _ σ I) t' (any nothing e (and-l (rowAny nothing e) _ h)) (and-r (rowAny nothing e) _ h) tt)
+    tick-ways timerRow timer-holds (λ w. Tidy (set .n) (answered (set .n) w σ)) (σ .fop) (λ b. suspending-holds)
+    (λ e h. plain-tidy set τ nothing e [] 0 (timed set _ _ σ I) t' (any nothing e (and-l (rowAny nothing e) _ h)) (inl (and-r (rowAny nothing e) _ h)) tt)
     (tidy-answered (set .n) τ (σ .words) (begin none [] 0 (τ .fop)) (floor (effective (σ .fop)) (length (σ .confirmed))) t' (t .keys) (omega arith) (t .below))
 
 pub words-tidy : (n : ℕ) (σ : Session) (fs : List Frame) (ws : List Word) → Tidy n σ
@@ -349,32 +368,35 @@ rest-keys : (n S lo hi : ℕ) (ws : List Word) → Keys n S lo hi ws → Keys n 
 rest-keys n S lo hi [] h = h
 rest-keys n S lo hi (w ∷ ws) h = keys-mono n S S (2 * h .0 + bit (w .retransmit)) lo hi hi ws (omega arith) (h .2) (omega arith) (h .6)
 
-pub step-tidy : (set : Settings) → Within set → (e : Event) (σ : Session) → Inv set σ → Tidy (set .n) σ → Tidy (set .n) (step set e σ)
+pub step-tidy : (set : Settings) → Within set → (e : Event) (σ : Session) → admits (rejects e) (σ .fop) ≡ true → Inv set σ → Tidy (set .n) σ → Tidy (set .n) (step set e σ)
 unfolding step stepWith releases work judged fopAd fopBd fopLower fopDirective directiveEvent channels
-step-tidy set vw (adRequest o lent) σ I t =
+step-tidy set vw (adRequest o lent) σ a I t =
     sender-tidy set (requestAd o) lent σ t
     (λ j. plain-tidy set σ unit (first (when (isEmpty (σ .fop .queues .waitQueue)) FopEvent.E19 ∷ []) FopEvent.E20) o 0 I t
-    (any unit _ (ad-ok (isEmpty (σ .fop .queues .waitQueue)))) (ad-holds (isEmpty (σ .fop .queues .waitQueue))) (legal-of o j))
-step-tidy set vw (bdRequest o lent) σ I t =
+    (any unit _ (ad-ok (isEmpty (σ .fop .queues .waitQueue)))) (inl (ad-holds (isEmpty (σ .fop .queues .waitQueue)))) (legal-of o j))
+step-tidy set vw (bdRequest o lent) σ a I t =
     sender-tidy set (requestBd o) lent σ t
     (λ j. plain-tidy set σ unit (first (when (σ .fop .out .bd) FopEvent.E21 ∷ []) FopEvent.E22) o 0 I t (any unit _ (bd-ok (σ .fop .out .bd)))
-    (bd-holds (σ .fop .out .bd)) (legal-of o j))
-step-tidy set vw (ticks lent) σ I t = sender-tidy set fop.tick lent σ t (λ j. tick-tidy set σ I t)
-step-tidy set vw (lowerSays l lent) σ I t = sender-tidy set (lower l) lent σ t
-    (λ j. plain-tidy set σ nothing (lowerEvent l) [] 0 I t (lower-ok l, inl (I .suspension .serving)) (lower-holds l) tt)
-step-tidy set vw (terminate v lent) σ I t =
-    sender-tidy set (directive 5 v) lent σ t (λ j. plain-tidy set σ nothing FopEvent.E29 [] v I t (any nothing FopEvent.E29 terminate-ok) terminate-holds tt)
-step-tidy set vw (wordIn lent) σ I t = word-tidy set vw lent σ (σ .words) I t (I .words) (t .keys)
-step-tidy set vw wordLost σ I t = words-tidy (set .n) σ (σ .frames) (rest (σ .words)) t (rest-keys (set .n) _ _ _ (σ .words) (t .keys))
-step-tidy set vw (wordMade lent) σ I t =
+    (inl (bd-holds (σ .fop .out .bd))) (legal-of o j))
+step-tidy set vw (ticks lent) σ a I t = sender-tidy set fop.tick lent σ t (λ j. tick-tidy set σ I t)
+step-tidy set vw (lowerSays l lent) σ a I t = sender-tidy set (lower l) lent σ t
+    (λ j. plain-tidy set σ nothing (lowerEvent l) [] 0 I t (lower-ok l (σ .fop) a) (inl (lower-holds l)) tt)
+step-tidy set vw (terminate v lent) σ a I t =
+    sender-tidy set (directive 5 v) lent σ t (λ j. plain-tidy set σ nothing FopEvent.E29 [] v I t (any nothing FopEvent.E29 terminate-ok) (inl terminate-holds) tt)
+step-tidy set vw (resume v lent) σ a I t =
+    sender-tidy set (directive 6 v) lent σ t (λ j. plain-tidy set σ nothing (directiveEvent 6 v (σ .fop)) [] v I t
+    (resume-ok v (σ .fop) (in-mode set σ I) (I .suspension .outside)) (resume-holds v (σ .fop) (in-mode set σ I) (I .suspension .outside)) tt)
+step-tidy set vw (wordIn lent) σ a I t = word-tidy set vw lent σ (σ .words) I t (I .words) (t .keys)
+step-tidy set vw wordLost σ a I t = words-tidy (set .n) σ (σ .frames) (rest (σ .words)) t (rest-keys (set .n) _ _ _ (σ .words) (t .keys))
+step-tidy set vw (wordMade lent) σ a I t =
     words-tidy (set .n) σ (σ .frames) _ t
     (by-pick (Keys (set .n) _ _ _) (leb wordLength lent)
     (λ b. keys-add (set .n) _ _ (length (σ .accepted)) (σ .farm) (σ .words) (I .receiver .isVr) (I .receiver .noLock)
     (omega (arith, t .waitFlag, t .waitMissing)) (t .missing) (t .keys))
     (λ b. t .keys))
-step-tidy set vw frameIn σ I t = frame-tidy set vw σ (free set σ) (σ .frames) I t (I .base .fly)
-step-tidy set vw frameLost σ I t = words-tidy (set .n) σ (rest (σ .frames)) (σ .words) t (t .keys)
-step-tidy set vw release σ I t = by-pick (Tidy (set .n)) (isHeld σ) (λ e. release-tidy set σ I t) (λ e. t)
+step-tidy set vw frameIn σ a I t = frame-tidy set vw σ (free set σ) (σ .frames) I t (I .base .fly)
+step-tidy set vw frameLost σ a I t = words-tidy (set .n) σ (rest (σ .frames)) (σ .words) t (t .keys)
+step-tidy set vw release σ a I t = by-pick (Tidy (set .n)) (isHeld σ) (λ e. release-tidy set σ I t) (λ e. t)
 
 pub start-tidy : (set : Settings) → Tidy (set .n) (begun set)
 unfolding startSender startReceiver

@@ -1,7 +1,6 @@
 -- How the examples are written: their settings, what the table machines answer, event by event, and what they compute with.
-use mathlib.Core.Bool.{Bool, true, false}
 use mathlib.Core.List.{List, [], _∷_}
-use mathlib.Core.Option.{Option, none, some}
+use mathlib.Core.Option.{none, some}
 use Prim.Native.Nat.{ℕ}
 use Rattle.base.specs.Octets as octets
 use Rattle.base.specs.Fields as fields
@@ -20,17 +19,11 @@ use Rattle.farm.specs.declared.Event.{Event as FarmEvent}
 use Rattle.receiver.specs.declared.Receiver.{Receiver}
 use Rattle.fop.specs.Units as units
 use Rattle.fop.specs.Table as table
-use Rattle.fop.specs.declared.Alert.{Alert}
-use Rattle.fop.specs.declared.Alert.the-variants.{None}
-use Rattle.fop.specs.declared.State.{State}
-use Rattle.fop.specs.Table.{FopEvent}
-use Rattle.fop.specs.declared.Response.{Response}
 use Rattle.fop.specs.Variables.{Fop}
 use Rattle.fop.specs.Machine as machine
 use Rattle.fop.specs.Events as events
 use Rattle.fop.specs.Events.{requestAd, requestBd, tick, lower, directive, wordArrives}
 use Rattle.fop.specs.Answers as answers
-use Rattle.fop.specs.declared.Run.{Run}
 use Rattle.fop.specs.Answers.{Answer, senderAnswer}
 use Rattle.session.specs.Frames as frames
 use Rattle.session.specs.Receiver as rcv
@@ -38,8 +31,9 @@ use Rattle.session.specs.Receiver.{frameArrives, releaseBuffer, Receiver
 use Rattle.session.specs.Ends as ends
 use Rattle.session.specs.Ends.{Settings, Ends, tables}
 use Rattle.session.specs.Session as ses
-use Rattle.session.specs.Session.{Event, Linked, step, adRequest, bdRequest, ticks, lowerSays, terminate, wordIn, wordLost, wordMade, frameIn, frameLost, release}
+use Rattle.session.specs.Session.{Event, Linked, step, adRequest, bdRequest, ticks, lowerSays, terminate, resume, wordIn, wordLost, wordMade, frameIn, frameLost, release}
 use Rattle.session.specs.Claims.{outstanding}
+pub use Rattle.fop.proofs.Trace.{by, noEvent, withDown, withConfirmed, down, confirming, denying, aborting, responding, alerting, suspending}
 
 -- to unfold this is to unfold every definition that a session of the table machines computes with
 unfoldable pub computing : Unit {0}
@@ -86,6 +80,7 @@ said s (bdRequest o l) σ = S (senderAnswer (s .own) (requestBd o) l (σ .sender
 said s (ticks l) σ = S (senderAnswer (s .own) tick l (σ .sender))
 said s (lowerSays x l) σ = S (senderAnswer (s .own) (lower x) l (σ .sender))
 said s (terminate v l) σ = S (senderAnswer (s .own) (directive 5 v) l (σ .sender))
+said s (resume v l) σ = S (senderAnswer (s .own) (directive 6 v) l (σ .sender))
 said s (wordIn l) σ = ask s (σ .words) l (σ .sender)
 said s wordLost σ = N
 said s (wordMade l) σ = N
@@ -96,70 +91,6 @@ said s release σ = R (receiverAnswer releaseBuffer (σ .receiver))
 abbrev pub trace : (s : Settings) → List Event → Linked (tables s) → List Said
 trace s [] σ = []
 trace s (e ∷ es) σ = said s e σ ∷ trace s es (step s (tables s) e σ)
-
--- an answer: by an event, or a tick that is no expiry, to a next state
-abbrev nothing : Run
-nothing = record { number = 0; count = 0 }
-
-abbrev answering : Option FopEvent → State → Answer
-answering e s = record {
-  refusal = 0;
-  event = e;
-  state = s;
-  down = none;
-  abort = false;
-  responses = [];
-  alert = None;
-  suspended = false;
-  confirmed = nothing;
-  denied = nothing;
-}
-
-abbrev pub by : FopEvent → State → Answer
-by e s = answering (some e) s
-
-abbrev pub noEvent : State → Answer
-noEvent s = answering none s
-
--- the same answer but for the frame, the abort, the responses, the alert and the runs
-abbrev telling : Option (List ℕ) → Bool → List Response → Alert → Run → Run → Answer → Answer
-telling d b r l c n a = record {
-  refusal = a .refusal;
-  event = a .event;
-  state = a .state;
-  down = d;
-  abort = b;
-  responses = r;
-  alert = l;
-  suspended = a .suspended;
-  confirmed = c;
-  denied = n;
-}
-
--- and but for one of them
-abbrev pub withDown : Option (List ℕ) → Answer → Answer
-withDown d a = telling d (a .abort) (a .responses) (a .alert) (a .confirmed) (a .denied) a
-
-abbrev pub withConfirmed : Run → Answer → Answer
-withConfirmed r a = telling (a .down) (a .abort) (a .responses) (a .alert) r (a .denied) a
-
-abbrev pub down : List ℕ → Answer → Answer
-down o a = withDown (some o) a
-
-abbrev pub confirming : ℕ → ℕ → Answer → Answer
-confirming n c a = withConfirmed (record { number = n; count = c }) a
-
-abbrev pub denying : ℕ → ℕ → Answer → Answer
-denying n c a = telling (a .down) (a .abort) (a .responses) (a .alert) (a .confirmed) (record { number = n; count = c }) a
-
-abbrev pub aborting : Answer → Answer
-aborting a = telling (a .down) true (a .responses) (a .alert) (a .confirmed) (a .denied) a
-
-abbrev pub responding : List Response → Answer → Answer
-responding r a = telling (a .down) (a .abort) r (a .alert) (a .confirmed) (a .denied) a
-
-abbrev pub alerting : Alert → Answer → Answer
-alerting r a = telling (a .down) (a .abort) (a .responses) r (a .confirmed) (a .denied) a
 
 -- the receiver's: an event that hands out no unit, and one that does
 abbrev pub discarding : FarmEvent → ReceiverAnswer

@@ -2,7 +2,6 @@
 -- event alone (specs/Signed). The claims themselves lead it there: an offered unit must be sent, its frame accepted, the control word then made
 -- must report it, that word must confirm it, and after an expiry it must be sent again. Sending and accepting at all settings, the others at one.
 use mathlib.Core.Path.{_≡_, refl, ap, subst, _∙_, sym}
-use mathlib.Core.Logic.{_⊎_, inl, inr}
 use mathlib.Core.Bool.{Bool, true, false, true≢false, _||_}
 use mathlib.Core.List.{List, [], _∷_, _++_}
 use mathlib.Core.Option.{Option, none, some}
@@ -23,10 +22,16 @@ use Rattle.session.specs.Session as ses
 use Rattle.session.specs.Session.{Event, adRequest, ticks, lowerSays, wordMade, wordIn, frameIn}
 use Rattle.session.specs.Claims.{Claims, Sends, Resends, nextUnit, nextNumber, expected, remaining, member, outstanding, unitsAt, IsOutstanding}
 use Rattle.session.specs.Signed.{after, Demanded, Sending, Accepting, Resending, Confirming, SendingLater, Signed}
+use Rattle.session.proofs.Suspended.{noneReject, unrejected-none}
 use Rattle.session.proofs.Link.{reads}
 use Rattle.session.proofs.Trace.{computing, settings}
 
 -- at all settings
+module _ (set : Settings) (m : Ends) (c : Demanded set m) where
+  -- demand 3 after a list without a reject of the lower layer
+  claims : (es : List Event) → noneReject es ≡ true → Claims set m (after set m es) (ses.run set (tables set) es (ses.begins (tables set)))
+  claims es n = c es (unrejected-none set es (ses.begins (tables set)) n)
+
 module _ (set : Settings) (within : Within set) (m : Ends) (c : Demanded set m) where
   -- a unit is offered, with the room that its frame needs
   abbrev room : ℕ
@@ -40,7 +45,7 @@ module _ (set : Settings) (within : Within set) (m : Ends) (c : Demanded set m) 
 
   offered : Sends set {m = m} unit (after set m []) (after set m one)
   unfolding ses.run ses.begins startSender legal outstanding
-  offered = c [] .offered (7 ∷ []) room refl (omega arith) refl refl refl refl (omega (arith, within .windowLeast))
+  offered = claims set m c [] refl .offered (7 ∷ []) room refl (omega arith) refl refl refl refl (omega (arith, within .windowLeast))
 
   pub sends : Sending set m
   unfolding ses.run ses.begins
@@ -56,7 +61,7 @@ module _ (set : Settings) (within : Within set) (m : Ends) (c : Demanded set m) 
   accepts = record {
     events = adRequest (7 ∷ []) room ∷ frameIn ∷ [];
     unit = unit;
-    accepted = c one .accepts _ [] unit (offered .down) readable .1 (refl, refl, omega (arith, within .buffersLeast));
+    accepted = claims set m c one refl .accepts _ [] unit (offered .down) readable .1 (refl, refl, omega (arith, within .buffersLeast));
   }
 
 -- the settings of the other statements: K 3, two buffers, T1_Initial 1, Transmission_Limit 3
@@ -154,7 +159,7 @@ module _ (m : Ends) (c : Demanded set m) where
 
   first-sent : (after set m (first ∷ [])) .history .sent ≡ seven ∷ []
   unfolding computing
-  first-sent = c [] .offered (7 ∷ []) 256 refl (leb→le _ 256 tt) refl refl refl refl (leb→le _ 3 tt) .counted
+  first-sent = claims set m c [] refl .offered (7 ∷ []) 256 refl (leb→le _ 256 tt) refl refl refl refl (leb→le _ 3 tt) .counted
 
   abbrev due : List Event
   due = first ∷ ticks 256 ∷ []
@@ -165,7 +170,7 @@ module _ (m : Ends) (c : Demanded set m) where
     events = due;
     event = lowerSays AdAccept 256;
     unit = seven;
-    resent = c due .readyAgain seven 256 (leb→le _ 256 tt) refl refl;
+    resent = claims set m c due refl .readyAgain seven 256 (leb→le _ 256 tt) refl refl;
   }
 
   -- the lower layer is ready again, and a second unit is offered
@@ -181,7 +186,7 @@ module _ (m : Ends) (c : Demanded set m) where
   offered-next : length (outstanding ((after set m (first ∷ ready)) .history)) < 3
       → next-sent ≡ ready-sent ++ (nextUnit set ((after set m (first ∷ ready)) .history) (8 ∷ []) ∷ [])
   unfolding computing
-  offered-next few = c (first ∷ ready) .offered (8 ∷ []) 256 refl (leb→le _ 256 tt) refl refl refl refl few .counted
+  offered-next few = claims set m c (first ∷ ready) refl .offered (8 ∷ []) 256 refl (leb→le _ 256 tt) refl refl refl refl few .counted
 
   more : (a b : List Fdu) (u : Fdu) → b ≡ a ++ (u ∷ []) → length b ≡ length a + 1
   more a b u e = ap length e ∙ length-append a (u ∷ [])
@@ -209,11 +214,11 @@ module _ (m : Ends) (c : Demanded set m) where
 
   first-frame : (after set m (first ∷ [])) .frames ≡ written (set .own) (AD seven) ∷ []
   unfolding computing
-  first-frame = c [] .offered (7 ∷ []) 256 refl (leb→le _ 256 tt) refl refl refl refl (leb→le _ 3 tt) .down
+  first-frame = claims set m c [] refl .offered (7 ∷ []) 256 refl (leb→le _ 256 tt) refl refl refl refl (leb→le _ 3 tt) .down
 
   arrived-accepted : (after set m arrived) .history .accepted ≡ seven ∷ []
   unfolding computing
-  arrived-accepted = c (first ∷ []) .accepts _ [] seven first-frame refl .1 (refl, refl, leb→le 1 _ tt)
+  arrived-accepted = claims set m c (first ∷ []) refl .accepts _ [] seven first-frame refl .1 (refl, refl, leb→le 1 _ tt)
 
   -- an arrival changes neither the words under way nor what was sent, confirmed and denied
   record Same (σ τ : ses.Linked m) : Type 0 where
@@ -240,8 +245,8 @@ module _ (m : Ends) (c : Demanded set m) where
   unconfirmed : member 0 ((after set m (first ∷ [])) .history .confirmed) ≡ false
   unfolding ses.run ses.step ses.toSender ses.afterSender ses.begins
   unconfirmed =
-      none-confirmed ((after set m (first ∷ [])) .history .sent) ((after set m (first ∷ [])) .history .confirmed) (c (first ∷ []) .truly .0)
-      (c (first ∷ []) .truly .1)
+      none-confirmed ((after set m (first ∷ [])) .history .sent) ((after set m (first ∷ [])) .history .confirmed) (claims set m c (first ∷ []) refl .truly .0)
+      (claims set m c (first ∷ []) refl .truly .1)
 
   -- nor denied: after an expiry it must be sent again, and only an outstanding unit can be
   due-denied : (i : ℕ) → member i ((after set m due) .history .denied) ≡ false → member i ((after set m (first ∷ [])) .history .denied) ≡ false
@@ -255,7 +260,7 @@ module _ (m : Ends) (c : Demanded set m) where
 
   again : Resends set {m = m} seven (after set m due) (ses.step set m (lowerSays AdAccept 256) (after set m due))
   unfolding computing
-  again = c due .readyAgain seven 256 (leb→le _ 256 tt) refl refl
+  again = claims set m c due refl .readyAgain seven 256 (leb→le _ 256 tt) refl refl
 
   undenied : member 0 ((after set m (first ∷ [])) .history .denied) ≡ false
   undenied =
@@ -275,7 +280,7 @@ module _ (m : Ends) (c : Demanded set m) where
   )
 
   abbrev word : List ℕ
-  word = c arrived .words 4 (leb→le 4 4 tt) .0
+  word = claims set m c arrived refl .words 4 (leb→le 4 4 tt) .0
 
   no-words : (after set m (first ∷ [])) .words ≡ []
   unfolding ses.run ses.step ses.toSender ses.begins
@@ -283,7 +288,7 @@ module _ (m : Ends) (c : Demanded set m) where
 
   made-words : (after set m made) .words ≡ word ∷ []
   unfolding ses.run
-  made-words = c arrived .words 4 (leb→le 4 4 tt) .1 ∙ ap (λ (l : List (List ℕ)). l ++ (word ∷ [])) (kept .words ∙ no-words)
+  made-words = claims set m c arrived refl .words 4 (leb→le 4 4 tt) .1 ∙ ap (λ (l : List (List ℕ)). l ++ (word ∷ [])) (kept .words ∙ no-words)
 
   -- the number reported is the next to send
   reports-next : expected set ((after set m arrived) .history) ≡ nextNumber set ((after set m made) .history)
@@ -297,7 +302,7 @@ module _ (m : Ends) (c : Demanded set m) where
   unfolding computing
   confirms = record {
     events = first ∷ frameIn ∷ wordMade 4 ∷ wordIn word-room ∷ [];
-    confirmed = c made .clears word [] _ word-room made-words (c arrived .words 4 (leb→le 4 4 tt) .2) (omega arith) refl refl refl refl reports-next .0
+    confirmed = claims set m c made refl .clears word [] _ word-room made-words (claims set m c arrived refl .words 4 (leb→le 4 4 tt) .2) (omega arith) refl refl refl refl reports-next .0
         0 first-outstanding;
   }
 

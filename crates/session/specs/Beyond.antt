@@ -23,6 +23,7 @@ use Rattle.session.specs.Session.{Event, adRequest, lowerSays, wordIn, w
 use Rattle.session.specs.Claims.{Claims, BufferFree, unitsAt, member, nextNumber}
 use Rattle.session.specs.Stronger.{Stronger}
 use Rattle.session.specs.Channels.{LinkEvent, demanded, frameStays, wordStays, frameFilled, frameAgain, noise, wordNoise, isAd, isFill, negativeWindow, largestNegativeWindow, linkStep, linkRun}
+use Rattle.session.specs.Suspension.{linkUnrejected}
 
 -- R. What the receiver hands out: what it accepts, and nothing else. A frame that was repeated and is not accepted hands nothing out.
 pub record HandsOut (set : Settings) (m : Ends) (σ : Linked m) : Type 0 where
@@ -147,8 +148,14 @@ pub record BeyondAt (set : Settings) (kept : ℕ) (m : Ends) (σ : Linked m) (γ
   pub split : Split set kept m σ γ
   pub passes : Rest set σ γ → (os : List (List ℕ)) → allLegal os ≡ true → Passed set os σ (run set m (pass os) σ) (run set (tables set) (pass os) γ)
 
--- after every list of events, with a recorder that keeps at most NW units
+-- after every list of events in which no lower-layer reject comes while suspended, with a recorder that keeps at most NW units
 abbrev pub Beyond : Settings → Ends → Type 0
 Beyond set m =
-    (kept : ℕ) → kept ≤ negativeWindow set → (es : List LinkEvent)
+    (kept : ℕ) → kept ≤ negativeWindow set → (es : List LinkEvent) → linkUnrejected set kept es (begins (tables set)) ≡ true
+    → BeyondAt set kept m (linkRun set kept m es (begins m)) (linkRun set kept (tables set) es (begins (tables set)))
+
+-- and at Timeout_Type 0, where nothing is suspended, after every list of events
+abbrev pub BeyondAlerting : Settings → Ends → Type 0
+BeyondAlerting set m =
+    set .timeoutType ≡ 0 → (kept : ℕ) → kept ≤ negativeWindow set → (es : List LinkEvent)
     → BeyondAt set kept m (linkRun set kept m es (begins m)) (linkRun set kept (tables set) es (begins (tables set)))

@@ -1,5 +1,6 @@
 -- The settings of a session, the start, and a pair of ends: whatever they do, and what it is that they do as the tables say.
 use mathlib.Core.Path.{_≡_}
+use mathlib.Core.Logic.{_⊎_}
 use mathlib.Core.Bool.{false}
 use Prim.Native.Nat.{ℕ, _/_, _%_, _≤_}
 use Rattle.base.specs.Limits.{largestSpacecraft, largestChannel}
@@ -104,13 +105,17 @@ tables s = record {
   word = receiverWord;
 }
 
--- what a session brings to its sender: of the directives Terminate alone (directive 5)
+-- the directives that a session brings: Terminate (5) and, by document 02, order 9, Resume (6)
+abbrev pub SessionDirective : ℕ → Type 0
+SessionDirective d = (d ≡ 5) ⊎ (d ≡ 6)
+
+-- what a session brings to its sender
 abbrev pub Brought : SenderEvent → Type 0
 Brought (requestAd o) = Unit {0}
 Brought (requestBd o) = Unit {0}
 Brought tick = Unit {0}
 Brought (lower l) = Unit {0}
-Brought (directive d v) = d ≡ 5
+Brought (directive d v) = SessionDirective d
 Brought (wordArrives s) = Unit {0}
 
 -- What the contracts of the ends' functions give: of a well-formed state, which every event of a session keeps well-formed, the state seen as

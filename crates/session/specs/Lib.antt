@@ -4,6 +4,7 @@ pub mod Ends
 pub mod Session
 pub mod Claims
 pub mod Stronger
-pub mod Signed
 pub mod Channels
+pub mod Suspension
+pub mod Signed
 pub mod Beyond

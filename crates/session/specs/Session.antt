@@ -166,13 +166,13 @@ begins m = record {
 }
 
 -- the events; the last number is the room lent for a frame or word. To the sender: an AD or BD request, a tick, an answer of the lower layer,
--- Terminate with its value, which is not looked at, the oldest word; to the receiver: the oldest frame, a release; the receiver's control
--- word is made; the oldest frame or word is lost
+-- Terminate and Resume (document 02, order 9) each with its value, which is not looked at, the oldest word; to the receiver: the oldest frame, a
+-- release; the receiver's control word is made; the oldest frame or word is lost
 pub data Event : Type 0 where
   adRequest bdRequest : List ℕ → ℕ → Event
   ticks : ℕ → Event
   lowerSays : Lower → ℕ → Event
-  terminate : ℕ → ℕ → Event
+  terminate resume : ℕ → ℕ → Event
   wordIn wordMade : ℕ → Event
   wordLost frameIn frameLost release : Event
 
@@ -235,6 +235,7 @@ step set m (bdRequest o lent) σ = toSender set m (requestBd o) lent (σ .words)
 step set m (ticks lent) σ = toSender set m fop.tick lent (σ .words) σ
 step set m (lowerSays l lent) σ = toSender set m (fop.lower l) lent (σ .words) σ
 step set m (terminate v lent) σ = toSender set m (directive 5 v) lent (σ .words) σ
+step set m (resume v lent) σ = toSender set m (directive 6 v) lent (σ .words) σ
 step set m (wordIn lent) σ = wordCome set m lent (σ .words) σ
 step set m wordLost σ = channels m (σ .frames) (rest (σ .words)) σ
 step set m (wordMade lent) σ = channels m (σ .frames) (enters (σ .words) ((m .word lent (σ .receiver)) .word)) σ

@@ -9,15 +9,22 @@ use Rattle.fop.specs.Units.{Fdu}
 use Rattle.session.specs.Ends.{Settings, Ends, tables}
 use Rattle.session.specs.Session.{Event, Linked, begins, step, run}
 use Rattle.session.specs.Claims.{Claims, Resends, member}
+use Rattle.session.specs.Suspension.{unrejected}
 
 module _ (set : Settings) (m : Ends) where
   -- the ends after a list of events, from the start
   abbrev pub after : List Event → Linked m
   after es = run set m es (begins m)
 
-  -- demand 3, after every list of events
+  -- demand 3, after every list of events in which no lower-layer reject comes while suspended (document 02, order 9)
   abbrev pub Demanded : Type 0
-  Demanded = (es : List Event) → Claims set m (after es) (run set (tables set) es (begins (tables set)))
+  Demanded =
+      (es : List Event) → unrejected set es (begins (tables set)) ≡ true
+      → Claims set m (after es) (run set (tables set) es (begins (tables set)))
+
+  -- demand 3 as document 01 words it, at Timeout_Type 0: after every list of events
+  abbrev pub DemandedAlerting : Type 0
+  DemandedAlerting = set .timeoutType ≡ 0 → (es : List Event) → Claims set m (after es) (run set (tables set) es (begins (tables set)))
 
   -- a unit that sends: after some list of events a unit is sent
   pub record Sending : Type 0 where

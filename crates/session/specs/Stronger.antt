@@ -14,26 +14,20 @@ use Rattle.fop.specs.declared.State.{State}
 use Rattle.fop.specs.declared.State.the-variants.{S1, S2, S3, S4, S5, S6}
 use Rattle.fop.specs.declared.Response.the-variants.{AcceptAdUnit}
 use Rattle.fop.specs.Variables.{Fop}
+pub use Rattle.fop.specs.Effective.{inService}
+use Rattle.fop.specs.Effective.{effective, isSuspended}
 use Rattle.fop.specs.Machine.{fdus, firstMarked}
 use Rattle.fop.specs.Events.{SenderEvent, requestAd, requestBd, lower, directive, wordArrives}
 use Rattle.fop.specs.Events as fop
 use Rattle.fop.specs.Answers.{senderNext, senderAnswer}
+use Rattle.suspension.specs.Suspension.{suspendsAt}
 use Rattle.farm.specs.declared.State.the-variants.{Open}
 use Rattle.receiver.specs.declared.Receiver.{Receiver}
 use Rattle.session.specs.Frames.{read}
 use Rattle.session.specs.Receiver.{ReceiverEvent, frameArrives, releaseBuffer, wordLength, receiverNext, receiverAnswer}
-use Rattle.session.specs.Ends.{Settings, Ends, tables}
+use Rattle.session.specs.Ends.{Settings, Ends, tables, SessionDirective}
 use Rattle.session.specs.Session.{adRequest, bdRequest, wordIn, wordMade, frameIn, Linked, step, noUnit}
 use Rattle.session.specs.Claims.{unitsAt, IsOutstanding, outstanding, nextNumber, BufferFree, serves, Lent, Resends, Marked}
-
--- S1 to S3
-abbrev pub inService : State → Bool
-inService S1 = true
-inService S2 = true
-inService S3 = true
-inService S4 = false
-inService S5 = false
-inService S6 = false
 
 -- active, or resending with wait
 abbrev pub asking : State → Bool
@@ -64,10 +58,10 @@ pub data Sub {A : Type 0} : List A → List A → Type 0 where
 abbrev pub LimitOnly : ℕ → Alert → Type 0
 LimitOnly l r = (r ≡ None) ⊎ ((r ≡ Limit) × (l ≡ 1))
 
--- no alert, or term, T1 or LLIF, or at a transmission limit of 1 that of the limit
-abbrev pub KnownAlert : ℕ → Alert → Type 0
-KnownAlert l r =
-    (r ≡ None) ⊎ ((r ≡ Term) ⊎ ((r ≡ T1) ⊎ ((r ≡ Llif) ⊎ ((r ≡ Limit) × (l ≡ 1)))))
+-- no alert, or term or LLIF, or at Timeout_Type 0 T1, or at a transmission limit of 1 that of the limit
+abbrev pub KnownAlert : Settings → Alert → Type 0
+KnownAlert set r =
+    (r ≡ None) ⊎ ((r ≡ Term) ⊎ (((r ≡ T1) × (set .timeoutType ≡ 0)) ⊎ ((r ≡ Llif) ⊎ ((r ≡ Limit) × (set .limit ≡ 1)))))
 
 -- an event that demand 3's session can bring to the sender
 abbrev pub InSession : List (List ℕ) → SenderEvent → Type 0
@@ -75,22 +69,25 @@ InSession ws (requestAd o) = Unit {0}
 InSession ws (requestBd o) = Unit {0}
 InSession ws fop.tick = Unit {0}
 InSession ws (lower l) = Unit {0}
-InSession ws (directive d v) = d ≡ 5
+InSession ws (directive d v) = SessionDirective d
 InSession ws (wordArrives s) = (more : List (List ℕ)) × (ws ≡ s ∷ more)
 
 -- the stronger claims, after every list of events and at whatever event comes next
 pub record Stronger (set : Settings) (m : Ends) (σ : Linked m) (γ : Linked (tables set)) : Type 0 where
   -- at most K outstanding
   pub atMostK : length (outstanding (σ .history)) ≤ set .k
-  -- in service, Sent is Confirmed and then Outstanding; the Sent_Queue is exactly Outstanding; nothing is denied
-  pub standing : inService (γ .sender .state) ≡ true
+  -- in service, or suspended there, Sent is Confirmed and then Outstanding; the Sent_Queue is exactly Outstanding; nothing is denied
+  pub standing : inService (effective (γ .sender)) ≡ true
       → unitsAt (σ .history .sent) (σ .history .confirmed ++ somes (outstanding (σ .history))) ≡ map some (σ .history .sent)
-  pub queue : inService (γ .sender .state) ≡ true → fdus (γ .sender .queues .sentQueue) ≡ unitsOf (σ .history .sent) (outstanding (σ .history))
-  pub undenied : inService (γ .sender .state) ≡ true → σ .history .denied ≡ []
-  -- in Initial, Sent is Confirmed and then Denied
-  pub initial : γ .sender .state ≡ S6 → unitsAt (σ .history .sent) (σ .history .confirmed ++ σ .history .denied) ≡ map some (σ .history .sent)
-  -- no state but S1, S2, S3 and S6
+  pub queue : inService (effective (γ .sender)) ≡ true → fdus (γ .sender .queues .sentQueue) ≡ unitsOf (σ .history .sent) (outstanding (σ .history))
+  pub undenied : inService (effective (γ .sender)) ≡ true → σ .history .denied ≡ []
+  -- in Initial and not suspended, Sent is Confirmed and then Denied
+  pub initial : γ .sender .state ≡ S6 → γ .sender .suspendState ≡ 0
+      → unitsAt (σ .history .sent) (σ .history .confirmed ++ σ .history .denied) ≡ map some (σ .history .sent)
+  -- no state but S1, S2, S3 and S6; suspended only in S6, and only from S1, S2 and S3; at Timeout_Type 0 never
   pub states : (inService (γ .sender .state) ≡ true) ⊎ (γ .sender .state ≡ S6)
+  pub suspends : isSuspended (γ .sender) ≡ true → (γ .sender .state ≡ S6) × (inService (effective (γ .sender)) ≡ true)
+  pub unsuspended : set .timeoutType ≡ 0 → γ .sender .suspendState ≡ 0
   -- a unit that is sent at once is accepted, and starts the timer
   pub responds : (o : List ℕ) (lent : ℕ) → legal o ≡ true → Lent set (requestAd o) lent (γ .sender)
       → γ .sender .state ≡ S1 → γ .sender .out .ad ≡ true → γ .sender .queues .waitQueue ≡ none → firstMarked (γ .sender .queues .sentQueue) ≡ none
@@ -131,8 +128,12 @@ pub record Stronger (set : Settings) (m : Ends) (σ : Linked m) (γ : Linked (ta
       → (step set m frameIn σ) .history .acceptedBd ≡ σ .history .acceptedBd ++ (o ∷ [])
   -- to the next control word no synch, NN(R), CLCW or lockout alert, and that of the limit only at a limit of 1
   pub wordAlert : (s : List ℕ) (ws : List (List ℕ)) (lent : ℕ) → σ .words ≡ s ∷ ws → LimitOnly (set .limit) ((m .answer (wordArrives s) lent (σ .sender)) .alert)
-  -- and to whatever event no alert but term, T1, LLIF and that of the limit
-  pub alerts : (e : SenderEvent) (lent : ℕ) → InSession (σ .words) e → KnownAlert (set .limit) ((m .answer e lent (σ .sender)) .alert)
+  -- and to whatever event no alert but term, LLIF, T1 (at Timeout_Type 0) and that of the limit
+  pub alerts : (e : SenderEvent) (lent : ℕ) → InSession (σ .words) e → KnownAlert set ((m .answer e lent (σ .sender)) .alert)
+  -- a Suspend notification is given exactly by the expiry of the timer that suspends (crate suspension, `suspendsAt`)
+  pub notified : (e : SenderEvent) (lent : ℕ) → InSession (σ .words) e → (m .answer e lent (σ .sender)) .suspended ≡ true
+      → (e ≡ fop.tick) × (suspendsAt (γ .sender) ≡ true)
+  pub notifies : (lent : ℕ) → suspendsAt (γ .sender) ≡ true → (m .answer fop.tick lent (σ .sender)) .suspended ≡ true
   -- the refusals of demand 3's session are 10 and 11 (sender), 11 and 13 (receiver)
   pub refusals : (e : SenderEvent) (lent : ℕ) → InSession (σ .words) e
       → ((m .answer e lent (σ .sender)) .refusal ≡ 0) ⊎ (((m .answer e lent (σ .sender)) .refusal ≡ 10) ⊎ ((m .answer e lent (σ .sender)) .refusal ≡ 11))

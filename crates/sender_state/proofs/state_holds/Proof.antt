@@ -13,32 +13,50 @@ is-empty-requires c κs = search needs
 enum-told : tie.Need-enum-told
 enum-told c = search needs
 
-enum-told-2 : tie.Need-enum-told-2
-enum-told-2 c = search needs
-
-enum-told-3 : tie.Need-enum-told-3
-enum-told-3 c = search needs
-
-enum-told-4 : tie.Need-enum-told-4
-enum-told-4 c = search needs
-
 both-requires : tie.Need-both-requires
 both-requires c κs = search needs
 
-enum-told-5 : tie.Need-enum-told-5
-enum-told-5 c = search needs
+enum-told-2 : tie.Need-enum-told-2
+enum-told-2 c = search needs
 
 both-requires-2 : tie.Need-both-requires-2
 both-requires-2 c κs = search needs
 
-enum-told-6 : tie.Need-enum-told-6
-enum-told-6 c = search needs
+enum-told-3 : tie.Need-enum-told-3
+enum-told-3 c = search needs
 
 both-requires-3 : tie.Need-both-requires-3
 both-requires-3 c κs = search needs
 
+enum-told-4 : tie.Need-enum-told-4
+enum-told-4 c = search needs
+
 both-requires-4 : tie.Need-both-requires-4
 both-requires-4 c κs = search needs
+
+both-requires-5 : tie.Need-both-requires-5
+both-requires-5 c κs = search needs
+
+enum-told-5 : tie.Need-enum-told-5
+enum-told-5 c = search needs
+
+both-requires-6 : tie.Need-both-requires-6
+both-requires-6 c κs = search needs
+
+both-requires-7 : tie.Need-both-requires-7
+both-requires-7 c κs = search needs
+
+enum-told-6 : tie.Need-enum-told-6
+enum-told-6 c = search needs
+
+initial-holds-requires : tie.Need-initial-holds-requires
+initial-holds-requires c κs = search needs
+
+both-requires-8 : tie.Need-both-requires-8
+both-requires-8 c κs = search needs
+
+both-requires-9 : tie.Need-both-requires-9
+both-requires-9 c κs = search needs
 
 returns : tie.Need-returns
 returns c = search in-s1
@@ -65,15 +83,21 @@ state-holds-spec =
     is-frame-requires
     is-empty-requires
     enum-told
-    enum-told-2
-    enum-told-3
-    enum-told-4
     both-requires
-    enum-told-5
+    enum-told-2
     both-requires-2
-    enum-told-6
+    enum-told-3
     both-requires-3
+    enum-told-4
     both-requires-4
+    both-requires-5
+    enum-told-5
+    both-requires-6
+    both-requires-7
+    enum-told-6
+    initial-holds-requires
+    both-requires-8
+    both-requires-9
     returns
     returns-2
     returns-3

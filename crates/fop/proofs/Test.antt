@@ -7,14 +7,14 @@ use mathlib.Core.List.{List, [], _∷_}
 use mathlib.Core.Option.{Option, none, some}
 use Prim.Native.Nat.{_-_}
 use lib.Dec.{T, ltb, eqb}
 use Rattle.fop.specs.declared.State.{State}
 use Rattle.fop.specs.declared.State.the-variants.{S1, S2, S3, S4, S5, S6}
 use Rattle.fop.specs.Table.{Action, Cell, Row, row, cell78, FopEvent, E16, E17, E18, E104, E41, E42, E43, E44, E45, E46}
 use Rattle.fop.specs.Variables.{Fop, Work, begin, setClock}
 use Rattle.fop.specs.Machine.{perform, performAll, fopDo}
 use Rattle.fop.specs.declared.Lower.{Lower}
 use Rattle.fop.specs.Events.{Line, when, first, expiryLines, fopExpiry, fopTick, lowerEvent}
-use Rattle.session.proofs.Choices.{and-l, and-r, by-pick}
+use Rattle.fop.proofs.Choices.{and-l, and-r, by-pick}
 
 -- every cell of a row
 abbrev pub everyCell : (Cell → Bool) → Row → Bool

@@ -7,11 +7,11 @@ use Prim.Native.Nat.{ℕ, _<_}
 use lib.Dec.{ltb}
 use borrow.Author.Tests.{ltb-true}
 use Rattle.base.specs.Modulo.{offset}
 use Rattle.fop.specs.Units.{Fdu}
 use Rattle.fop.specs.declared.Response.{Response}
 use Rattle.fop.specs.Variables.{BcEntry, Work, handDown, onFop, respond, runs, setBc, setOut, setSequence, setWait}
 use Rattle.fop.specs.Machine.{denyBc, fdus, firstMarked, lookForDirective, lookForFdu, purge, rejectWaiting, sendNext, sendWaiting}
-use Rattle.session.proofs.Choices.{by-pick}
+use Rattle.fop.proofs.Choices.{by-pick}
 
 -- with both queues empty, and the units sent denied
 abbrev pub emptied : Work → Work

@@ -1,0 +1,5 @@
+pub mod Choices
+pub mod Test
+pub mod Ways
+pub mod Lent
+pub mod Trace
