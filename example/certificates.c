@@ -20,7 +20,7 @@
 #define K 8 /* at most W / 2 */
 #define T1 12
 #define TRANSMISSION_LIMIT 3
-#define TIMEOUT_TYPE 0
+#define TIMEOUT_TYPE PONDRESZI_TIMEOUT_ALERT
 #define FIRST_NUMBER 250 /* V(S) and V(R) at the start; numbers wrap soon */
 
 #define FRAME_PASSES 4 /* what a frame takes on the radio at the most */

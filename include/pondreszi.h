@@ -43,7 +43,7 @@
 extern "C" {
 #endif
 
-/* Limits (document 01; frames, units and K: document 02, order 7). ------------------------------------------------------------- */
+/* Limits (document 01; frames, units and K: document 02, order 7; Timeout_Type: order 9). -------------------------------------- */
 
 #define PONDRESZI_SMALLEST_FRAME 8 /* octets of a transfer frame, with its FECF */
 #define PONDRESZI_LARGEST_FRAME 1024
@@ -82,6 +82,8 @@ extern "C" {
 #define PONDRESZI_LARGEST_T1 65535
 #define PONDRESZI_SMALLEST_TRANSMISSION_LIMIT 1
 #define PONDRESZI_LARGEST_TRANSMISSION_LIMIT 255
+#define PONDRESZI_LARGEST_TIMEOUT_TYPE 1
+#define PONDRESZI_LARGEST_SUSPEND_STATE 4
 
 /*
  * The octets that the sender's store must have: places for K units sent and one waiting, each of the largest length. Where K was set
@@ -316,16 +318,20 @@ uint8_t pondreszi_receiver_word(const uint8_t *state, size_t state_len, uint8_t 
  * Its state, 278 octets; numbers of two octets have the high octet first. Read them, but let only the functions below write them.
  *
  *   0 53 hex                     8-9 spacecraft           16 enum pondreszi_sender_flag, added
- *   1 layout, 2                  10 channel               17 Suspend_State, 0 for now
+ *   1 layout, 2                  10 channel               17 Suspend_State: 0 not suspended, 1 to 4 the state left
  *   2 enum pondreszi_fop_state   11 V(S)                  18 units on the sent queue
  *   3 K                          12 NN(R)                 19 of these to be sent again, always the last ones
  *   4-5 T1_Initial               13-14 timer, ticks left, 20 type-BC frame on the sent queue: 0 none, 1 Unlock, 2 Set V(R)
  *   6 Transmission_Limit               0 stopped          21 the value of Set V(R)
- *   7 Timeout_Type, 0 for now    15 Transmission_Count    22-277 the lengths of the 128 places of the store, two octets each
+ *   7 Timeout_Type               15 Transmission_Count    22-277 the lengths of the 128 places of the store, two octets each
  *
  * Every call but pondreszi_sender_new wants exactly 278 octets of a state, otherwise 12. Octets of the former layout, with 1 in octet 1,
  * are refused with 12 too, since their store has another stride. The length of a place that holds no unit is left from before, so two
  * states can mean the same and differ in octets 22 to 277: compare what they mean, not their octets.
+ *
+ * A suspended sender is Initial (S6) with a Suspend_State of 1 to 4. Its octets are a state as any others. No state, and refused with 12:
+ * a Suspend_State above 4, or not 0 outside S6, or 4 with a unit on the sent queue or waiting; in S6 a running timer, or units while not
+ * suspended.
  *
  * The store holds the units at a stride of 1,017 octets from its first octet on: those on the sent queue, the oldest first, and directly
  * behind them the unit that waits. It is part of the state: its octets are to be the same at the next call, and are kept with the state's
@@ -367,7 +373,16 @@ enum pondreszi_fop_state {
     PONDRESZI_FOP_RETRANSMIT_WITH_WAIT = 3,    /* S3 */
     PONDRESZI_FOP_INITIALISING_WITHOUT_BC = 4, /* S4: a control word is awaited */
     PONDRESZI_FOP_INITIALISING_WITH_BC = 5,    /* S5: Unlock or Set V(R) was sent */
-    PONDRESZI_FOP_INITIAL = 6                  /* S6: no AD service; after a start, an alert or Terminate */
+    PONDRESZI_FOP_INITIAL = 6                  /* S6: no AD service; after a start, an alert or Terminate, or suspended */
+};
+
+/*
+ * Timeout_Type: what an expiry of the timer does at the transmission limit, and while a control word is awaited (S4) at any count. Below
+ * the limit units, or the type-BC frame, are sent again, but in S3. With a type-BC frame (S5) it is the alert at the limit with both.
+ */
+enum pondreszi_timeout_type {
+    PONDRESZI_TIMEOUT_ALERT = 0,  /* PONDRESZI_ALERT_T1 ends the AD service */
+    PONDRESZI_TIMEOUT_SUSPEND = 1 /* the AD service is suspended until PONDRESZI_RESUME */
 };
 
 enum pondreszi_sender_flag {
@@ -381,7 +396,7 @@ enum pondreszi_sender_flag {
 /*
  * The answer to an event, the first 18 octets of the answer's buffer.
  *
- *   0 refusal, as returned                                        7 suspended, 0 for now
+ *   0 refusal, as returned                                        7 suspended: 1 at the event that suspends
  *   1 event: the row of table 7-8, 1 to 46 or 101 to 104; 0 none  8 count of responses, 0 to 4
  *   2 state, enum pondreszi_fop_state                             9-12 responses in their order, then 0
  *   3-4 octets of the frame handed down, at the front of the      13 confirmed: number of the first unit, 14 their count
@@ -393,6 +408,11 @@ enum pondreszi_sender_flag {
  * The kind tells which accept or reject of the lower layer answers the frame: that of AD, of BD, or of BC for Unlock and Set V(R).
  * A confirmed unit was accepted on board. Of a denied one this is not known, and its frame may still be under way: see
  * enum pondreszi_directive for what must be waited for before the service begins again.
+ *
+ * Octet 7 is the Suspend notification. From then to Resume the sender is Initial and keeps its units with their marks, the unit that
+ * waits, V(S), NN(R) and Transmission_Count: no AD frame is handed down, no unit confirmed or denied, unless the lower layer rejects a
+ * frame or an Initiate is accepted. AD units offered are rejected, control words are ignored and so lost, Terminate is accepted and changes
+ * nothing. BD units are sent as ever.
  */
 enum pondreszi_answer_octet {
     PONDRESZI_ANSWER_REFUSAL = 0,
@@ -415,7 +435,9 @@ enum pondreszi_answer_octet {
 
 /*
  * An alert ends the AD service: the units outstanding are denied, a unit that waits is rejected, the timer stops, and the sender is
- * Initial.
+ * Initial. PONDRESZI_ALERT_LLIF can come while suspended too, and the suspension stays, with no unit left: the numbers of the units denied
+ * still count in the window, and Set V(S) is rejected. Then Resume and at once Terminate, and go on as after an alert; or Initiate with
+ * Set V(R) (docs/OPERATIONS.md, "Suspension and Resume").
  */
 enum pondreszi_alert {
     PONDRESZI_ALERT_NONE = 0,
@@ -424,7 +446,7 @@ enum pondreszi_alert {
     PONDRESZI_ALERT_LIMIT = 3,   /* at a transmission limit of 1, a control word asked for retransmission */
     PONDRESZI_ALERT_NNR = 4,     /* a report value that cannot be */
     PONDRESZI_ALERT_LOCKOUT = 5, /* the receiver is locked out */
-    PONDRESZI_ALERT_T1 = 6,      /* the timer expired at the transmission limit, or while a control word was awaited (S4) */
+    PONDRESZI_ALERT_T1 = 6,      /* the timer expired, see enum pondreszi_timeout_type */
     PONDRESZI_ALERT_TERM = 7,    /* Terminate was asked */
     PONDRESZI_ALERT_LLIF = 8     /* the lower layer rejected a frame */
 };
@@ -449,19 +471,23 @@ enum pondreszi_response {
  * frame is under way any more, whoever handed it down; a control word has come in that was made after that; and V(S) is, or by SET_VS
  * becomes, its report value, or INITIATE_WITH_SET_VR is used. Otherwise an old unit can be on board under the number of a new one, and the
  * new one be confirmed. docs/OPERATIONS.md, "Before the service begins again", says why and how a ground station knows it.
+ *
+ * RESUME ends a suspension: the sender is in the state left again, with its units, marks, numbers and count, and the timer is started.
+ * It hands no frame down. Where Transmission_Count stands at the limit the next expiry suspends again: SET_TRANSMISSION_LIMIT before RESUME,
+ * if units are to be sent again. An INITIATE that is accepted ends a suspension too: the units are denied, the unit that waits is rejected.
  */
 enum pondreszi_directive {
     PONDRESZI_INITIATE_WITHOUT_CHECK = 1,
     PONDRESZI_INITIATE_WITH_CLCW_CHECK = 2,
     PONDRESZI_INITIATE_WITH_UNLOCK = 3,
     PONDRESZI_INITIATE_WITH_SET_VR = 4, /* value 0 to 255 */
-    PONDRESZI_TERMINATE = 5,
-    PONDRESZI_RESUME = 6,                  /* always rejected for now, since nothing suspends */
-    PONDRESZI_SET_VS = 7,                  /* value 0 to 255; sets NN(R) too; in Initial only */
+    PONDRESZI_TERMINATE = 5,               /* while suspended it changes nothing */
+    PONDRESZI_RESUME = 6,                  /* rejected where nothing is suspended */
+    PONDRESZI_SET_VS = 7,                  /* value 0 to 255; sets NN(R) too; in Initial only, and not while suspended */
     PONDRESZI_SET_K = 8,                   /* value 1 to 127; the store lent with it must do for the new K */
     PONDRESZI_SET_TIMER = 9,               /* T1_Initial: value 1 to 65,535 */
     PONDRESZI_SET_TRANSMISSION_LIMIT = 10, /* value 1 to 255 */
-    PONDRESZI_SET_TIMEOUT_TYPE = 11        /* value 0 only, for now */
+    PONDRESZI_SET_TIMEOUT_TYPE = 11        /* value 0 or 1, enum pondreszi_timeout_type */
 };
 
 /*
@@ -480,7 +506,7 @@ enum pondreszi_lower_layer {
 /*
  * A sender at its start: Initial, queues empty, flags Ready, timer stopped. The state's first 278 octets are written; of the store only
  * the length matters. V(S) will be the number of the first AD unit; give NN(R) the same. Initiate before the first AD unit.
- * Any two numbers are taken; where V(S) - NN(R) is K or more, AD units wait. timeout_type: 0 only, for now.
+ * Any two numbers are taken; where V(S) - NN(R) is K or more, AD units wait. timeout_type: enum pondreszi_timeout_type.
  * Refusals: 12 a value outside its limit; 11 store under PONDRESZI_STORE_OCTETS(k) octets, or state's buffer under 278.
  */
 uint8_t pondreszi_sender_new(uint32_t k, uint32_t t1_initial, uint32_t transmission_limit, uint32_t timeout_type, uint32_t spacecraft,

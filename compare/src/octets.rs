@@ -3,9 +3,11 @@
 
 use independent::farm1::{self, Farm1};
 use independent::fault::Fault;
-use independent::fop1::{Answer, Response, Sender, K_MOST, UNIT_MOST};
+use independent::fop1::{
+    Answer, Response, Sender, K_MOST, SUSPEND_STATE_MOST, TIMEOUT_TYPE_MOST, UNIT_MOST,
+};
 use independent::frame::Content;
-use independent::table_7_8::Reason;
+use independent::table_7_8::{Reason, State};
 
 pub const SENDER_STATE: usize = LENGTHS + 2 * PLACES;
 pub const ANSWER: usize = 18;
@@ -151,20 +153,89 @@ impl SenderState {
         (1..=K_MOST).contains(&(self.k as usize))
             && self.t1_initial >= 1
             && self.transmission_limit >= 1
-            && self.timeout_type == 0
+            && usize::from(self.timeout_type) <= TIMEOUT_TYPE_MOST
             && u32::from(self.spacecraft) <= SPACECRAFT_MOST
             && u32::from(self.channel) <= CHANNEL_MOST
     }
 
-    /// No more units are sent than V(S) - NN(R) and the largest K, none in Initial.
+    /// No more units are sent than V(S) - NN(R) and the largest K.
     fn numbers_hold(&self) -> bool {
         let unacknowledged = self.v_s.wrapping_sub(self.nn_r) as usize;
         self.marks.len() <= K_MOST
             && self.marks.len() <= unacknowledged
-            && (self.marks.is_empty() || self.state != 6)
             && self.transmission_count >= 1
-            && self.suspend_state == 0
             && !self.lengths.contains(&0)
+    }
+
+    /// Only Initial is suspended (clause 7.2.2), and there the timer is stopped. Units are sent or
+    /// waiting in S1 to S3, or where a suspension left these; a type-BC frame is on the Sent_Queue
+    /// in S5 and nowhere else.
+    fn state_holds(&self, fault: Fault) -> bool {
+        let suspended = self.suspend_state > 0;
+        let initial = self.state == State::S6.number();
+        let held_by = if suspended {
+            self.suspend_state
+        } else {
+            self.state
+        };
+        let serving = (State::S1.number()..=State::S3.number()).contains(&held_by)
+            || (suspended && fault == Fault::SuspendedUnitsTaken);
+        let with_command = self.state == State::S5.number();
+        self.suspend_state <= SUSPEND_STATE_MOST
+            && (!suspended || (initial && fault != Fault::SuspendedStateRefused))
+            && (self.timer == 0 || !initial)
+            && (serving || self.lengths.is_empty())
+            && (self.control.0 != 0) == with_command
+    }
+
+    /// The octets of the state, zero the lengths of places that hold no unit.
+    pub fn octets(&self) -> Vec<u8> {
+        let mut octets = vec![0; SENDER_STATE];
+        let marked = self.marks.iter().filter(|mark| **mark).count();
+        let flags = [
+            self.ad_out_ready,
+            self.bc_out_ready,
+            self.bd_out_ready,
+            self.waiting,
+            self.control_marked,
+        ];
+        let flags = flags
+            .iter()
+            .rev()
+            .fold(0, |all, flag| 2 * all + *flag as u8);
+        let [t1_high, t1_low] = self.t1_initial.to_be_bytes();
+        let [spacecraft_high, spacecraft_low] = self.spacecraft.to_be_bytes();
+        let [timer_high, timer_low] = self.timer.to_be_bytes();
+        let first = [
+            SENDER_MARK,
+            SENDER_LAYOUT,
+            self.state,
+            self.k,
+            t1_high,
+            t1_low,
+            self.transmission_limit,
+            self.timeout_type,
+            spacecraft_high,
+            spacecraft_low,
+            self.channel,
+            self.v_s,
+            self.nn_r,
+            timer_high,
+            timer_low,
+            self.transmission_count,
+            flags,
+            self.suspend_state,
+            self.marks.len() as u8,
+            marked as u8,
+            self.control.0,
+            self.control.1,
+        ];
+        octets[..LENGTHS].copy_from_slice(&first);
+        for (place, length) in self.lengths.iter().enumerate() {
+            let place = LENGTHS + 2 * place;
+            octets[place..place + 2].copy_from_slice(&length.to_be_bytes());
+        }
+        octets
     }
 }
 
@@ -196,7 +267,7 @@ pub fn no_sender_state(octets: &[u8], fault: Fault) -> bool {
         Some(state) => {
             let lengths = (0..PLACES).map(|place| two(octets, LENGTHS + 2 * place));
             let too_long = lengths.max() > Some(UNIT_MOST as u16);
-            too_long || !state.within_limits() || !state.numbers_hold()
+            too_long || !state.within_limits() || !state.numbers_hold() || !state.state_holds(fault)
         }
     }
 }
@@ -357,6 +428,7 @@ mod tests {
             SenderState::read(&octets),
             Some(SenderState::of(&started()))
         );
+        assert_eq!(SenderState::of(&started()).octets(), octets);
         assert!(!no_sender_state(&octets, Fault::None));
     }
 
@@ -388,6 +460,7 @@ mod tests {
             0, 0, 3, 3, 249, 0, 1,
         ]);
         let state = SenderState::of(&sender);
+        assert_eq!(state.octets(), octets);
         assert_eq!(SenderState::read(&octets), Some(state.clone()));
         assert_eq!(state.marks, [false, true]);
         assert!(!no_sender_state(&octets, Fault::None));
@@ -417,11 +490,13 @@ mod tests {
             200,
         ]);
         let state = SenderState::of(&sender);
+        assert_eq!(state.octets(), octets);
         assert_eq!(SenderState::read(&octets), Some(state));
         let bad_octets = [
             [(0, 0x52), (1, 1), (2, 0), (2, 7), (3, 0), (3, 128)],
             [(6, 0), (8, 4), (10, 64), (16, 64), (16, 32), (18, 1)],
-            [(7, 1), (15, 0), (17, 1), (19, 1), (20, 3), (22, 4)],
+            [(7, 2), (15, 0), (17, 1), (19, 1), (20, 3), (22, 4)],
+            [(2, 1), (2, 6), (7, 255), (17, 4), (20, 0), (16, 13)],
         ];
         for (place, octet) in bad_octets.into_iter().flatten() {
             let good = std::mem::replace(&mut octets[place], octet);
@@ -438,6 +513,76 @@ mod tests {
         // Any two numbers are a sender's.
         octets[11] = 233;
         assert!(!no_sender_state(&octets, Fault::None));
+    }
+
+    // One unit of 3 octets sent and to be sent again, one of 1 octet waiting; suspended in S1.
+    #[test]
+    fn state_of_a_suspended_sender() {
+        let mut sender = started();
+        take(&mut sender, DIRECTIVE(8, 1));
+        take(&mut sender, DIRECTIVE(9, 1));
+        take(&mut sender, DIRECTIVE(10, 2));
+        assert_eq!(take(&mut sender, DIRECTIVE(11, 1))[..2], [0, 39]);
+        take(&mut sender, DIRECTIVE(1, 0));
+        take(&mut sender, Event::AdRequest(vec![7; 3]));
+        take(&mut sender, Event::AdRequest(vec![9]));
+        assert_eq!(take(&mut sender, Event::Tick)[..3], [0, 104, 1]);
+        let suspended = take(&mut sender, Event::Tick);
+        assert_eq!(
+            suspended,
+            [0, 18, 6, 0, 0, 0, 0, 1, 0, 0, 0, 0, 0, 0, 0, 0, 0, 0]
+        );
+        let octets = whole(&[
+            0x53, 2, 6, 1, 0, 1, 2, 1, 0x02, 0xA5, 3, 0, 255, 0, 0, 2, 14, 1, 1, 1, 0, 0, 0, 3, 0,
+            1,
+        ]);
+        assert_eq!(SenderState::of(&sender).octets(), octets);
+        assert!(no_sender_state(&octets, Fault::SuspendedStateRefused));
+        let is_state = |places: &[(usize, u8)]| {
+            let mut octets = octets.clone();
+            for (place, octet) in places {
+                octets[*place] = *octet;
+            }
+            !no_sender_state(&octets, Fault::None)
+        };
+        // As it is, in S2 and S3, with Timeout_Type 0, with one unit alone, with nothing.
+        let (none_sent, none_waiting) = ([(18, 0), (19, 0)], (16, 6));
+        let [sent, marked] = none_sent;
+        for places in [
+            &[][..],
+            &[(17, 2)],
+            &[(17, 3)],
+            &[(7, 0)],
+            &[none_waiting],
+            &none_sent,
+            &[sent, marked, none_waiting],
+            &[sent, marked, none_waiting, (17, 4)],
+            &[sent, marked, none_waiting, (17, 0)],
+        ] {
+            assert!(is_state(places), "{places:?}");
+        }
+        // Suspend_State over 4, not 0 outside S6, 4 with a unit sent or waiting, a running timer in
+        // S6, units in S6 without a suspension, a type-BC frame, Timeout_Type 2.
+        for places in [
+            &[(17, 5)][..],
+            &[(17, 255)],
+            &[(2, 1)],
+            &[(2, 2), (17, 2)],
+            &[(2, 1), (17, 3)],
+            &[sent, marked, none_waiting, (17, 4), (2, 4)],
+            &[sent, marked, none_waiting, (2, 5), (20, 1)],
+            &[(17, 4), none_waiting],
+            &[(17, 4), sent, marked],
+            &[(14, 1)],
+            &[(13, 1)],
+            &[sent, marked, none_waiting, (17, 0), (14, 1)],
+            &[(17, 0), none_waiting],
+            &[(17, 0), sent, marked],
+            &[(20, 1)],
+            &[(7, 2)],
+        ] {
+            assert!(!is_state(places), "{places:?}");
+        }
     }
 
     #[test]

@@ -64,6 +64,8 @@ fn limits() -> Values {
         "LARGEST_T1" = LARGEST_T1,
         "SMALLEST_TRANSMISSION_LIMIT" = SMALLEST_TRANSMISSION_LIMIT,
         "LARGEST_TRANSMISSION_LIMIT" = LARGEST_TRANSMISSION_LIMIT,
+        "LARGEST_TIMEOUT_TYPE" = LARGEST_TIMEOUT_TYPE,
+        "LARGEST_SUSPEND_STATE" = LARGEST_SUSPEND_STATE,
     }
 }
 
@@ -189,6 +191,8 @@ fn sender() -> Values {
         "FOP_INITIALISING_WITHOUT_BC" = SenderState::InitialisingWithoutBc.number(),
         "FOP_INITIALISING_WITH_BC" = SenderState::InitialisingWithBc.number(),
         "FOP_INITIAL" = SenderState::Initial.number(),
+        "TIMEOUT_ALERT" = TimeoutType::Alert.number(),
+        "TIMEOUT_SUSPEND" = TimeoutType::Suspend.number(),
         "SENDER_AD_OUT_READY" = sender_flag::AD_OUT_READY,
         "SENDER_BC_OUT_READY" = sender_flag::BC_OUT_READY,
         "SENDER_BD_OUT_READY" = sender_flag::BD_OUT_READY,

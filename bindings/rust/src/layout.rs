@@ -56,7 +56,7 @@ pub mod sender {
     pub const T1_INITIAL: usize = 4;
     /// Transmission_Limit.
     pub const TRANSMISSION_LIMIT: usize = 6;
-    /// Timeout_Type.
+    /// [`crate::TimeoutType`].
     pub const TIMEOUT_TYPE: usize = 7;
     /// The spacecraft, two octets.
     pub const SPACECRAFT: usize = 8;
@@ -72,7 +72,8 @@ pub mod sender {
     pub const TRANSMISSION_COUNT: usize = 15;
     /// The flags of [`super::sender_flag`], added.
     pub const FLAGS: usize = 16;
-    /// Suspend_State.
+    /// Suspend_State: 0 where nothing is suspended, otherwise the number of the
+    /// [`crate::SenderState`] left.
     pub const SUSPEND_STATE: usize = 17;
     /// The units on the sent queue.
     pub const SENT: usize = 18;
@@ -114,7 +115,7 @@ pub mod answer {
     pub const ABORT: usize = 5;
     /// [`crate::Alert`].
     pub const ALERT: usize = 6;
-    /// A Suspend notification.
+    /// 1 at the event that suspends: the Suspend notification.
     pub const SUSPENDED: usize = 7;
     /// The count of responses.
     pub const RESPONSES: usize = 8;

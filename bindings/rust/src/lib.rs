@@ -60,5 +60,5 @@ pub use receiver::{Received, Receiver, ReceiverEvent, ReceiverSettings, Receiver
 pub use refusal::{Refusal, Refused};
 pub use sender::{
     Alert, Answer, Directive, HandedDown, LowerLayer, RefusedEvent, Response, Run, Sender,
-    SenderSettings, SenderState,
+    SenderSettings, SenderState, TimeoutType,
 };

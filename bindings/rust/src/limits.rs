@@ -1,5 +1,5 @@
-//! The limits of document 01, some of them moved by order 7 of document 02, and the octets of what
-//! crosses, as include/pondreszi.h names them.
+//! The limits of document 01, some of them moved by orders 7 and 9 of document 02, and the octets
+//! of what crosses, as include/pondreszi.h names them.
 
 /// The octets of the smallest transfer frame, with its FECF.
 pub const SMALLEST_FRAME: usize = 8;
@@ -84,6 +84,13 @@ pub const SMALLEST_TRANSMISSION_LIMIT: u8 = 1;
 
 /// The largest Transmission_Limit.
 pub const LARGEST_TRANSMISSION_LIMIT: u8 = 255;
+
+/// The largest Timeout_Type ([`crate::TimeoutType`]); the smallest is 0.
+pub const LARGEST_TIMEOUT_TYPE: u8 = 1;
+
+/// The largest Suspend_State, the number of the state that a suspension left; 0 where nothing is
+/// suspended.
+pub const LARGEST_SUSPEND_STATE: u8 = 4;
 
 /// The octets that the store of a sender must have: places for K units sent and one waiting, each
 /// of the largest length.

@@ -4,7 +4,7 @@ use std::mem;
 
 use crate::frame::Kind;
 use crate::layout::answer;
-use crate::layout::sender::{FLAGS, K, MARKED, NNR, SENT, STATE, TIMER, VS};
+use crate::layout::sender::{FLAGS, K, MARKED, NNR, SENT, STATE, SUSPEND_STATE, TIMER, VS};
 use crate::layout::sender_flag::UNIT_WAITS;
 use crate::layout::NONE;
 use crate::library;
@@ -22,7 +22,7 @@ pub struct SenderSettings {
     pub t1_initial: u16,
     /// Transmission_Limit, at least 1.
     pub transmission_limit: u8,
-    /// Timeout_Type, 0 only for now.
+    /// Timeout_Type, 0 or 1: the number of a [`TimeoutType`].
     pub timeout_type: u8,
     /// The spacecraft, 0 to 1,023.
     pub spacecraft: u16,
@@ -47,8 +47,20 @@ numbered! {
         InitialisingWithoutBc = 4,
         /// S5: Unlock or Set V(R) was sent.
         InitialisingWithBc = 5,
-        /// S6: no AD service; after a start, an alert or Terminate.
+        /// S6: no AD service; after a start, an alert or Terminate, or suspended
+        /// ([`Sender::suspended`]).
         Initial = 6,
+    }
+}
+
+numbered! {
+    /// What an expiry of the timer does at the transmission limit, and while a control word is
+    /// awaited (S4) at any count. With a type-BC frame (S5) it is the alert at the limit with both.
+    TimeoutType {
+        /// [`Alert::T1`] ends the AD service.
+        Alert = 0,
+        /// The AD service is suspended until [`Directive::Resume`].
+        Suspend = 1,
     }
 }
 
@@ -70,11 +82,19 @@ pub enum Directive {
     InitiateWithUnlock,
     /// Initiate AD service with Set V(R).
     InitiateWithSetVr(u8),
-    /// Terminate AD service.
+    /// Terminate AD service. While suspended it is accepted and changes nothing; an Initiate ends
+    /// the suspension, with its units denied.
     Terminate,
-    /// Resume AD service: rejected for now, since nothing suspends.
+    /// Resume AD service: back to the state that a suspension left, with its units, marks, numbers
+    /// and count, and the timer started. No frame is handed down. Rejected where nothing is
+    /// suspended.
+    ///
+    /// Where Transmission_Count stands at the limit the next expiry suspends again: set the limit
+    /// before, if units are to be sent again. After [`Alert::Llif`] while suspended no unit is left, but
+    /// the numbers of those denied still count in the window: resume and terminate at once, then go on
+    /// as after an alert, or initiate with Set V(R).
     Resume,
-    /// Set V(S), and NN(R) with it; in Initial only.
+    /// Set V(S), and NN(R) with it; in Initial only, and not while suspended.
     SetVs(u8),
     /// Set K, 1 to 127. The sender's store grows with it.
     SetK(u8),
@@ -82,7 +102,7 @@ pub enum Directive {
     SetTimer(u16),
     /// Set Transmission_Limit, at least 1.
     SetTransmissionLimit(u8),
-    /// Set Timeout_Type, 0 only for now.
+    /// Set Timeout_Type, 0 or 1: the number of a [`TimeoutType`].
     SetTimeoutType(u8),
 }
 
@@ -152,7 +172,8 @@ numbered! {
 
 numbered! {
     /// Why the AD service ended (table 7-4). The units outstanding are denied, a unit that waits
-    /// is rejected, the timer stops, and the sender is Initial.
+    /// is rejected, the timer stops, and the sender is Initial. `Llif` can come while suspended too,
+    /// and the suspension stays, with no unit left.
     Alert {
         /// Report value and flags contradict the state.
         Synch = 1,
@@ -164,7 +185,7 @@ numbered! {
         Nnr = 4,
         /// The receiver is locked out.
         Lockout = 5,
-        /// The timer expired at the transmission limit, or while a control word was awaited.
+        /// The timer expired ([`TimeoutType`]).
         T1 = 6,
         /// Terminate was asked.
         Term = 7,
@@ -218,6 +239,8 @@ pub struct Answer {
     pub responses: Vec<Response>,
     /// The alert, if any.
     pub alert: Option<Alert>,
+    /// The Suspend notification: the AD service is suspended at this event.
+    pub suspended: bool,
     /// The units accepted on board, as is now known.
     pub confirmed: Run,
     /// The units of which it will not be known.
@@ -251,6 +274,7 @@ impl Answer {
                 NONE => None,
                 number => Some(Alert::from_number(number).expect("an alert")),
             },
+            suspended: octets[answer::SUSPENDED] != 0,
             confirmed: Run {
                 first: octets[answer::CONFIRMED_FIRST],
                 count: octets[answer::CONFIRMED],
@@ -309,6 +333,7 @@ impl fmt::Debug for Sender {
             .field("vs", &self.vs())
             .field("nnr", &self.nnr())
             .field("timer", &self.timer())
+            .field("suspended", &self.suspended())
             .field("sent", &self.sent())
             .field("waiting", &self.waiting())
             .finish_non_exhaustive()
@@ -547,6 +572,42 @@ impl Sender {
     /// assert_eq!(answer.denied.count, 1);
     /// # Ok::<(), pondreszi::Refused>(())
     /// ```
+    ///
+    /// With Timeout_Type 1 the AD service is suspended instead, until Resume or an Initiate. Unless
+    /// the lower layer rejects a frame meanwhile, no AD unit is sent, confirmed or denied from the
+    /// suspension to its Resume, and control words are ignored. For a deep
+    /// pass: the timer is short, units go up as often as the limit says, and once control words can
+    /// come in the service is resumed to take them.
+    ///
+    /// ```
+    /// use pondreszi::{Directive, Sender, SenderSettings, SenderState, TimeoutType};
+    /// let mut sender = Sender::new(SenderSettings {
+    ///     k: 10, t1_initial: 2, transmission_limit: 2,
+    ///     timeout_type: TimeoutType::Suspend.number(),
+    ///     spacecraft: 42, channel: 3, vs: 0, nnr: 0,
+    /// })?;
+    /// sender.directive(Directive::InitiateWithoutCheck)?;
+    /// let first = sender.request_ad(b"unit")?.frame.unwrap();
+    /// sender.lower_layer(first.kind.accept())?;
+    /// sender.tick()?;
+    /// let again = sender.tick()?.frame.unwrap();
+    /// assert_eq!(again, first);
+    /// sender.lower_layer(again.kind.accept())?;
+    ///
+    /// sender.tick()?;
+    /// assert!(sender.tick()?.suspended);
+    /// assert_eq!(sender.state(), SenderState::Initial);
+    /// assert_eq!(sender.suspended(), Some(SenderState::Active));
+    /// let word = [0x01, 0x0C, 0, 1];
+    /// assert_eq!(sender.control_word(&word)?.confirmed.count, 0);
+    /// sender.directive(Directive::Terminate)?;
+    /// assert_eq!((sender.suspended(), sender.sent()), (Some(SenderState::Active), 1));
+    ///
+    /// assert_eq!(sender.directive(Directive::Resume)?.state, SenderState::Active);
+    /// assert_eq!((sender.suspended(), sender.timer()), (None, Some(2)));
+    /// assert_eq!(sender.control_word(&word)?.confirmed.count, 1);
+    /// # Ok::<(), pondreszi::Refused>(())
+    /// ```
     pub fn tick(&mut self) -> Result<Answer, RefusedEvent> {
         self.event(|lent| unsafe {
             library::pondreszi_sender_tick(
@@ -656,6 +717,11 @@ impl Sender {
     /// The state of table 7-8.
     pub fn state(&self) -> SenderState {
         SenderState::from_number(self.state[STATE]).expect("a sender has a state")
+    }
+
+    /// The state to which Resume leads, where the AD service is suspended.
+    pub fn suspended(&self) -> Option<SenderState> {
+        SenderState::from_number(self.state[SUSPEND_STATE])
     }
 
     /// V(S), the number that the next AD unit gets.

@@ -121,6 +121,21 @@ impl Raw {
         }
     }
 
+    fn tick(&mut self) -> u8 {
+        unsafe {
+            library::pondreszi_sender_tick(
+                self.state.as_mut_ptr(),
+                self.state.len(),
+                self.store.as_mut_ptr(),
+                self.store.len(),
+                self.output.as_mut_ptr(),
+                self.output.len(),
+                self.answer.as_mut_ptr(),
+                ANSWER_OCTETS,
+            )
+        }
+    }
+
     fn responses(&self) -> Vec<u8> {
         let count = usize::from(self.answer[answer::RESPONSES]);
         self.answer[answer::FIRST_RESPONSE..][..count].to_vec()
@@ -355,6 +370,19 @@ fn limits_of_senders() {
         let good = (least..=u32::from(LARGEST_TRANSMISSION_LIMIT)).contains(&value);
         assert_eq!(sender.directive_raw(set_limit, value).is_ok(), good);
     }
+    let types = ends(|timeout_type| {
+        Sender::new(SenderSettings {
+            timeout_type,
+            ..SENDER
+        })
+        .is_ok()
+    });
+    assert_eq!(types, Some((0, LARGEST_TIMEOUT_TYPE)));
+    let set_timeout_type = Directive::SetTimeoutType(0).number_and_value().0;
+    for value in (0..300).chain([65_536, 1 << 24]) {
+        let good = value <= u32::from(LARGEST_TIMEOUT_TYPE);
+        assert_eq!(sender.directive_raw(set_timeout_type, value).is_ok(), good);
+    }
     for zero in [
         SenderSettings {
             t1_initial: SMALLEST_T1 - 1,
@@ -428,11 +456,6 @@ fn settings_of_32_bits() {
             assert_eq!(receiver_new(numbers, &mut state), setting);
         }
     }
-    let other = SenderSettings {
-        timeout_type: 1,
-        ..SENDER
-    };
-    assert_eq!(refusal(Sender::new(other)), Some(Refusal::Setting));
 }
 
 #[test]
@@ -803,27 +826,91 @@ fn places_of_a_senders_command() {
     );
 }
 
-/// Octets that are 0 for now: with any other value there the octets are no state. Their
-/// neighbours can have another.
-#[test]
-fn places_that_are_judged_only() {
-    let mut sender = active(SENDER);
+/// The first expiry suspends.
+const SUSPENDING: SenderSettings = SenderSettings {
+    t1_initial: 1,
+    transmission_limit: 1,
+    timeout_type: TimeoutType::Suspend.number(),
+    ..SENDER
+};
+
+/// A unit is sent and one waits; then the sender is suspended.
+fn suspended() -> Sender {
+    let mut sender = active(SUSPENDING);
     sender.request_ad(&[7; 3]).unwrap();
-    sender.lower_layer(LowerLayer::AdAccept).unwrap();
     sender.request_ad(&[8]).unwrap();
-    let values_taken = |place: usize| {
-        let taken = |value: &u8| {
-            let mut state = *sender.octets();
-            state[place] = *value;
-            Sender::restore(&state, sender.store().into()).is_ok()
-        };
-        (0..=255).filter(taken).count()
+    assert!(sender.tick().unwrap().suspended);
+    sender
+}
+
+/// The values of an octet with which the state is still one.
+fn values_taken(sender: &Sender, place: usize) -> Vec<u8> {
+    let taken = |value: &u8| {
+        let mut state = *sender.octets();
+        state[place] = *value;
+        Sender::restore(&state, sender.store().into()).is_ok()
     };
-    for place in [layout::sender::TIMEOUT_TYPE, layout::sender::SUSPEND_STATE] {
-        assert_eq!(sender.octets()[place], 0);
-        assert_eq!(values_taken(place), 1);
-        assert!(values_taken(place - 1) > 1 && values_taken(place + 1) > 1);
-    }
+    (0..=255).filter(taken).collect()
+}
+
+/// Timeout_Type, Suspend_State and the notification, as a suspension has them.
+#[test]
+fn places_of_a_suspension() {
+    use layout::sender::*;
+    let sender = active(SUSPENDING);
+    assert_eq!(sender.octets()[TIMEOUT_TYPE], TimeoutType::Suspend.number());
+    assert_eq!(
+        values_taken(&sender, TIMEOUT_TYPE),
+        TimeoutType::ALL.map(TimeoutType::number)
+    );
+    // Only in Initial something is suspended.
+    assert_eq!(values_taken(&sender, SUSPEND_STATE), [NONE]);
+
+    // With units it is in S1 to S3 that it was left, without any also in S4, or nowhere.
+    let sender = suspended();
+    let state = sender.octets();
+    assert_eq!(state[SUSPEND_STATE], SenderState::Active.number());
+    assert_eq!(state[STATE], SenderState::Initial.number());
+    assert_eq!(sender.suspended(), Some(SenderState::Active));
+    assert_eq!((state[SENT], sender.waiting()), (1, true));
+    assert_eq!(values_taken(&sender, SUSPEND_STATE), [1, 2, 3]);
+    assert_eq!(values_taken(&sender, TIMER + 1), [0]);
+    let mut empty = sender.clone();
+    empty.lower_layer(LowerLayer::AdReject).unwrap();
+    let all: Vec<u8> = (0..=LARGEST_SUSPEND_STATE).collect();
+    assert_eq!(values_taken(&empty, SUSPEND_STATE), all);
+
+    let mut raw = Raw::of(&active(SUSPENDING));
+    raw.request_ad(&[7]);
+    assert_eq!(raw.answer[answer::SUSPENDED], 0);
+    assert_eq!(raw.tick(), NONE);
+    assert_eq!(raw.answer[answer::EVENT], 18);
+    assert_eq!(raw.answer[answer::SUSPENDED], 1);
+    assert_eq!(raw.answer[answer::ALERT], NONE);
+    assert_eq!(raw.answer[answer::DENIED], 0);
+    assert_eq!(raw.directive(Directive::Resume), NONE);
+    assert_eq!(raw.answer[answer::EVENT], 31);
+    assert_eq!(raw.answer[answer::SUSPENDED], 0);
+}
+
+/// What the crate tells of each Timeout_Type at the limit.
+#[test]
+fn timeout_types() {
+    let expired = |timeout_type: TimeoutType| {
+        let mut sender = active(SenderSettings {
+            timeout_type: timeout_type.number(),
+            ..SUSPENDING
+        });
+        sender.request_ad(&[7]).unwrap();
+        let answer = sender.tick().unwrap();
+        (answer.alert, answer.suspended, sender.suspended())
+    };
+    let alert = (Some(Alert::T1), false, None);
+    assert_eq!(expired(TimeoutType::Alert), alert);
+    let suspend = (None, true, Some(SenderState::Active));
+    assert_eq!(expired(TimeoutType::Suspend), suspend);
+    let numbers = TimeoutType::ALL.map(TimeoutType::number);
+    assert_eq!(numbers.last(), Some(&LARGEST_TIMEOUT_TYPE));
 }
 
 #[test]
@@ -985,10 +1072,27 @@ fn directives() {
         (Directive::SetK(9), 36),
         (Directive::SetTimer(9), 37),
         (Directive::SetTransmissionLimit(9), 38),
-        (Directive::SetTimeoutType(0), 39),
+        (Directive::SetTimeoutType(1), 39),
     ] {
         assert_eq!(after(directive).0, row);
     }
+    for left in 1..=LARGEST_SUSPEND_STATE {
+        let mut sender = suspended();
+        sender.lower_layer(LowerLayer::AdReject).unwrap();
+        let mut state = *sender.octets();
+        state[SUSPEND_STATE] = left;
+        let mut sender = Sender::restore(&state, sender.store().into()).unwrap();
+        let left = SenderState::from_number(left);
+        assert_eq!(sender.suspended(), left);
+        let answer = sender.directive(Directive::Resume).unwrap();
+        assert_eq!(
+            (answer.event, Some(answer.state)),
+            (30 + answer.state.number(), left)
+        );
+        assert_eq!(sender.suspended(), None);
+    }
+    let of_type = after(Directive::SetTimeoutType(1)).1;
+    assert_eq!(of_type[TIMEOUT_TYPE], TimeoutType::Suspend.number());
     assert_eq!(after(Directive::InitiateWithUnlock).1[BC_FRAME], 1);
     assert_eq!(after(Directive::InitiateWithSetVr(9)).1[BC_VALUE], 9);
     assert_eq!(after(Directive::SetVs(9)).1[VS..=NNR], [9, 9]);

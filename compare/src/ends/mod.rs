@@ -14,7 +14,8 @@ use crate::octets::LENGTHS;
 use crate::random::Random;
 use crate::settings::{self, print_names, Settings};
 use independent::fault::{
-    Fault, FOP_FAULTS, PASS_FAULTS, PROGRAM_FAULTS, SESSION_FAULTS, STORE_FAULTS,
+    Fault, FOP_FAULTS, KEPT_FAULTS, PASS_FAULTS, PROGRAM_FAULTS, SESSION_FAULTS, STORE_FAULTS,
+    SUSPENSION_FAULTS,
 };
 use std::process::ExitCode;
 use std::time::Instant;
@@ -75,10 +76,16 @@ fn faults(mode: &Mode) -> Vec<(&'static str, Fault)> {
     let of_a_pass = FOP_FAULTS
         .iter()
         .filter(|fault| PASS_FAULTS.contains(&fault.1));
+    let of_a_suspension = SUSPENSION_FAULTS
+        .iter()
+        .filter(|fault| KEPT_FAULTS.contains(&fault.1));
     match mode {
-        Mode::Sender => [&FOP_FAULTS[..], &STORE_FAULTS].concat(),
+        Mode::Sender => [&FOP_FAULTS[..], &SUSPENSION_FAULTS, &STORE_FAULTS].concat(),
         Mode::Receiver => farm_faults(),
-        Mode::Session => SESSION_FAULTS.iter().chain(of_a_pass).copied().collect(),
+        Mode::Session => {
+            let faults = SESSION_FAULTS.iter().chain(of_a_pass);
+            faults.chain(of_a_suspension).copied().collect()
+        }
     }
 }
 
@@ -86,7 +93,7 @@ fn faults(mode: &Mode) -> Vec<(&'static str, Fault)> {
 fn others(mode: &Mode) -> Vec<(&'static str, Fault)> {
     match mode {
         Mode::Sender | Mode::Receiver => Vec::new(),
-        Mode::Session => [&FOP_FAULTS[..], &farm_faults()].concat(),
+        Mode::Session => [&FOP_FAULTS[..], &SUSPENSION_FAULTS, &farm_faults()].concat(),
     }
 }
 

@@ -4,37 +4,31 @@ use super::sender_end::{self, call, Call, Expected, SenderEnd};
 use super::{compare_runs, damage, refusal, Counts, Report, ENOUGH_TO_MEET_ALL};
 use crate::check::Tally;
 use crate::inputs::fop1::{self as inputs, Manner};
+use crate::inputs::suspended;
 use crate::library::{SenderEvent, SenderMemory, SenderSettings};
 use crate::octets::{in_former_layout, is_former_layout, ANSWER, SENDER_STATE};
 use crate::random::Random;
 use crate::settings::Settings;
 use independent::clcw;
 use independent::fault::Fault;
-use independent::fop1::{self, Sender, K_MOST, UNIT_MOST};
-use independent::frame::FRAME_MOST;
+use independent::fop1::{self, Answer, Sender, K_MOST, UNIT_MOST};
+use independent::frame::{self, FRAME_MOST};
 use independent::refusal::{ADDRESS, DONE, LENGTH, ROOM, SETTING};
+use independent::suspension::{self, Law};
 use independent::table_7_8::{cell, Cell, STATES, TABLE};
-
-/// These rows need a Timeout_Type of 1 or a Suspend_State: document 01, FOP-1.
-const ROWS_NEVER_MET: [u8; 6] = [18, 31, 32, 33, 34, 104];
 
 /// The octets of the shortest unit beyond the limit.
 const TOO_LONG: usize = UNIT_MOST + 1;
 
-const KINDS: [&str; 23] = [
+/// Once in so many events a suspended sender is restored.
+const RESTORED: usize = 150;
+
+const KINDS: [&str; 15] = [
     "new",
     "new refused 11",
     "new refused 12",
-    "AD request",
-    "BD request",
-    "directive of another number",
     "value above 65535",
-    "tick",
     "lower layer of another number",
-    "word",
-    "word of another channel",
-    "word invalid",
-    "word of another length",
     "frame handed down",
     "unit of 1017 octets",
     "unit of 1018 octets",
@@ -45,6 +39,17 @@ const KINDS: [&str; 23] = [
     "Set K upwards with units sent",
     "Set K downwards with units sent",
     "Set K below the units sent",
+];
+
+const EVENTS: [&str; 8] = [
+    "AD request",
+    "BD request",
+    "directive of another number",
+    "tick",
+    "word",
+    "word of another channel",
+    "word invalid",
+    "word of another length",
 ];
 
 /// Those of the widest window.
@@ -79,7 +84,14 @@ const LOWER_LAYER: [&str; 6] = [
     "BD_Reject",
 ];
 
-const LENDINGS: [&str; 12] = [
+/// What comes while suspended beside the events.
+const WHILE_SUSPENDED: [&str; 3] = [
+    "Resume with value 0",
+    "Resume with another value",
+    "BD frame handed down",
+];
+
+const LENDINGS: [&str; 13] = [
     "whole",
     "store longer than the need",
     "store one octet too short",
@@ -92,26 +104,36 @@ const LENDINGS: [&str; 12] = [
     "former layout",
     "no state",
     "damaged and perhaps a state",
+    "suspended sender restored",
 ];
 
 struct Met {
     kinds: Counts,
+    /// The events that come to a suspended sender, and are not short of room.
+    while_suspended: Counts,
     lendings: Counts,
+    /// Octets that are no state, though nearly of a suspended sender.
+    ill_formed: Counts,
     refusals: Counts,
     states: Counts,
     rows: Counts,
     cells: Counts,
+    /// The cases of the law of suspension.
+    law: Counts,
+}
+
+/// Counts of some things by name.
+fn named<'a>(title: &'static str, names: impl IntoIterator<Item = &'a str>) -> Counts {
+    Counts::new(title, names.into_iter().map(str::to_string))
 }
 
 impl Met {
     fn new() -> Met {
-        let kinds = [&KINDS[..], &DIRECTIVES, &LOWER_LAYER].concat();
-        let rows = || {
-            TABLE
-                .iter()
-                .map(|row| row.event)
-                .filter(|row| !ROWS_NEVER_MET.contains(row))
-        };
+        let events = [&EVENTS[..], &DIRECTIVES, &LOWER_LAYER].concat();
+        let kinds = [&KINDS[..], &events].concat();
+        let while_suspended = [&events[..], &WHILE_SUSPENDED].concat();
+        let law = suspension::Met::default().named();
+        let rows = || TABLE.iter().map(|row| row.event);
         let refusals = [DONE, ADDRESS, LENGTH, ROOM, SETTING].map(refusal);
         let met_in = |row: u8| {
             STATES
@@ -120,8 +142,10 @@ impl Met {
                 .map(move |state| cell_name(row, state.number()))
         };
         Met {
-            kinds: Counts::new("kinds", kinds.iter().map(|name| name.to_string())),
-            lendings: Counts::new("lent", LENDINGS.iter().map(|name| name.to_string())),
+            kinds: named("kinds", kinds),
+            while_suspended: named("while suspended", while_suspended),
+            lendings: named("lent", LENDINGS),
+            ill_formed: named("no state", suspended::ILL_FORMED.map(|kind| kind.0)),
             refusals: Counts::new("refusals", refusals.into_iter()),
             states: Counts::new("states", STATES.iter().map(|state| format!("{state:?}"))),
             rows: Counts::new("rows", rows().map(|row| format!("E{row}"))),
@@ -130,6 +154,14 @@ impl Met {
                 required: false,
                 ..Counts::new("cells", rows().flat_map(met_in))
             },
+            law: named("law of suspension", law.map(|met| met.0)),
+        }
+    }
+
+    /// What the law met in a run.
+    fn meet_law(&mut self, law: &Law) {
+        for (name, count) in law.met.named() {
+            self.law.meet_often(name, count as u64);
         }
     }
 }
@@ -170,11 +202,14 @@ pub fn compare(settings: &Settings) -> Report {
         runs,
         counts: vec![
             met.kinds,
+            met.while_suspended,
             met.lendings,
+            met.ill_formed,
             met.refusals,
             met.states,
             met.rows,
             met.cells,
+            met.law,
         ],
     }
 }
@@ -209,20 +244,28 @@ fn run(
     met: &mut Met,
 ) {
     let least = if manner.full { 700 } else { 100 };
+    let mut law = Law::from(&sender);
     for n in 0..random.between(least, 1500) {
         if tally.inputs >= settings.count {
-            return;
+            break;
+        }
+        if !manner.full && random.once_in(RESTORED) {
+            met.meet_law(&law);
+            (end, sender) = restored(random, &sender);
+            law = Law::from(&sender);
+            met.lendings.meet("suspended sender restored");
         }
         let event = inputs::event(random, manner, &sender);
-        let memory = memory(&event, &end, &sender, random, met);
+        let (memory, ill_formed) = memory(&event, &end, &sender, random, met);
         let before = sender.clone();
         let call = call(&event, memory);
         let is_damaged = call.before.state != end.state;
         let is_former = is_former_layout(&call.before.state);
+        let is_no_state = is_former || ill_formed.is_some();
         let expected = match call.refused_at_once(settings.fault) {
             Some(expected) => expected,
             // Perhaps a state by chance: only that nothing beside it is touched is judged.
-            None if is_damaged && !is_former => {
+            None if is_damaged && !is_no_state => {
                 met.lendings.meet("damaged and perhaps a state");
                 tally.compared(true, String::new);
                 continue;
@@ -234,8 +277,12 @@ fn run(
         } else if is_damaged {
             met.lendings.meet("no state");
         }
+        if let Some(why) = ill_formed {
+            met.ill_formed.meet(why);
+        }
         meet(&call, &expected, &before, met);
-        let differences = call.differences(&expected, &sender);
+        let mut differences = call.differences(&expected, &sender);
+        differences.extend(check_law(&mut law, &event, &expected, (&before, &sender)));
         tally.compared(differences.is_empty(), || {
             format!(
                 "  event {n} of the run: {}\n{}",
@@ -244,12 +291,32 @@ fn run(
             )
         });
         if !differences.is_empty() {
-            return;
+            break;
         }
         if !is_damaged {
             end.keep(call, &sender);
         }
     }
+    met.meet_law(&law);
+}
+
+/// The law of suspension where the event came to the sender.
+fn check_law(
+    law: &mut Law,
+    event: &SenderEvent,
+    expected: &Expected,
+    (before, after): (&Sender, &Sender),
+) -> Option<String> {
+    let event = sender_end::independent_event(event)?;
+    let answer = expected.answer.as_ref()?;
+    law.check(before, &event, answer, after).err()
+}
+
+/// A suspended sender whose octets the library did not write.
+fn restored(random: &mut Random, settings: &Sender) -> (SenderEnd, Sender) {
+    let sender = suspended::sender(random, settings);
+    let (state, store) = suspended::octets(random, &sender);
+    (SenderEnd { state, store }, sender)
 }
 
 /// What the independent sender answers.
@@ -263,14 +330,14 @@ fn expected(call: &Call, sender: &mut Sender, fault: Fault) -> Expected {
     }
 }
 
-/// What is lent: mostly enough.
+/// What is lent: mostly enough. Where the octets are made to be no state, why they are none.
 fn memory(
     event: &SenderEvent,
     end: &SenderEnd,
     sender: &Sender,
     random: &mut Random,
     met: &mut Met,
-) -> SenderMemory {
+) -> (SenderMemory, Option<&'static str>) {
     // A tick seldom hands a frame down.
     let often = matches!(event, SenderEvent::Tick);
     let output = match random.below(if often { 6 } else { 24 }) {
@@ -286,10 +353,15 @@ fn memory(
     };
     let store = store(event, sender, random, met);
     let mut memory = end.memory(random, [store, output, answer]);
+    let mut ill_formed = None;
     match random.below(160) {
         0 => memory.answer.truncate(random.below(ANSWER)),
         1 => memory.state = in_former_layout(&end.state, random.once_in(2)),
         2..=4 => damage(random, &mut memory.state),
+        5 | 6 => {
+            let (why, octets) = suspended::ill_formed(random, sender);
+            (memory.state, ill_formed) = (octets, Some(why));
+        }
         _ => (),
     }
     if memory.answer.len() < ANSWER {
@@ -297,7 +369,7 @@ fn memory(
     } else if memory.state == end.state {
         met.lendings.meet("whole");
     }
-    memory
+    (memory, ill_formed)
 }
 
 /// The octets of the store that is lent: mostly the need; at Set K more often about it, and what
@@ -351,6 +423,9 @@ fn meet(call: &Call, expected: &Expected, before: &Sender, met: &mut Met) {
     let Some(answer) = &expected.answer else {
         return;
     };
+    if before.suspended() && answer.refusal != ROOM {
+        meet_while_suspended(&call.event, answer, before, met);
+    }
     let event = sender_end::independent_event(&call.event);
     let need = event.map_or(0, |event| before.store_at(&event, Fault::None));
     if answer.refusal == ROOM && call.before.store.len() >= need {
@@ -365,6 +440,20 @@ fn meet(call: &Call, expected: &Expected, before: &Sender, met: &mut Met) {
     }
     if answer.frame.is_some() {
         met.kinds.meet("frame handed down");
+    }
+}
+
+fn meet_while_suspended(event: &SenderEvent, answer: &Answer, sender: &Sender, met: &mut Met) {
+    let met = &mut met.while_suspended;
+    met.meet(event_name(event, sender));
+    match event {
+        SenderEvent::Directive {
+            number: 6,
+            value: 0,
+        } => met.meet("Resume with value 0"),
+        SenderEvent::Directive { number: 6, .. } => met.meet("Resume with another value"),
+        _ if answer.kind == frame::BD => met.meet("BD frame handed down"),
+        _ => (),
     }
 }
 
@@ -397,8 +486,8 @@ fn meet_window(event: &SenderEvent, sender: &Sender, met: &mut Met) {
     });
 }
 
-fn meet_event(event: &SenderEvent, sender: &Sender, met: &mut Met) {
-    let name = match event {
+fn event_name(event: &SenderEvent, sender: &Sender) -> &'static str {
+    match event {
         SenderEvent::RequestAd(_) => "AD request",
         SenderEvent::RequestBd(_) => "BD request",
         SenderEvent::Directive {
@@ -418,8 +507,11 @@ fn meet_event(event: &SenderEvent, sender: &Sender, met: &mut Met) {
                 _ => "word",
             }
         }
-    };
-    met.kinds.meet(name);
+    }
+}
+
+fn meet_event(event: &SenderEvent, sender: &Sender, met: &mut Met) {
+    met.kinds.meet(event_name(event, sender));
     match event {
         SenderEvent::Directive { value, .. } if *value > 65_535 => {
             met.kinds.meet("value above 65535")

@@ -24,7 +24,7 @@ use std::collections::VecDeque;
 /// The control word's octets.
 const WORD: usize = 4;
 
-/// So many events may follow when the sender is Initial.
+/// So many events may follow when the sender is Initial and not suspended.
 const AFTER_THE_END: usize = 100;
 
 /// The library's ends and channels, and the recorder of its frames.
@@ -61,6 +61,7 @@ pub fn compare(settings: &Settings) -> Report {
         let most = settings.count.saturating_sub(tally.inputs) as usize;
         let events = random.between(200, 2000).min(most);
         run.all(events, &mut course, random, tally, &mut met);
+        run.checker.end();
         met.meet_premises(&run.checker);
         true
     });
@@ -136,7 +137,7 @@ fn start_sender(
         k: settings.k as u32,
         t1_initial: settings.t1_initial as u32,
         transmission_limit: settings.transmission_limit as u32,
-        timeout_type: 0,
+        timeout_type: settings.timeout_type as u32,
         spacecraft: settings.spacecraft as u32,
         channel: settings.channel as u32,
         vs: settings.number as u32,
@@ -203,7 +204,7 @@ impl Run {
         differences
     }
 
-    /// So many events, fewer where the sender is Initial, or until they differ.
+    /// So many events, fewer where the sender's service has ended, or until they differ.
     fn all(
         &mut self,
         events: usize,
@@ -240,7 +241,8 @@ impl Run {
                 return;
             }
             rest -= 1;
-            if self.session.sender.state == State::S6 {
+            let sender = &self.session.sender;
+            if sender.state == State::S6 && !sender.suspended() {
                 rest = rest.min(AFTER_THE_END);
             }
         }
@@ -254,16 +256,14 @@ impl Run {
         before: &Sender,
         random: &mut Random,
     ) -> Vec<String> {
-        let terminate = SenderEvent::Directive {
-            number: 5,
-            value: 0,
-        };
+        let directive = |number, value| SenderEvent::Directive { number, value };
         let (event, room) = match event {
             Event::AdRequest { unit, room } => (SenderEvent::RequestAd(unit.clone()), *room),
             Event::BdRequest { unit, room } => (SenderEvent::RequestBd(unit.clone()), *room),
             Event::Tick { room } => (SenderEvent::Tick, *room),
             Event::Lower { response, room } => (SenderEvent::LowerLayer(lower(response)), *room),
-            Event::Terminate => (terminate, 0),
+            Event::Terminate => (directive(5, 0), 0),
+            Event::Resume { value } => (directive(6, *value as u32), 0),
             Event::Word { room } => match self.ends.words.pop_front() {
                 None => return expect_nothing(outcome),
                 Some(word) => (SenderEvent::ControlWord(word), *room),

@@ -12,8 +12,8 @@ use independent::session::{Event, Outcome, Session};
 use independent::session_check::{Checker, Met as Premises};
 
 /// The rows of Table 7-8 that sessions come to often.
-const ROWS: [u8; 19] = [
-    1, 2, 5, 6, 8, 9, 10, 11, 12, 16, 19, 20, 21, 22, 29, 41, 43, 45, 102,
+const ROWS: [u8; 24] = [
+    1, 2, 5, 6, 8, 9, 10, 11, 12, 16, 18, 19, 20, 21, 22, 29, 30, 31, 32, 41, 43, 45, 102, 104,
 ];
 
 /// How often a comparison of sessions met each of these.
@@ -63,12 +63,13 @@ const WINDOWS: [&str; 3] = [
     "127 units outstanding",
 ];
 
-const KINDS: [&str; 11] = [
+const KINDS: [&str; 12] = [
     "AD request",
     "BD request",
     "tick",
     "lower layer",
     "Terminate",
+    "Resume",
     "word",
     "frame",
     "release",
@@ -128,6 +129,7 @@ impl Met {
             Event::Tick { .. } => "tick",
             Event::Lower { .. } => "lower layer",
             Event::Terminate => "Terminate",
+            Event::Resume { .. } => "Resume",
             Event::Word { .. } => "word",
             Event::Frame => "frame",
             Event::Release => "release",

@@ -97,6 +97,22 @@ pub enum Fault {
     FopRefusedTickCounts,
     /// The timer runs on where it is cancelled (clause 7.2.2.9).
     FopTimerRunsOn,
+    /// Timeout_Type 1 is refused with 12: document 01 before document 02's order 9.
+    FopTimeoutTypeOneRefused,
+    /// A suspension clears the marks (clause 7.4.2.6, "not cleared or reset", for these two).
+    FopSuspensionForgetsMarks,
+    /// A suspension drops the unit that waits.
+    FopSuspensionDropsWaiting,
+    /// Resume looks for an FDU (clause 7.9.2.19, for these two).
+    FopResumeLooksForFdu,
+    /// Resume starts no timer.
+    FopResumeStartsNoTimer,
+    /// Resume leads to Active, whatever state was left (rows E32 to E34).
+    FopResumesToActive,
+    /// Terminate while suspended purges the queues (clause 7.4.2.6).
+    FopTerminateEndsSuspension,
+    /// A control word that comes while suspended confirms units (rows E2 and E6 in S6).
+    FopConfirmsWhileSuspended,
     /// The store is judged by the old K at Set K (document 02, order 7, for these five).
     StoreByOldK,
     /// The store is judged by the larger of both at Set K.
@@ -107,6 +123,10 @@ pub enum Fault {
     StoreByKAlone,
     /// Octets of the former layout are taken for a sender's state.
     FormerLayoutTaken,
+    /// The octets of a suspended sender are taken for no state: before document 02's order 9.
+    SuspendedStateRefused,
+    /// Suspend_State 4 with units is taken for a state: S4 has none.
+    SuspendedUnitsTaken,
     /// The recorder reaches one unit further back than NW.
     SessionRecorderOneMore,
     /// A frame stays whatever its type.
@@ -191,19 +211,54 @@ pub const FOP_FAULTS: [(&str, Fault); 12] = [
     ("fop_timer_runs_on", Fault::FopTimerRunsOn),
 ];
 
+/// The faults of FOP-1's suspension (document 02, order 9), by name.
+pub const SUSPENSION_FAULTS: [(&str, Fault); 8] = [
+    (
+        "fop_timeout_type_one_refused",
+        Fault::FopTimeoutTypeOneRefused,
+    ),
+    (
+        "fop_suspension_forgets_marks",
+        Fault::FopSuspensionForgetsMarks,
+    ),
+    (
+        "fop_suspension_drops_waiting",
+        Fault::FopSuspensionDropsWaiting,
+    ),
+    ("fop_resume_looks_for_fdu", Fault::FopResumeLooksForFdu),
+    ("fop_resume_starts_no_timer", Fault::FopResumeStartsNoTimer),
+    ("fop_resumes_to_active", Fault::FopResumesToActive),
+    (
+        "fop_terminate_ends_suspension",
+        Fault::FopTerminateEndsSuspension,
+    ),
+    (
+        "fop_confirms_while_suspended",
+        Fault::FopConfirmsWhileSuspended,
+    ),
+];
+
 /// The faults of a sender's limits, its store and its state's octets, by name. No session has them: its
 /// K stays, and its store suffices.
-pub const STORE_FAULTS: [(&str, Fault); 6] = [
+pub const STORE_FAULTS: [(&str, Fault); 8] = [
     ("fop_unit_one_more", Fault::UnitOneMore),
     ("store_by_old_k", Fault::StoreByOldK),
     ("store_by_larger_k", Fault::StoreByLargerK),
     ("store_without_waiting", Fault::StoreWithoutWaiting),
     ("store_by_k_alone", Fault::StoreByKAlone),
     ("former_layout_taken", Fault::FormerLayoutTaken),
+    ("suspended_state_refused", Fault::SuspendedStateRefused),
+    ("suspended_units_taken", Fault::SuspendedUnitsTaken),
 ];
 
 /// Those of FOP-1 that break a pass, which a session must find too.
 pub const PASS_FAULTS: [Fault; 2] = [Fault::FopNeverSends, Fault::FopTimerRunsOn];
+
+/// Those of a suspension that lose what it keeps, which a session must find too.
+pub const KEPT_FAULTS: [Fault; 2] = [
+    Fault::FopSuspensionForgetsMarks,
+    Fault::FopResumeLooksForFdu,
+];
 
 /// The faults of a session's channels, its recorder, its fill and its noise, by name.
 pub const SESSION_FAULTS: [(&str, Fault); 8] = [

@@ -1,11 +1,11 @@
 //! FOP-1 (clauses 7.2.2 and 7.9.2, Table 7-8), by the rules of document 01, with document
-//! 02's order 7.
+//! 02's orders 7 and 9.
 
 use crate::clcw;
 use crate::fault::Fault;
 use crate::frame::{self, Content};
 use crate::refusal::{DONE, LENGTH, ROOM, SETTING};
-use crate::table_7_8::{self, Action, Cell, Reason, State};
+use crate::table_7_8::{self, Action, Cell, Reason, State, STATES};
 
 pub use crate::frame::UNIT_MOST;
 
@@ -22,8 +22,9 @@ const LIMIT_MOST: usize = 255;
 /// "and K to 127" (document 02, order 7).
 pub const K_MOST: usize = 127;
 
-/// The row of Set K.
+/// The rows of Set K and of Terminate.
 const SET_K: u8 = 36;
+const TERMINATE: u8 = 29;
 
 /// The lent store: "units for K, or for all outstanding if more, and one waiting" (document 02,
 /// order 7), each of the largest length.
@@ -34,8 +35,11 @@ pub fn store(k: usize, outstanding: usize) -> usize {
 /// The longest store that any sender needs.
 pub const STORE: usize = (K_MOST + 1) * UNIT_MOST;
 
-/// The only Timeout_Type for now (document 01, FOP-1).
-const TIMEOUT_TYPE_ALERT: usize = 0;
+/// "Setting 1 is no longer refusal 12; 2 and above still are." (document 02, order 9)
+pub const TIMEOUT_TYPE_MOST: usize = 1;
+
+/// The greatest Suspend_State (clause 7.2.2): S5 is never suspended.
+pub const SUSPEND_STATE_MOST: u8 = 4;
 
 /// What is given at the start.
 #[derive(Clone, Copy, PartialEq, Eq, Debug)]
@@ -65,6 +69,13 @@ pub enum Event {
     BcReject,
     BdAccept,
     BdReject,
+}
+
+impl Event {
+    /// A reject of the lower layer, of whichever type.
+    pub fn is_reject(&self) -> bool {
+        matches!(self, Event::AdReject | Event::BcReject | Event::BdReject)
+    }
 }
 
 /// The responses to directives, AD units and BD units but the confirms of AD units,
@@ -102,7 +113,7 @@ pub struct Answer {
     pub abort: bool,
     pub responses: Vec<Response>,
     pub alert: Option<Reason>,
-    /// A Suspend notification; none for now.
+    /// A Suspend notification (clause 7.4.2.6).
     pub suspend: bool,
     pub confirmed: Run,
     pub denied: Run,
@@ -219,7 +230,7 @@ impl Sender {
             && (K_LEAST..=K_MOST).contains(&settings.k)
             && (TIMER_LEAST..=TIMER_MOST).contains(&settings.t1_initial)
             && (LIMIT_LEAST..=LIMIT_MOST).contains(&settings.transmission_limit)
-            && settings.timeout_type == TIMEOUT_TYPE_ALERT;
+            && settings.timeout_type <= TIMEOUT_TYPE_MOST;
         if !within_limits {
             return Err(SETTING);
         }
@@ -252,6 +263,20 @@ impl Sender {
         distance(self.v_s, self.nn_r)
     }
 
+    /// The AD service is suspended: SS > 0 (clause 7.2.2).
+    pub fn suspended(&self) -> bool {
+        self.suspend_state > 0
+    }
+
+    /// The state that the suspension left, or where nothing is suspended the state. What is held goes
+    /// by it.
+    pub fn effective_state(&self) -> State {
+        let left = STATES
+            .into_iter()
+            .find(|state| state.number() == self.suspend_state);
+        left.unwrap_or(self.state)
+    }
+
     /// The units of the lent store: those sent, the oldest first, then the one waiting.
     pub fn stored(&self) -> Vec<Vec<u8>> {
         let mut units = Vec::new();
@@ -275,7 +300,7 @@ impl Sender {
         let Event::Directive { number, value } = event else {
             return None;
         };
-        let occurrence = self.judge_directive(*number, *value).ok()?;
+        let occurrence = self.judge_directive(*number, *value, Fault::None).ok()?;
         (occurrence.row == SET_K).then_some(occurrence.value)
     }
 
@@ -360,7 +385,7 @@ impl Sender {
         let occurrence = match event {
             Event::AdRequest(unit) => self.judge_ad_request(unit, fault)?,
             Event::BdRequest(unit) => self.judge_bd_request(unit, fault)?,
-            Event::Directive { number, value } => self.judge_directive(*number, *value)?,
+            Event::Directive { number, value } => self.judge_directive(*number, *value, fault)?,
             Event::ControlWord(octets) => self.judge_word(octets, fault)?,
             Event::Tick if self.timer != 1 => return Ok(None),
             Event::Tick => Occurrence::of_row(self.row_of_expiry()),
@@ -399,13 +424,14 @@ impl Sender {
 
     /// By the number of the directive (document 01, FOP-1). The value of one without a
     /// qualifier is not looked at (Table 7-3).
-    fn judge_directive(&self, number: usize, value: usize) -> Result<Occurrence, u8> {
+    fn judge_directive(&self, number: usize, value: usize, fault: Fault) -> Result<Occurrence, u8> {
         let least_and_most = match number {
             4 | 7 => (0, NUMBER_MOST),
             8 => (K_LEAST, K_MOST),
             9 => (TIMER_LEAST, TIMER_MOST),
             10 => (LIMIT_LEAST, LIMIT_MOST),
-            11 => (TIMEOUT_TYPE_ALERT, TIMEOUT_TYPE_ALERT),
+            11 if fault == Fault::FopTimeoutTypeOneRefused => (0, 0),
+            11 => (0, TIMEOUT_TYPE_MOST),
             _ => (0, usize::MAX),
         };
         if value < least_and_most.0 || value > least_and_most.1 {
@@ -506,7 +532,7 @@ impl Sender {
     fn perform(&mut self, occurrence: &Occurrence, fault: Fault) -> Answer {
         let mut answer = Answer::of_state(self.state);
         answer.row = occurrence.row;
-        if let Cell::Do(actions, next) = table_7_8::cell(occurrence.row, self.state) {
+        if let Cell::Do(actions, next) = self.cell(occurrence.row, fault) {
             for action in actions {
                 self.act(*action, occurrence, &mut answer, fault);
             }
@@ -514,6 +540,26 @@ impl Sender {
             answer.state = next;
         }
         answer
+    }
+
+    /// The cell of the row in the state, or with a fault another one.
+    fn cell(&self, row: u8, fault: Fault) -> Cell {
+        let cell = table_7_8::cell(row, self.state);
+        if !self.suspended() {
+            return cell;
+        }
+        match (fault, row, cell) {
+            (Fault::FopTerminateEndsSuspension, TERMINATE, _) => {
+                table_7_8::cell(TERMINATE, State::S1)
+            }
+            (Fault::FopResumesToActive, 31..=34, Cell::Do(actions, _)) => {
+                Cell::Do(actions, State::S1)
+            }
+            (Fault::FopConfirmsWhileSuspended, 2 | 6, _) => {
+                Cell::Do(&[Action::RemoveAcknowledged], State::S6)
+            }
+            _ => cell,
+        }
     }
 
     fn act(&mut self, action: Action, occurrence: &Occurrence, answer: &mut Answer, fault: Fault) {
@@ -554,11 +600,8 @@ impl Sender {
             Action::SetTransmissionLimit => self.transmission_limit = occurrence.value as u8,
             Action::SetTt => self.timeout_type = occurrence.value as u8,
             Action::SsBecomes(number) => self.suspend_state = number,
-            Action::Suspend => answer.suspend = true,
-            Action::Resume => {
-                self.timer = self.t1_initial;
-                self.suspend_state = 0;
-            }
+            Action::Suspend => self.suspend(answer, fault),
+            Action::Resume => self.resume(answer, fault),
             Action::IfSsZero(then, otherwise) => {
                 let zero = self.suspend_state == 0;
                 for action in if zero { then } else { otherwise } {
@@ -732,6 +775,31 @@ impl Sender {
         self.purge_wait_queue(answer);
         self.transmission_count = 1;
         self.suspend_state = 0;
+    }
+
+    /// Clause 7.9.2.18.
+    fn suspend(&mut self, answer: &mut Answer, fault: Fault) {
+        answer.suspend = true;
+        match fault {
+            Fault::FopSuspensionForgetsMarks => {
+                for frame in &mut self.sent_queue {
+                    frame.to_be_retransmitted = false;
+                }
+            }
+            Fault::FopSuspensionDropsWaiting => self.wait_queue = None,
+            _ => (),
+        }
+    }
+
+    /// Clause 7.9.2.19.
+    fn resume(&mut self, answer: &mut Answer, fault: Fault) {
+        if fault != Fault::FopResumeStartsNoTimer {
+            self.timer = self.t1_initial;
+        }
+        self.suspend_state = 0;
+        if fault == Fault::FopResumeLooksForFdu {
+            self.look_for_fdu(answer, fault);
+        }
     }
 }
 

@@ -6,13 +6,17 @@ use std::time::Instant;
 
 use super::*;
 use crate::bits;
-use crate::fault::{FOP_FAULTS, STORE_FAULTS};
+use crate::fault::{FOP_FAULTS, STORE_FAULTS, SUSPENSION_FAULTS};
 use crate::fecf;
 use crate::random::Random;
 use crate::refusal::ADDRESS;
 use crate::session_random;
-use crate::table_7_8::{cell, Action::*, Cell, Reason::*, State::*, STATES, TABLE};
+use crate::suspension::Law;
+use crate::table_7_8::{cell, Action::*, Cell, Reason::*, State::*, TABLE};
 use Response::*;
+
+#[path = "fop1_suspension_tests.rs"]
+mod suspension;
 
 const ROOMY: usize = frame::FRAME_MOST;
 
@@ -367,7 +371,8 @@ fn refusals() {
         (directive(9, 65_536), ROOMY, SETTING),
         (directive(10, 0), ROOMY, SETTING),
         (directive(10, 256), ROOMY, SETTING),
-        (directive(11, 1), ROOMY, SETTING),
+        (directive(11, 2), ROOMY, SETTING),
+        (directive(11, 256), ROOMY, SETTING),
     ] {
         let before = sender.clone();
         let answer = sender.take(&event, room, Fault::None);
@@ -406,7 +411,7 @@ fn starts() {
     assert_eq!(STORE, 130_176);
     type Set = fn(&mut Settings, usize);
     let limits: [(Set, usize, usize); 6] = [
-        (|settings, value| settings.timeout_type = value, 0, 0),
+        (|settings, value| settings.timeout_type = value, 0, 1),
         (|settings, value| settings.spacecraft = value, 0, 1023),
         (|settings, value| settings.channel = value, 0, 63),
         (|settings, value| settings.k = value, 1, 127),
@@ -534,7 +539,8 @@ fn assert_well_formed(sender: &Sender) {
     let initialising = sender.state == S5;
     assert!(queue.len() <= K_MOST);
     assert!(sender.transmission_count >= 1);
-    assert!(sender.suspend_state == 0 && sender.timeout_type == 0);
+    assert!(sender.timeout_type <= 1);
+    assert!(sender.state == S6 || sender.suspend_state == 0);
     if initialising {
         assert!(queue.len() == 1 && queue[0].number().is_none());
     } else {
@@ -547,14 +553,16 @@ fn assert_well_formed(sender: &Sender) {
         let marked = &queue[first.unwrap_or(queue.len())..];
         assert!(marked.iter().all(|frame| frame.to_be_retransmitted));
     }
-    match sender.state {
+    let effective = sender.effective_state();
+    match effective {
         S1 => (),
         S2 | S3 => assert!(q > 0),
         S4 => assert!(queue.is_empty()),
-        S5 => assert!(sender.timer > 0),
-        S6 => assert!(queue.is_empty() && sender.timer == 0),
+        S5 => assert!(sender.state == S5 && sender.timer > 0),
+        S6 => assert!(queue.is_empty()),
     }
-    let serving = matches!(sender.state, S1 | S2 | S3);
+    assert!(sender.state != S6 || sender.timer == 0);
+    let serving = matches!(effective, S1 | S2 | S3);
     assert!(serving || sender.wait_queue.is_none());
 }
 
@@ -584,7 +592,7 @@ fn assert_answer(before: &Sender, after: &Sender, answer: &Answer, room: usize) 
         all.push(before.v_s);
     }
     assert_eq!(told, all);
-    assert!(!answer.suspend);
+    assert!(!answer.suspend || [18, 104].contains(&answer.row));
     if answer.alert.is_some() {
         assert!(after.state == S6 && answer.frame.is_none());
     }
@@ -593,7 +601,7 @@ fn assert_answer(before: &Sender, after: &Sender, answer: &Answer, room: usize) 
         let read = frame::read(octets, after.spacecraft, after.channel, Fault::None);
         assert_eq!((read.number, read.total as usize), (DONE, octets.len()));
     }
-    assert!(!answer.abort || [8, 10, 16].contains(&answer.row));
+    assert!(!answer.abort || [8, 10, 16, 104].contains(&answer.row));
 }
 
 fn random_settings(random: &mut Random) -> Settings {
@@ -609,11 +617,11 @@ fn random_settings(random: &mut Random) -> Settings {
         },
         t1_initial: random.between(1, 6),
         transmission_limit: random.between(1, 5),
-        timeout_type: 0,
+        timeout_type: random.below(2),
     }
 }
 
-// Random events of a sender alone: all directives, words and refusals.
+// Random events of a sender alone: all directives, words and refusals, every row of Table 7-8.
 #[test]
 fn random_events() {
     const SENDERS: u64 = 5_000;
@@ -621,9 +629,11 @@ fn random_events() {
     let begin = Instant::now();
     let mut cells = BTreeMap::new();
     let mut refusals = BTreeMap::new();
+    let mut of_law = BTreeMap::new();
     for seed in 0..SENDERS {
         let mut random = Random::new(seed);
         let mut sender = Sender::start(&random_settings(&mut random), STORE).unwrap();
+        let mut law = Law::from(&sender);
         for _ in 0..EVENTS {
             let before = sender.clone();
             let mut draw = |limit| random.below(limit);
@@ -631,10 +641,14 @@ fn random_events() {
             let answer = sender.take(&event, room, Fault::None);
             assert_answer(&before, &sender, &answer, room);
             assert_well_formed(&sender);
+            assert_eq!(law.check(&before, &event, &answer, &sender), Ok(()));
             *refusals.entry(answer.refusal).or_insert(0) += 1;
             if answer.row != 0 {
                 *cells.entry((answer.row, before.state)).or_insert(0) += 1;
             }
+        }
+        for (name, count) in law.met.named() {
+            *of_law.entry(name).or_insert(0) += count;
         }
     }
     println!(
@@ -643,8 +657,15 @@ fn random_events() {
         begin.elapsed()
     );
     println!("refusals {refusals:?}");
+    println!("suspension {of_law:?}");
+    assert!(of_law.values().all(|count| *count > 0));
     println!("{} cells met", cells.len());
     for row in &TABLE {
+        assert!(
+            cells.keys().any(|cell| cell.0 == row.event),
+            "E{}",
+            row.event
+        );
         for state in STATES {
             if !cells.contains_key(&(row.event, state)) {
                 println!("not met: E{} in {state:?}", row.event);
@@ -656,7 +677,7 @@ fn random_events() {
 // Each fault of FOP-1 is found by comparing answers.
 #[test]
 fn faults_found() {
-    for (name, fault) in FOP_FAULTS {
+    for (name, fault) in FOP_FAULTS.into_iter().chain(SUSPENSION_FAULTS) {
         let found = (0..200).find(|seed| differs(*seed, fault));
         println!("{name}: found with sender {found:?}");
         assert!(found.is_some(), "{name}");
@@ -666,8 +687,13 @@ fn faults_found() {
 // Each fault of the store, and the longer unit, likewise. What is no state is no sender's to say.
 #[test]
 fn store_faults_found() {
+    let of_octets = [
+        Fault::FormerLayoutTaken,
+        Fault::SuspendedStateRefused,
+        Fault::SuspendedUnitsTaken,
+    ];
     for (name, fault) in STORE_FAULTS {
-        if fault == Fault::FormerLayoutTaken {
+        if of_octets.contains(&fault) {
             continue;
         }
         let found = (0..400).find(|seed| store_differs(*seed, fault));

@@ -21,6 +21,7 @@ pub mod session_check;
 pub mod session_noise;
 pub mod session_pass;
 pub mod session_random;
+pub mod suspension;
 pub mod table_7_8;
 
 #[cfg(test)]

@@ -83,6 +83,7 @@ pub fn one_more_than_nw() -> (Settings, Vec<Event>) {
         k: 1,
         t1_initial: 1,
         transmission_limit: 5,
+        timeout_type: 0,
         window: 2,
         buffers: 2,
     };

@@ -31,6 +31,7 @@ pub struct Settings {
     pub k: usize,
     pub t1_initial: usize,
     pub transmission_limit: usize,
+    pub timeout_type: usize,
     /// W of the receiver.
     pub window: usize,
     /// Its buffers for AD units.
@@ -57,6 +58,10 @@ pub enum Event {
         room: usize,
     },
     Terminate,
+    /// Directive 6 with any value (document 02, order 9).
+    Resume {
+        value: usize,
+    },
     /// The oldest word comes to the sender.
     Word {
         room: usize,
@@ -235,7 +240,7 @@ impl Session {
             k: settings.k,
             t1_initial: settings.t1_initial,
             transmission_limit: settings.transmission_limit,
-            timeout_type: 0,
+            timeout_type: settings.timeout_type,
         };
         let mut sender = Sender::start(&of_sender, usize::MAX)?;
         let receiver = Farm1::start(settings.window, settings.number, settings.buffers)?;
@@ -294,16 +299,14 @@ impl Session {
 
     /// What the event brings to the sender, with the room lent.
     pub fn to_sender(&self, event: &Event) -> Option<(fop1::Event, usize)> {
-        let terminate = fop1::Event::Directive {
-            number: 5,
-            value: 0,
-        };
+        let directive = |number, value| fop1::Event::Directive { number, value };
         Some(match event {
             Event::AdRequest { unit, room } => (fop1::Event::AdRequest(unit.clone()), *room),
             Event::BdRequest { unit, room } => (fop1::Event::BdRequest(unit.clone()), *room),
             Event::Tick { room } => (fop1::Event::Tick, *room),
             Event::Lower { response, room } => (response.clone(), *room),
-            Event::Terminate => (terminate, 0),
+            Event::Terminate => (directive(5, 0), 0),
+            Event::Resume { value } => (directive(6, *value), 0),
             Event::Word { room } | Event::WordStays { room } => {
                 let word = self.words.front()?.clone();
                 (fop1::Event::ControlWord(word), *room)

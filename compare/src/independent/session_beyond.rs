@@ -144,9 +144,9 @@ impl Checker {
         claim(same, "word noise changes neither end")
     }
 
-    /// At most K units are accepted and not confirmed. In S6 a denied unit is on board exactly
-    /// when its number is one to K before V(R); with no AD frame under way no more is accepted
-    /// unless the recorder puts a frame there.
+    /// At most K units are accepted and not confirmed. In S6, not suspended, a denied unit is on
+    /// board exactly when its number is one to K before V(R); with no AD frame under way no more
+    /// is accepted unless the recorder puts a frame there.
     pub(super) fn what_denied_means(&mut self, outcome: &Outcome) -> Claim {
         let (accepted, k) = (self.accepted.len(), self.settings.k);
         claim(
@@ -160,7 +160,7 @@ impl Checker {
             self.settled.is_none_or(|settled| accepted == settled),
             "in S6 with no AD frame under way no more is accepted",
         )?;
-        if self.table.sender.state != State::S6 {
+        if self.table.sender.state != State::S6 || self.table.sender.suspended() {
             return Ok(());
         }
         let under_way = !self.table.no_ad_frame();

@@ -1,7 +1,8 @@
 //! The claims about a session, each checked after each event. The histories come from
 //! what an outcome shows; states, flags, marks, the wait queue, timer and
 //! Transmission_Count come from the tables, run over the same events with channels of
-//! their own (document 01, The session).
+//! their own (document 01, The session). "Suspended" is the tables' too, and the claims are about
+//! lists in which "no lower-layer reject comes while suspended" (document 02, order 9).
 
 use std::collections::BTreeSet;
 
@@ -9,9 +10,10 @@ use crate::clcw;
 use crate::farm1::{self, Farm1};
 use crate::fault::Fault;
 use crate::fop1::{self, Answer, Run, Sender, UNIT_MOST};
-use crate::frame;
+use crate::frame::{self, Content};
 use crate::refusal::{DONE, LENGTH, ROOM};
 use crate::session::{carried, Carried, Event, Outcome, Session, Settings};
+use crate::suspension::Law;
 use crate::table_7_8::{Reason, State};
 
 #[path = "session_beyond.rs"]
@@ -54,11 +56,23 @@ pub struct Met {
     /// Passes, and the units of them.
     pub passes: usize,
     pub passed_units: usize,
+    pub suspensions: usize,
+    /// Resumes that bring back units outstanding, marks, and a unit waiting.
+    pub resumes_with_units: usize,
+    pub resumes_with_marks: usize,
+    pub resumes_with_waiting: usize,
+    pub words_while_suspended: usize,
+    pub terminates_while_suspended: usize,
+    /// Units accepted on board while suspended.
+    pub accepts_while_suspended: usize,
+    /// Sessions that end suspended, and those in which a reject came while suspended.
+    pub ends_suspended: usize,
+    pub premise_broken: usize,
 }
 
 impl Met {
     /// Each with its name.
-    pub fn named(&self) -> [(&'static str, usize); 22] {
+    pub fn named(&self) -> [(&'static str, usize); 31] {
         [
             ("accepts", self.accepts),
             ("discards", self.discards),
@@ -85,6 +99,21 @@ impl Met {
             ),
             ("passes", self.passes),
             ("units of passes", self.passed_units),
+            ("suspensions", self.suspensions),
+            ("Resumes with units", self.resumes_with_units),
+            ("Resumes with marks", self.resumes_with_marks),
+            ("Resumes with a unit waiting", self.resumes_with_waiting),
+            ("words while suspended", self.words_while_suspended),
+            (
+                "Terminates while suspended",
+                self.terminates_while_suspended,
+            ),
+            ("accepts while suspended", self.accepts_while_suspended),
+            ("sessions that end suspended", self.ends_suspended),
+            (
+                "sessions with a reject while suspended",
+                self.premise_broken,
+            ),
         ]
     }
 }
@@ -107,12 +136,17 @@ pub struct Checker {
     /// The count of units accepted when the sender came to S6 with no AD frame under way, if
     /// the recorder has put none there since.
     settled: Option<usize>,
+    law: Law,
+    /// A reject of the lower layer came while suspended: nothing is claimed from then on.
+    pub premise_broken: bool,
     pub met: Met,
 }
 
 /// What held before the event.
 struct Before {
     sender: Sender,
+    /// What the event brings to it.
+    taken: Option<fop1::Event>,
     receiver: Farm1,
     sent: usize,
     accepted: usize,
@@ -143,9 +177,11 @@ fn unit_of(carried: &Carried) -> Unit {
 
 impl Checker {
     pub fn new(settings: &Settings) -> Result<Checker, u8> {
+        let table = Session::start(settings)?;
         Ok(Checker {
             settings: *settings,
-            table: Session::start(settings)?,
+            law: Law::from(&table.sender),
+            table,
             sent: Vec::new(),
             accepted: Vec::new(),
             confirmed: Vec::new(),
@@ -155,13 +191,66 @@ impl Checker {
             bd_ahead: Vec::new(),
             bd_accepted: 0,
             settled: None,
+            premise_broken: false,
             met: Met::default(),
         })
     }
 
-    /// Checks the next event of a session and what it gave.
+    /// Checks the next event of a session and what it gave. Where the premise is broken, of the
+    /// claims only the law of suspension stands.
     pub fn check(&mut self, event: &Event, outcome: &Outcome) -> Claim {
+        let rejects = matches!(event, Event::Lower { response, .. } if response.is_reject());
+        self.premise_broken |= rejects && self.table.sender.suspended();
+        if !self.premise_broken {
+            return self.claims(event, outcome);
+        }
         let before = self.before(event);
+        self.table.step(event, Fault::None);
+        self.suspension_keeps(&before, outcome)
+    }
+
+    /// The session ends here.
+    pub fn end(&mut self) {
+        let law = self.law.met;
+        self.met.suspensions += law.suspensions;
+        self.met.resumes_with_units += law.resumes_with_units;
+        self.met.resumes_with_marks += law.resumes_with_marks;
+        self.met.resumes_with_waiting += law.resumes_with_waiting;
+        self.met.words_while_suspended += law.words;
+        self.met.terminates_while_suspended += law.terminates;
+        self.met.ends_suspended += self.table.sender.suspended() as usize;
+        self.met.premise_broken += self.premise_broken as usize;
+    }
+
+    /// All claims, whether or not their premise holds.
+    pub fn claims(&mut self, event: &Event, outcome: &Outcome) -> Claim {
+        let before = self.before(event);
+        self.demand_3(&before, event, outcome)?;
+        self.suspension_keeps(&before, outcome)?;
+        self.stronger(&before, event, outcome)?;
+        self.what_denied_means(outcome)
+    }
+
+    /// Demand 3 alone, whether or not its premise holds.
+    pub fn demand_3_alone(&mut self, event: &Event, outcome: &Outcome) -> Claim {
+        let before = self.before(event);
+        self.demand_3(&before, event, outcome)
+    }
+
+    /// The law of suspension, with the sender of the tables and the answer seen.
+    fn suspension_keeps(&mut self, before: &Before, outcome: &Outcome) -> Claim {
+        if before.sender.suspended() && self.accepted.len() > before.accepted {
+            self.met.accepts_while_suspended += 1;
+        }
+        let (Some(taken), Some(answer)) = (&before.taken, &outcome.sender) else {
+            return Ok(());
+        };
+        self.law
+            .check(&before.sender, taken, answer, &self.table.sender)
+    }
+
+    /// Demand 3, also where frames and words stay, with fill and noise.
+    fn demand_3(&mut self, before: &Before, event: &Event, outcome: &Outcome) -> Claim {
         if let Event::FrameDamaged { bits } = event {
             self.damage_is_noise_and_loss(bits)?;
         }
@@ -171,28 +260,27 @@ impl Checker {
         self.never_locked_out(outcome)?;
         match event {
             Event::Frame | Event::FrameStays { .. } | Event::FrameFilled { .. } => {
-                self.accepts_exactly(&before, outcome)?
+                self.accepts_exactly(before, outcome)
             }
-            Event::AdRequest { unit, room } => self.sends_at_once(&before, unit, *room, outcome)?,
+            Event::AdRequest { unit, room } => self.sends_at_once(before, unit, *room, outcome),
             Event::Lower { response, room } if *response == fop1::Event::AdAccept => {
-                self.sends_when_ready(&before, *room, outcome)?
+                self.sends_when_ready(before, *room, outcome)
             }
-            Event::Tick { room } => self.resends_at_expiry(&before, *room, outcome)?,
+            Event::Tick { room } => self.resends_at_expiry(before, *room, outcome),
             Event::Word { room } | Event::WordStays { room } => {
-                self.confirms_all(&before, *room, outcome)?
+                self.confirms_all(before, *room, outcome)
             }
-            Event::Noise { octets } => self.noise_changes_nothing(&before, octets, outcome)?,
-            Event::FrameDamaged { .. } => self.damage_changes_nothing(&before, outcome)?,
+            Event::Noise { octets } => self.noise_changes_nothing(before, octets, outcome),
+            Event::FrameDamaged { .. } => self.damage_changes_nothing(before, outcome),
             Event::WordNoise { octets, .. } => {
-                self.word_noise_changes_nothing(&before, octets, outcome)?
+                self.word_noise_changes_nothing(before, octets, outcome)
             }
-            _ => (),
+            _ => Ok(()),
         }
-        self.stronger(&before, event, outcome)?;
-        self.what_denied_means(outcome)
     }
 
     fn before(&self, event: &Event) -> Before {
+        let taken = self.table.to_sender(event).map(|(taken, _)| taken);
         Before {
             sender: self.table.sender.clone(),
             receiver: self.table.receiver,
@@ -200,17 +288,15 @@ impl Checker {
             accepted: self.accepted.len(),
             confirmed: self.confirmed.len(),
             outstanding: self.outstanding.clone(),
-            need: self.need(event),
+            need: taken.as_ref().map_or(0, |taken| self.need(taken)),
+            taken,
         }
     }
 
     /// The octets of the frame that the table hands down at the event, if the room is lent.
-    fn need(&self, event: &Event) -> usize {
-        let Some((taken, _)) = self.table.to_sender(event) else {
-            return 0;
-        };
+    fn need(&self, taken: &fop1::Event) -> usize {
         let mut sender = self.table.sender.clone();
-        let answer = sender.take(&taken, usize::MAX, Fault::None);
+        let answer = sender.take(taken, usize::MAX, Fault::None);
         answer.frame.map_or(0, |frame| frame.len())
     }
 
@@ -476,39 +562,56 @@ impl Checker {
             return Ok(());
         };
         self.told_apart(answer)?;
+        self.suspends(before, event, answer)?;
         self.hands_down(before, answer, outcome)?;
         self.confirms_what_is_reported(before, answer, outcome)?;
         if !matches!(event, Event::WordNoise { .. }) {
             let refusals = [DONE, LENGTH, ROOM];
             claim(refusals.contains(&answer.refusal), "refusals are 10 and 11")?;
         }
-        let limit = self.settings.transmission_limit;
         let alert = match answer.alert {
-            None | Some(Reason::Term | Reason::T1 | Reason::Llif) => true,
-            Some(Reason::Limit) => limit == 1,
+            None | Some(Reason::Term | Reason::Llif) => true,
+            Some(Reason::T1) => self.settings.timeout_type == 0,
+            Some(Reason::Limit) => self.settings.transmission_limit == 1,
             Some(_) => false,
         };
         claim(
             alert,
-            "alerts are term, T1, LLIF, and limit at a limit of 1",
+            "alerts are term, LLIF, T1 at Timeout_Type 0, and limit at a limit of 1",
         )
     }
 
-    /// Sent is confirmed and outstanding in S1 to S3, confirmed and denied in S6.
+    /// At Timeout_Type 1, and only there, an expiry at the transmission limit suspends.
+    fn suspends(&self, before: &Before, event: &Event, answer: &Answer) -> Claim {
+        let sender = &before.sender;
+        let due = matches!(event, Event::Tick { .. })
+            && serving(sender)
+            && sender.timer == 1
+            && usize::from(sender.transmission_count) >= self.settings.transmission_limit
+            && self.settings.timeout_type == 1;
+        claim(answer.suspend == due, "an expiry at the limit suspends")
+    }
+
+    /// Sent is confirmed and outstanding in S1 to S3 and while suspended, and the Sent_Queue is
+    /// what is outstanding; confirmed and denied in S6 otherwise.
     fn told_apart(&self, answer: &Answer) -> Claim {
         let confirmed = self.confirmed.len();
         claim(
             self.outstanding.len() <= self.settings.k,
             "at most K are outstanding",
         )?;
-        if answer.state != State::S6 {
+        if answer.state != State::S6 || self.table.sender.suspended() {
             let last = self
                 .outstanding
                 .iter()
                 .copied()
                 .eq(confirmed..self.sent.len());
             claim(self.denied.is_empty(), "denied units end the session")?;
-            return claim(last, "sent is confirmed and outstanding");
+            claim(last, "sent is confirmed and outstanding")?;
+            return claim(
+                self.queue_is_outstanding(),
+                "the Sent_Queue is what is outstanding",
+            );
         }
         claim(self.outstanding.is_empty(), "none is outstanding in S6")?;
         let rest = self.denied.iter().copied();
@@ -516,6 +619,20 @@ impl Checker {
             rest.eq(confirmed..self.sent.len()),
             "sent is confirmed and denied",
         )
+    }
+
+    fn queue_is_outstanding(&self) -> bool {
+        let queue = self.table.sender.sent_queue.iter();
+        let queue = queue.map(|frame| match &frame.content {
+            Content::Ad { number, unit } => Some((*number as u8, unit)),
+            _ => None,
+        });
+        let places = self.outstanding.iter();
+        let outstanding = places.map(|place| {
+            let unit = &self.sent[*place];
+            Some((unit.number, &unit.octets))
+        });
+        queue.eq(outstanding)
     }
 
     /// Each AD frame handed down is the next new unit or an outstanding one, unchanged;
@@ -548,14 +665,17 @@ impl Checker {
         let Some(word) = &outcome.word else {
             return Ok(());
         };
-        let serving = matches!(before.sender.state, State::S1 | State::S2 | State::S3);
-        if !serving || answer.refusal != DONE {
+        if !serving(&before.sender) || answer.refusal != DONE {
             return Ok(());
         }
         let read = clcw::read(word, self.settings.channel as u32, Fault::None);
         let exact = self.number(self.confirmed.len()) == read.report;
         claim(exact, "confirmed is what the word reports")
     }
+}
+
+fn serving(sender: &Sender) -> bool {
+    matches!(sender.state, State::S1 | State::S2 | State::S3)
 }
 
 fn active_or_resending(sender: &Sender) -> bool {

@@ -20,6 +20,9 @@ pub const ROOM_MOST: usize = FRAME_MOST;
 /// A window is wide from here on.
 const WIDE: usize = 32;
 
+/// A timer of so few ticks expires soon.
+const SOON: usize = 8;
+
 /// Most of the long units have so many octets at the most.
 const LONG: usize = 250;
 
@@ -28,13 +31,17 @@ const LEFT_AT_TERMINATE: usize = 60;
 
 /// The kinds of events, in the order of `drawn`; from the second number on those beyond
 /// document 01.
-const KINDS: usize = 22;
-const BEYOND: usize = 15;
+const KINDS: usize = 23;
+const BEYOND: usize = 16;
 
 /// What a session is like.
 struct Manner {
     /// The shares of its events, in the order of `drawn`.
     shares: [usize; KINDS],
+    /// While suspended, Resume comes once in so many events besides.
+    resume: usize,
+    /// Rejects of the lower layer may come while suspended: nothing is claimed of that.
+    rejects_while_suspended: bool,
     /// With so many frames or words under way, the oldest arrives before the next enters.
     under_way: usize,
 }
@@ -48,7 +55,7 @@ pub struct Course {
 impl Course {
     pub fn new(draw: Draw, settings: &Settings) -> Course {
         Course {
-            manner: manner(draw, settings.k),
+            manner: manner(draw, settings),
             pass: None,
         }
     }
@@ -59,7 +66,8 @@ impl Course {
             self.pass = None;
             return Event::Terminate;
         }
-        if self.pass.is_none() && session.at_rest() && draw(3) == 0 {
+        let at_rest = session.at_rest() && !checker.premise_broken;
+        if self.pass.is_none() && at_rest && draw(3) == 0 {
             self.pass = Some(Pass::new(legal_units(draw), checker));
         }
         match &self.pass {
@@ -101,33 +109,39 @@ pub fn settings(draw: Draw) -> Settings {
         1 => between(draw, 1, k_most.min(4)),
         _ => between(draw, 1, k_most),
     };
+    let timeout_type = (draw(3) > 0) as usize;
+    // Many suspend soon and often, few of those with a wide window, which is to be full.
+    let soon = timeout_type == 1 && draw(if k > WIDE { 8 } else { 2 }) == 0;
     Settings {
         spacecraft: draw(1024),
         channel: draw(64),
         number: draw(256),
         k,
         t1_initial: match draw(4) {
+            _ if soon => between(draw, 1, SOON),
             0 => 1,
             1 => between(draw, 1, 5),
             2 => between(draw, 1, 40),
             _ => between(draw, 1, 65_535),
         },
         transmission_limit: match draw(8) {
+            _ if soon => between(draw, 1, 3),
             0 => 1,
             1 | 2 => between(draw, 2, 4),
             _ => between(draw, 1, 255),
         },
+        timeout_type,
         window: 2 * half_window,
         buffers: between(draw, 1, 8),
     }
 }
 
-/// How busy a session with that K is, how lossy, how soon it ends.
-fn manner(draw: Draw, k: usize) -> Manner {
+/// How busy a session with those settings is, how lossy, how soon it ends.
+fn manner(draw: Draw, settings: &Settings) -> Manner {
     let mut shares = [0; KINDS];
     let most = [
-        2000, 300, 800, 2500, 50, 300, 1, 1, 1, 1, 2000, 2500, 2000, 2000, 400, 2000, 2000, 2000,
-        2000, 1500, 800, 1500,
+        2000, 300, 800, 2500, 50, 300, 1, 1, 1, 1, 2000, 2500, 2000, 2000, 400, 50, 2000, 2000,
+        2000, 2000, 1500, 800, 1500,
     ];
     for (share, most) in shares.iter_mut().zip(most) {
         *share = match draw(4) {
@@ -144,16 +158,24 @@ fn manner(draw: Draw, k: usize) -> Manner {
         shares[BEYOND..].fill(0);
     }
     // Units come faster than they are taken, so that a wide window is full.
-    if k > WIDE && draw(3) > 0 {
+    if settings.k > WIDE && draw(3) > 0 {
         shares = shares.map(|share| share / 40 + 1);
         (shares[0], shares[3]) = (2000, 2500);
+    }
+    if settings.k <= WIDE && settings.timeout_type == 1 && settings.t1_initial <= SOON {
+        shares[2] = shares[2].max(1000);
     }
     let under_way = match draw(3) {
         0 => usize::MAX,
         1 => between(draw, 1, 40),
         _ => between(draw, 1, 4),
     };
-    Manner { shares, under_way }
+    Manner {
+        shares,
+        resume: [4, 20, 100, 400][draw(4)],
+        rejects_while_suspended: draw(4) == 0,
+        under_way,
+    }
 }
 
 fn unit(draw: Draw) -> Vec<u8> {
@@ -195,10 +217,45 @@ fn room(draw: Draw) -> usize {
     }
 }
 
+/// Directive 6 with a value, which is not looked at.
+fn resume(draw: Draw) -> Event {
+    Event::Resume {
+        value: [0, 1, 255, 256, 65_536, 1 << 31][draw(6)],
+    }
+}
+
+/// A reject of the lower layer.
+fn reject(draw: Draw) -> Event {
+    let rejects = [
+        fop1::Event::AdReject,
+        fop1::Event::BcReject,
+        fop1::Event::BdReject,
+    ];
+    Event::Lower {
+        response: rejects[draw(3)].clone(),
+        room: room(draw),
+    }
+}
+
 /// The next random event of a session.
 fn event(draw: Draw, manner: &Manner, session: &Session) -> Event {
+    if session.sender.suspended() {
+        match draw(40) {
+            0 => return Event::Terminate,
+            1..=3 if manner.rejects_while_suspended => return reject(draw),
+            _ if draw(manner.resume) == 0 => return resume(draw),
+            _ => (),
+        }
+    }
     let event = drawn(draw, &manner.shares, session);
     match event {
+        Event::Lower { ref response, .. }
+            if response.is_reject()
+                && session.sender.suspended()
+                && !manner.rejects_while_suspended =>
+        {
+            resume(draw)
+        }
         Event::Report if session.words.len() >= manner.under_way => Event::Word { room: ROOM_MOST },
         Event::Lower { .. } | Event::FrameAgain { .. }
             if session.frames.len() >= manner.under_way =>
@@ -253,24 +310,25 @@ fn drawn(draw: Draw, shares: &[usize; KINDS], session: &Session) -> Event {
         13 => Event::Report,
         14 if draw(2) == 0 => Event::FrameLost,
         14 => Event::WordLost,
+        15 => resume(draw),
         BEYOND => Event::FrameStays {
             fill: match draw(2) {
                 0 => Vec::new(),
                 _ => fill(draw),
             },
         },
-        16 => Event::WordStays { room: room(draw) },
-        17 => Event::FrameAgain {
+        17 => Event::WordStays { room: room(draw) },
+        18 => Event::FrameAgain {
             place: place(draw, session),
         },
-        18 => Event::Noise {
+        19 => Event::Noise {
             octets: noise(draw, session),
         },
-        19 => Event::WordNoise {
+        20 => Event::WordNoise {
             octets: word_noise(draw, session),
             room: room(draw),
         },
-        20 => Event::FrameDamaged {
+        21 => Event::FrameDamaged {
             bits: match session.frames.front() {
                 Some(octets) => damage(draw, octets.len()),
                 None => Vec::new(),
@@ -282,17 +340,16 @@ fn drawn(draw: Draw, shares: &[usize; KINDS], session: &Session) -> Event {
 
 /// The next event of a sender alone, with its room: any directive, any word.
 pub fn sender_event(draw: Draw, sender: &Sender) -> (fop1::Event, usize) {
-    let initial = sender.state == State::S6;
     let event = match draw(32) {
         0..=7 => fop1::Event::AdRequest(unit(draw)),
         8 | 9 => fop1::Event::BdRequest(unit(draw)),
-        10..=13 => directive(draw, initial),
+        10..=13 => directive(draw, sender),
         14..=20 => fop1::Event::ControlWord(word(draw, sender)),
         21..=23 => fop1::Event::Tick,
         24..=28 => fop1::Event::AdAccept,
         29 => fop1::Event::BcAccept,
         30 => fop1::Event::BdAccept,
-        _ => match draw(60) {
+        _ => match draw(if sender.suspended() { 6 } else { 60 }) {
             0 => fop1::Event::AdReject,
             1 => fop1::Event::BcReject,
             2 => fop1::Event::BdReject,
@@ -302,12 +359,13 @@ pub fn sender_event(draw: Draw, sender: &Sender) -> (fop1::Event, usize) {
     (event, room(draw))
 }
 
-fn directive(draw: Draw, initial: bool) -> fop1::Event {
+fn directive(draw: Draw, sender: &Sender) -> fop1::Event {
     let number = match draw(10) {
         0 => draw(20),
         1 => usize::MAX - draw(3),
         2 => between(draw, 5, 11),
-        _ if initial => between(draw, 1, 4),
+        3..=8 if sender.suspended() => 6,
+        _ if sender.state == State::S6 => between(draw, 1, 4),
         3 if draw(4) == 0 => 5,
         3 | 4 => between(draw, 1, 4),
         _ => between(draw, 6, 11),

@@ -1,6 +1,6 @@
 //! Random runs of a sender: what it starts with, and its events.
 
-use super::{each_too_wide, too_wide};
+use super::{each_too_wide, suspended, too_wide};
 use crate::library::{SenderEvent, SenderSettings};
 use crate::octets::SENDER_STATE;
 use crate::random::Random;
@@ -9,6 +9,9 @@ use independent::clcw::{self, NO_BIT_LOCK_FLAG, NO_RF_AVAILABLE_FLAG, STATUS_FIE
 use independent::fault::Fault;
 use independent::fop1::{self, Sender, K_MOST, STORE, UNIT_MOST};
 use independent::table_7_8::State;
+
+/// A timer of so few ticks expires soon.
+const SOON: u16 = 4;
 
 /// Settings, of which one is too wide for an octet, or two.
 pub fn fixed_settings() -> Vec<SenderSettings> {
@@ -81,6 +84,9 @@ fn settings(random: &mut Random) -> SenderSettings {
         1 => *random.pick(&[1, 31, 32, 33, 126, 127, 128, 254, 255]),
         _ => 0,
     };
+    let timeout_type = if random.once_in(3) { 0 } else { 1 };
+    // Some suspend soon and often.
+    let soon = timeout_type == 1 && random.once_in(2);
     SenderSettings {
         // Mostly small, so that the stores are.
         k: match random.below(32) {
@@ -92,16 +98,18 @@ fn settings(random: &mut Random) -> SenderSettings {
             _ => K_MOST as u32,
         },
         t1_initial: match random.below(4) {
+            _ if soon => random.between(1, SOON.into()) as u32,
             0 => random.between(1, 3) as u32,
             1 => random.between(1, 65_535) as u32,
             _ => random.between(1, 60) as u32,
         },
         transmission_limit: match random.below(6) {
+            _ if soon => random.between(1, 3) as u32,
             0 => 1,
             1 | 2 => random.between(2, 4) as u32,
             _ => random.between(1, 255) as u32,
         },
-        timeout_type: 0,
+        timeout_type,
         spacecraft: random.between(0, 1023) as u32,
         channel: random.between(0, 63) as u32,
         vs: nnr.wrapping_add(ahead).into(),
@@ -190,6 +198,11 @@ impl Manner {
             };
             *share = (*share).max(1);
         }
+        // The timer expires while frames are still to be sent again.
+        if sender.timeout_type == 1 && sender.t1_initial <= SOON {
+            let (tick, accept) = (3, 4);
+            shares[tick] = shares[accept];
+        }
         Manner {
             shares,
             harm: match deep {
@@ -205,7 +218,11 @@ impl Manner {
 
 /// The next event.
 pub fn event(random: &mut Random, manner: &Manner, sender: &Sender) -> SenderEvent {
-    if sender.state == State::S6 && random.once_in(3) {
+    if sender.suspended() {
+        if let Some(event) = suspended::event(random) {
+            return event;
+        }
+    } else if sender.state == State::S6 && random.once_in(3) {
         let number = if manner.full {
             1
         } else {
@@ -291,11 +308,12 @@ fn directive(random: &mut Random, manner: &Manner, sender: &Sender) -> SenderEve
         1 => random.between(1, 11) as u32 + *random.pick(&[256, 65_536, 1 << 24, 1 << 31]),
         2 => *random.pick(&[0, 12, 255, 256, u32::MAX]),
         3 if sender.state == State::S6 => 7,
+        3..=5 if sender.suspended() => 5,
         3..=5 => random.between(1, 4) as u32,
         _ => random.between(6, 11) as u32,
     };
     let number = match number {
-        5 => 6,
+        5 if !sender.suspended() => 6,
         _ if random.once_in(manner.harm) => 5,
         _ => number,
     };
@@ -303,7 +321,7 @@ fn directive(random: &mut Random, manner: &Manner, sender: &Sender) -> SenderEve
         8 => [1, 32.max(sender.k.into())],
         9 => [1, *random.pick(&[3, 60, 65_535])],
         10 => [1, *random.pick(&[1, 4, 255])],
-        11 => [0, 0],
+        11 => [0, 1],
         _ => [0, 255],
     };
     let value = match random.below(8) {

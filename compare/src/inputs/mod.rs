@@ -8,6 +8,7 @@ pub mod farm1;
 pub mod farm1_frames;
 pub mod fop1;
 pub mod frame;
+pub mod suspended;
 pub mod text;
 
 /// A kind of input to a reader: its share of these inputs, and what makes one.
