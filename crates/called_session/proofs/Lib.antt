@@ -3,7 +3,9 @@ pub mod Responses
 pub mod Ways
 pub mod Directives
 pub mod Sender
+pub mod Started
 pub mod Theorem
 pub mod Refused
 pub mod Kind
 pub mod Suspension
+pub mod Ledger

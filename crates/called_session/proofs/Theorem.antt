@@ -2,19 +2,15 @@
 -- can be met: what `pondreszi_sender_new` gives, told to initiate without check, begins a session, and what `pondreszi_receiver_new` gives is the
 -- receiver of its start.
 use Prim.Native.Nat.{ℕ, _≤_}
-use mathlib.Core.Path.{_≡_, refl, sym, ap, subst, _∙_}
+use mathlib.Core.Path.{_≡_, sym, ap, subst, _∙_}
 use mathlib.Core.Bool.{Bool}
 use mathlib.Core.List.{List, _++_, append-nil}
 use native.Mathlib.Omega.{arith}
 use borrow.Author.Tests.{le-leb}
 use lib.ListN.{length, drop, drop-of-length-le}
 use Rattle.base.specs.Choice.{must}
-use Rattle.memory.specs.Placed.{placed}
-use Rattle.fop.specs.Limits.{largestNumber, largestTimer, largestTransmissionLimit}
+use Rattle.fop.specs.Limits.{largestNumber}
 use Rattle.fop.specs.Events.{directive}
-use Rattle.sender_values.specs.declared.SenderState.{SenderState}
-use Rattle.sender_values.specs.Start.{startOf}
-use Rattle.sender_rows_view.specs.State.{Good}
 use Rattle.receiver_octets.specs.Kept as farm
 use Rattle.receiver.specs.Receiver as farmStart
 use Rattle.receiver.specs.declared.Start.{Start as FarmStart}
@@ -29,18 +25,16 @@ use Rattle.session.proofs.Strong.{stronger-claims}
 use Rattle.session.proofs.Beyond.{beyond}
 use Rattle.sender.specs.declared.Start.{Start}
 use Rattle.fop.specs.Store.{storeNeed}
-use Rattle.sender_octets.specs.Kept.{stateOctets, octetsOf, isState}
-use Rattle.sender_octets.proofs.Judged.{length-octets}
-use Rattle.pondreszi_sender.specs.Senders as sender
+use Rattle.sender_octets.specs.Kept.{stateOctets}
 use Rattle.pondreszi_receiver.specs.Receivers as receiver
 use Rattle.our_session.specs.Ours.{Held, stepOf, heldAfter, lentOutput, senderSettings, freshHeld, startHeld, reads, Begins}
-use Rattle.our_session.proofs.Theorem.{starts, fresh-good, fresh-begins, receiver-starts}
-use Rattle.our_session.proofs.Widened.{good-well}
+use Rattle.our_session.proofs.Theorem.{limits-hold, starts, fresh-begins, receiver-starts}
 use Rattle.called_session.specs.Called.{Kept, heldIn, BeginsKept, called}
 use Rattle.called_session.specs.Demand.{Demand3, StrongerCalled, BeyondCalled, AlertingCalled}
-use Rattle.called_session.specs.Fresh.{newSender, newKept, startKept, FreshSender, FreshReceiver}
+use Rattle.called_session.specs.Fresh.{newKept, startKept, FreshSender, FreshReceiver}
 use Rattle.called_session.proofs.Receiver.{GoodReceiver, keeps-receiver, next-receiver, answer-receiver, word-receiver, start-good}
-use Rattle.called_session.proofs.Sender.{placed-whole, GoodKept, good-kept, octets-kept, held-is, keeps, next, answers}
+use Rattle.called_session.proofs.Started.{Started, started}
+use Rattle.called_session.proofs.Sender.{GoodKept, good-kept, held-is, keeps, next, answers}
 
 -- a caller's two ends are tied to the tables
 pub called-tied : (set : Settings) → Within set → (x : Kept) → BeginsKept set x → Tied set (called set x)
@@ -79,65 +73,29 @@ beyond-called set within x b = beyond set within (called set x) (called-tied set
 -- a new sender, in a buffer of a state's length
 module _ (set : Settings) (within : Within set) (store : List ℕ) (long : storeNeed (set .k) 0 ≤ length store) (buffer : List ℕ)
     (sized : length buffer ≡ stateOctets) where
-  abbrev first : SenderState
-  first = startOf (senderSettings set) (set .n) (set .n)
-
-  given : sender.startGiven (set .k) (set .t1) (set .limit) (set .timeoutType) (set .own .spacecraft) (set .own .channel) (set .n) (set .n) (length store)
-      ≡ record { refusal = 0; sender = record { fop = first } }
-  unfolding sender.startGiven
-  given =
-      simp (
-        le-leb (set .t1) largestTimer (within .timerMost),
-        le-leb (set .limit) largestTransmissionLimit (within .limitMost),
-        le-leb (set .n) largestNumber (within .number),
-      )
-      (starts set within (set .n) (within .number) store long)
-
-  held-first : freshHeld set (set .n) store ≡ record { sender = record { fop = first }; store = store }
-  unfolding freshHeld
-  held-first = ap (λ (x : Start). record { sender = x .sender; store = store }) (starts set within (set .n) (within .number) store long)
-
-  first-good : Good (set .own) first store
-  first-good =
-      subst (λ (x : Held). Good (set .own) (x .sender .fop) (x .store)) held-first (fresh-good set within (set .n) (within .number) store long)
-
-  -- `pondreszi_sender_new` is done, and gives the octets of a fresh sender
-  new-done : newSender set store buffer ≡ record { number = 0; state = octetsOf first }
-  unfolding sender.newCall startOf
-  new-done =
-      let l : stateOctets ≤ length buffer = omega arith in
-      ap (λ (x : Start). sender.startedCall x buffer) given
-      ∙ ap (λ (b : Bool). must b (record { number = 11; state = buffer }) (record { number = 0; state = placed buffer 0 (octetsOf first) }))
-      (le-leb stateOctets (length buffer) l)
-      ∙ ap (λ (o : List ℕ). record { number = 0; state = o }) (placed-whole buffer (octetsOf first) (length-octets first refl ∙ sym sized))
+  new : Started (senderSettings set) (set .n) (set .n) store buffer
+  new =
+      started (senderSettings set) (limits-hold set within (set .n) (within .number) store long) (within .timerMost) (within .limitMost)
+      (set .n) (set .n) (within .number) (within .number) store long buffer sized
 
   new-held : heldIn (newKept set store buffer) ≡ freshHeld set (set .n) store
-  new-held =
-      ap (λ (x : sender.New). heldIn (record { state = x .state; store = store })) new-done
-      ∙ ap (λ (s : SenderState). record { sender = record { fop = s }; store = store }) (octets-kept (set .own) first (good-well first-good) .1)
-      ∙ sym held-first
-
-  new-good : GoodKept (set .own) (newKept set store buffer)
-  new-good = record {
-    is = ap (λ (x : sender.New). isState (x .state)) new-done ∙ octets-kept (set .own) first (good-well first-good) .0;
-    good = subst (λ (x : Held). Good (set .own) (x .sender .fop) (x .store)) (sym new-held)
-        (fresh-good set within (set .n) (within .number) store long);
-  }
+  unfolding freshHeld
+  new-held = new .held ∙ sym (ap (λ (x : Start). record { sender = x .sender; store = store }) (starts set within (set .n) (within .number) store long))
 
   -- told to initiate without check, it begins a session at Transmission_Count 1
   start-begins : set .count ≡ 1 → BeginsKept set (startKept set store buffer)
   start-begins one =
       let h : heldIn (startKept set store buffer) ≡ startHeld set store =
-      held-is (set .own) (newKept set store buffer) (good-kept new-good) (lentOutput 0) (directive 1 0)
+      held-is (set .own) (newKept set store buffer) (good-kept (new .good)) (lentOutput 0) (directive 1 0)
       ∙ ap (λ (x : Held). heldAfter (stepOf (directive 1 0) (lentOutput 0) x)) new-held in
       record {
-        is = keeps (set .own) (newKept set store buffer) new-good 0 (directive 1 0) .is;
+        is = keeps (set .own) (newKept set store buffer) (new .good) 0 (directive 1 0) .is;
         begins = subst (Begins set) (sym h) (fresh-begins set within one store long);
       }
 
 pub fresh-called : FreshSender
 fresh-called set within one store long buffer sized = record {
-  number = ap (λ (x : sender.New). x .number) (new-done set within store long buffer sized);
+  number = new set within store long buffer sized .number;
   begins = start-begins set within store long buffer sized one;
 }
 

@@ -4,3 +4,4 @@ pub mod Fresh
 pub mod Refused
 pub mod Kind
 pub mod Suspension
+pub mod Ledger

@@ -1,4 +1,5 @@
--- Every unit held lies inside the need of the sender's state (`held-inside`). No event reads or writes behind the need judged at it, that of the
+-- Every unit held lies inside the need of the sender's state (`held-inside`), and a first part of a store that has the places of the units held reads as
+-- the store does, whatever stands behind it (`reads-first`). No event reads or writes behind the need judged at it, that of the
 -- state before it and at Set K that of the new K (crate fop, specs/Store, `needAt`), whatever is lent: with more octets behind a store that
 -- suffices it answers, hands down and leaves in that store what it does without them, and they stay as they were (`behind-idle`). So two stores
 -- that agree in as many octets as the need give the same answer, the same next sender and the same output, and agree again (`same-front`);
@@ -12,7 +13,7 @@ use native.Mathlib.Nat.{le-trans}
 use native.Mathlib.Omega.{arith}
 use borrow.Author.Tests.{leb-true, leb-false, le-leb, ne-eqb}
 use lib.Dec.{leb, eqb}
-use lib.ListN.{length, take, drop, getD, length-append, take-append-drop, drop-of-length-le}
+use lib.ListN.{length, take, drop, getD, length-append, length-take, take-append-drop, drop-of-length-le}
 use lib.Seq.{take-append-seam, drop-append-seam, length-take-le}
 use Rattle.base.specs.Choice.{pick, must}
 use Rattle.base.specs.Limits.{largestUnit, largestSpacecraft, largestChannel}
@@ -20,7 +21,7 @@ use Rattle.base.specs.Outcome.{Outcome, Outcome.done, Outcome.refused}
 use Rattle.base.proofs.Tests.{no}
 use Rattle.store.specs.Places.{placeOffset, unitAt, unitPut, without}
 use Rattle.store.proofs.Front.{unit-front, put-front, without-front}
-use Rattle.store.proofs.Need.{larger-second}
+use Rattle.store.proofs.Need.{larger-most, larger-second}
 use Rattle.frame.specs.Frame.{overhead, rawFrame, rawWriting}
 use Rattle.clcw.specs.Answers.{readingOf}
 use Rattle.clcw.specs.declared.WordReading.{WordReading}
@@ -39,6 +40,7 @@ use Rattle.sender_values.specs.Start.{begun}
 use Rattle.sender_view.specs.View.{entriesFrom}
 use Rattle.sender_view.proofs.SentQueue.{held-most}
 use Rattle.sender_table.specs.Rows.{rowNumbered}
+use Rattle.sender_rows_view.specs.State.{Good}
 use Rattle.sender_events.specs.Events.{wordNumber, directiveNumber, windowOf, adNumber, bdNumber, lowerNumber}
 use Rattle.sender_frames.specs.Limits.{needOf}
 use Rattle.sender_frames.specs.Frames.{handedWriting, unitBefore, unitOffered, mustBeUnit}
@@ -82,6 +84,29 @@ module _ (s : SenderState) (front behind : List ℕ) (units : (i : ℕ) → getD
   same-reads : reads (held s (front ++ behind)) ≡ reads (held s front)
   unfolding begun
   same-reads = rw (same-entries _ _ 0 (s .queues .sent) (omega arith), same-unit (s .queues .sent) (omega arith))
+
+-- the places of the units held need no more than any window does
+least-need : (k n : ℕ) → storeNeed 0 n ≤ storeNeed k n
+least-need k n = omega (arith, larger-most 0 n n (omega arith) (omega arith), larger-second k n)
+
+pub units-need : (s : SenderState) (store : List ℕ) (e : SenderEvent) → storeNeed 0 (s .queues .sent) ≤ needAt e (reads (held s store))
+unfolding begun
+units-need s store e =
+    let n = s .queues .sent in
+    let k = windowAt e (reads (held s store)) in
+    let q : needAt e (reads (held s store)) ≡ storeNeed k n = ap (storeNeed k) (entries-count (s .lengths) store _ _ 0 n) in
+    omega (arith, q, least-need k n)
+
+-- a first part of a store that has those places, with any octets behind it, reads as the store does
+pub reads-first : (own : Own) (s : SenderState) (store : List ℕ) → Good own s store → (count : ℕ) → storeNeed 0 (s .queues .sent) ≤ count → (behind : List ℕ)
+    → reads (held s (take count store ++ behind)) ≡ reads (held s store)
+unfolding begun
+reads-first own s store g count h behind =
+    let room : storeNeed 0 (s .queues .sent) ≤ length (take count store) =
+    omega (arith, length-take count store, h, g .formed .room, least-need (s .settings .k) (s .queues .sent)) in
+    same-reads s (take count store) behind (g .formed .units) 0 room
+    ∙ sym (same-reads s (take count store) (drop count store) (g .formed .units) 0 room)
+    ∙ ap (λ (x : List ℕ). reads (held s x)) (take-append-drop count store)
 
 -- A writing is refused by a number that is not 0.
 data Sound : Outcome (Unit {0}) → Type 0 where

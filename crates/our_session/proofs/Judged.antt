@@ -24,8 +24,14 @@ use Rattle.our_session.specs.Does.{Does, Well}
 use Rattle.our_session.proofs.Concluding.{Agrees}
 
 -- the refusal, by whether the frame fits or the store suffices, and how the event was judged: j, or 11, or 0
-abbrev number : Bool → ℕ → ℕ
+abbrev pub number : Bool → ℕ → ℕ
 number b j = pick (eqb j 0) (pick b 0 11) j
+
+pub number-short : (j : ℕ) → eqb (number false j) 0 ≡ false
+number-short j = by (eqb j 0) refl where
+  by : (b : Bool) → eqb j 0 ≡ b → eqb (pick b 11 j) 0 ≡ false
+  by true z = refl
+  by false z = z
 
 -- x where the event is not refused, else y by the refusal
 abbrev unless : {A : Type 0} → A → (ℕ → A) → ℕ → A
@@ -89,6 +95,22 @@ module _ (own : Own) (stored lent : ℕ) (e : SenderEvent) (f : Fop) where
 
   pub store-refused : judged own e ≡ 0 → leb (needAt e f) stored ≡ false → storeRefusal own e stored f ≡ 11
   store-refused p q = refusal-is 0 false p q
+
+  -- an event that is not refused is not refused by the store
+  pub done-stored : lentAnswer own e stored lent f .refusal ≡ 0 → storeRefusal own e stored f ≡ 0
+  unfolding lentAnswer
+  done-stored = by (eqb (storeRefusal own e stored f) 0) refl where
+    by : (b : Bool) → eqb (storeRefusal own e stored f) 0 ≡ b
+        → pick b (senderAnswer own e lent f) (refused (storeRefusal own e stored f) f) .refusal ≡ 0 → storeRefusal own e stored f ≡ 0
+    by true z h = eqb-true (storeRefusal own e stored f) 0 z
+    by false z h = h
+
+  -- where the store is too small, a refusal: 10, 12 or 7, else 11
+  pub short : leb (needAt e f) stored ≡ false
+      → (lentAnswer own e stored lent f ≡ refused (number false (judged own e)) f) × (lentNext own e stored lent f ≡ f)
+  short s =
+      let z = refusal-is (judged own e) false refl s in
+      (answer-by _ z ∙ no _ _ _ (number-short (judged own e)), next-by _ z ∙ no _ _ _ (number-short (judged own e)))
 
   -- where the store suffices, the tables' own answer and next state
   enough : leb (needAt e f) stored ≡ true → (j : ℕ) → judged own e ≡ j

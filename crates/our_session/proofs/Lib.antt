@@ -17,3 +17,5 @@ pub mod Output
 pub mod Restored
 pub mod Behind
 pub mod Suspension
+pub mod Ledger
+pub mod LedgerExample

@@ -1,5 +1,6 @@
 -- The test by which a kept state is restored (crate sender_state) holds of every state that a sender can reach, and a state of which it
--- holds is well-formed: the test is the conjunction of what every event keeps. A start with any two numbers is well-formed.
+-- holds is well-formed: the test is the conjunction of what every event keeps. A start with any two numbers is well-formed, and with a store that suffices
+-- it is no refusal.
 use Prim.Native.Nat.{ℕ, zero, suc, _≤_, _<_}
 use mathlib.Core.Path.{_≡_, refl, sym, ap, subst, _∙_}
 use mathlib.Core.Bool.{Bool, true, false, not, true≢false}
@@ -28,12 +29,24 @@ use Rattle.sender_values.specs.Actions.{unitsHeld}
 use Rattle.sender_rows_view.specs.State.{Good, initial, withFrame}
 use Rattle.fop.specs.Store.{storeNeed}
 use Rattle.sender_frames.specs.Limits.{needOf}
+use Rattle.sender.specs.Start.{startingOf}
 use Rattle.sender_state.specs.State.{settingsHold, numbersHold, isEmpty, isServing, initialHolds, stateHolds, lengthsHold, wellFormed}
 
 -- two tests that hold
 joined : (a b : Bool) → a ≡ true → b ≡ true → both a b ≡ true
 joined true b p q = q
 joined false b p q = p
+
+-- The settings.
+pub settings-test : (g : Settings) → 1 ≤ g .k → g .k ≤ largestK → 1 ≤ g .«t1_initial» → 1 ≤ g .«transmission_limit» → g .«timeout_type» ≤ largestTimeoutType
+    → g .spacecraft ≤ largestSpacecraft → g .channel ≤ largestChannel → settingsHold g ≡ true
+settings-test g least most clock limit type spacecraft channel =
+    joined _ _ (le-leb 1 (g .k) least)
+    (joined _ _ (le-leb (g .k) largestK most)
+    (joined _ _ (le-leb 1 (g .«t1_initial») clock)
+    (joined _ _ (le-leb 1 (g .«transmission_limit») limit)
+    (joined _ _ (le-leb (g .«timeout_type») largestTimeoutType type)
+    (joined _ _ (le-leb (g .spacecraft) largestSpacecraft spacecraft) (le-leb (g .channel) largestChannel channel))))))
 
 -- The lengths.
 lengths-test : (n : ℕ) (ls : List ℕ) → ((i : ℕ) → getD ls i 0 ≤ largestUnit) → ((i : ℕ) → i < n → i < length ls → 1 ≤ getD ls i 0) → lengthsHold n ls ≡ true
@@ -121,13 +134,8 @@ pub good-passes : (own : Own) (s : SenderState) (store : List ℕ) → Good own 
 unfolding wellFormed begun
 good-passes own s store g =
     joined _ _
-    (joined _ _ (le-leb 1 (s .settings .k) (g .window-least))
-    (joined _ _ (le-leb (s .settings .k) largestK (g .window))
-    (joined _ _ (le-leb 1 (s .settings .«t1_initial») (g .clock-least))
-    (joined _ _ (le-leb 1 (s .settings .«transmission_limit») (g .limit-least))
-    (joined _ _ (le-leb (s .settings .«timeout_type») largestTimeoutType (g .type-most))
-    (joined _ _ (le-leb (s .settings .spacecraft) largestSpacecraft (omega (arith, g .spacecraft, g .spacecraft-most)))
-    (le-leb (s .settings .channel) largestChannel (omega (arith, g .channel, g .channel-most)))))))))
+    (settings-test (s .settings) (g .window-least) (g .window) (g .clock-least) (g .limit-least) (g .type-most)
+    (omega (arith, g .spacecraft, g .spacecraft-most)) (omega (arith, g .channel, g .channel-most)))
     (joined _ _
     (joined _ _ (le-leb (s .queues .sent) largestK (g .formed .sent-most))
     (joined _ _ (le-leb (s .queues .sent) (offset (s .variables .vs) (s .variables .nnr)) (g .formed .outstanding))
@@ -219,3 +227,7 @@ module _ (g : Settings) (vs nnr : ℕ) (limits : settingsHold g ≡ true) where
   unfolding startOf
   start-good store v n l long =
       passes-good (startOf g vs nnr) store (record { vs = v; nnr = n; limit = l; count = omega arith; lengths = length-replicate {A = ℕ} places 0 }) long start-passes
+
+  pub start-done : (lent : ℕ) → storeNeed (g .k) 0 ≤ lent → startingOf g vs nnr lent ≡ record { refusal = 0; sender = record { fop = startOf g vs nnr } }
+  unfolding startingOf
+  start-done lent long = simp (limits, le-leb (storeNeed (g .k) 0) lent long)

@@ -12,9 +12,8 @@ use borrow.Author.Tests.{le-leb, eq-eqb, eqb-true, eqb-false}
 use lib.Dec.{eqb}
 use lib.ListN.{length, length-replicate}
 use Rattle.base.specs.Choice.{pick}
-use Rattle.base.proofs.Tests.{no}
 use Rattle.base.specs.Limits.{largestSpacecraft, largestChannel}
-use Rattle.fop.specs.Limits.{largestK, largestNumber, largestTimeoutType}
+use Rattle.fop.specs.Limits.{largestNumber}
 use Rattle.fop.specs.Units.{Own}
 use Rattle.fop.specs.Table as table
 use Rattle.fop.specs.Variables.{Fop, setClock}
@@ -36,23 +35,23 @@ use Rattle.session.proofs.Theorem.{demand3}
 use Rattle.session.proofs.Alerting.{demand3-alerting, beyond-alerting}
 use Rattle.session.proofs.Strong.{stronger-claims}
 use Rattle.session.proofs.Beyond.{beyond}
-use Rattle.fop.specs.Store.{storeNeed, windowAt, needAt, storeRefusal, lentAnswer, lentNext}
+use Rattle.fop.specs.Store.{storeNeed, windowAt, needAt, lentNext}
 use Rattle.sender_state.specs.State.{settingsHold}
 use Rattle.sender.specs.declared.Start.{Start}
 use Rattle.sender.specs.Start.{startingOf}
 use Rattle.our_session.specs.Ours.{Held, stepOf, heldAfter, answerBy, lentOutput, senderSettings, freshHeld, heldAfterAll, startHeld, reads, Begins, ours}
 use Rattle.our_session.specs.Demand.{Demand3, StrongerOurs, BeyondOurs, AlertingOurs}
-use Rattle.our_session.specs.Does.{Does, Well, Demand2}
+use Rattle.our_session.specs.Does.{Well, Demand2}
 use Rattle.our_session.proofs.Events.{entries-count, does}
 use Rattle.our_session.proofs.Output.{output-content-free}
-use Rattle.our_session.proofs.Judged.{suffices-answer, suffices-next}
+use Rattle.our_session.proofs.Judged.{done-stored, suffices-answer, suffices-next}
 use Rattle.our_session.proofs.Refused.{refused-keeps-all}
-use Rattle.our_session.proofs.Restored.{start-good}
+use Rattle.our_session.proofs.Restored.{settings-test, start-done, start-good}
 use Rattle.our_session.proofs.Steps.{store-length}
 use Rattle.our_session.proofs.Widened.{good-well}
 
 -- the sender is well-formed with its store
-abbrev GoodHeld : Own → Held → Type 0
+abbrev pub GoodHeld : Own → Held → Type 0
 GoodHeld own x = Good own (x .sender .fop) (x .store)
 
 -- Demand 2 of our sender: what stands in the output lent is not looked at (Output), so it may be zeros.
@@ -68,23 +67,19 @@ demand2-ours own e output x w =
       good = λ z. subst (GoodHeld own) (sym (same .0)) (d .good z);
     }
 
--- where the store suffices for the state before an event it does for the state after it: a refused event keeps both
+-- where an event is not refused the store suffices for the state after it
+pub done-good : (own : Own) (e : SenderEvent) (lent : ℕ) (x : Held) → Well own (x .sender .fop) → stepOf e (lentOutput lent) x .answer .refusal ≡ 0
+    → GoodHeld own (heldAfter (stepOf e (lentOutput lent) x))
+done-good own e lent x w z =
+    let d = does own e lent x w in
+    d .good (done-stored own (length (x .store)) lent e (reads x) (ap (λ (a : answers.Answer). a .refusal) (sym (d .answer)) ∙ z))
+
+-- where it suffices for the state before an event it does for the state after it: a refused event keeps both
 pub keeps-good : (own : Own) (e : SenderEvent) (lent : ℕ) (x : Held) → GoodHeld own x → GoodHeld own (heldAfter (stepOf e (lentOutput lent) x))
-unfolding lentAnswer
-keeps-good own e lent x g = by (eqb (storeRefusal own e (length (x .store)) (reads x)) 0) refl where
-  d : Does own (length (x .store)) lent e (reads x) (stepOf e (lentOutput lent) x)
-  d = does own e lent x (good-well g)
-
-  number-is : (r : ℕ) → storeRefusal own e (length (x .store)) (reads x) ≡ r → eqb r 0 ≡ false → stepOf e (lentOutput lent) x .answer .refusal ≡ r
-  number-is r q n =
-      ap (λ (a : answers.Answer). a .refusal)
-      (d .answer ∙ ap (λ (k : ℕ). pick (eqb k 0) (senderAnswer own e lent (reads x)) (answers.refused k (reads x))) q ∙ no _ _ _ n)
-
-  by : (b : Bool) → eqb (storeRefusal own e (length (x .store)) (reads x)) 0 ≡ b → GoodHeld own (heldAfter (stepOf e (lentOutput lent) x))
-  by true z = d .good (eqb-true _ 0 z)
-  by false z =
-      subst (GoodHeld own)
-      (sym (refused-keeps-all .held e (lentOutput lent) x (λ n. eqb-false _ 0 z (sym (number-is _ refl z) ∙ n)))) g
+keeps-good own e lent x g = by (eqb (stepOf e (lentOutput lent) x .answer .refusal) 0) refl where
+  by : (b : Bool) → eqb (stepOf e (lentOutput lent) x .answer .refusal) 0 ≡ b → GoodHeld own (heldAfter (stepOf e (lentOutput lent) x))
+  by true z = done-good own e lent x (good-well g) (eqb-true _ 0 z)
+  by false z = subst (GoodHeld own) (sym (refused-keeps-all .held e (lentOutput lent) x (eqb-false _ 0 z))) g
 
 -- the table machine after events, with a store of so many octets lent at each
 abbrev pub nextAll : Own → ℕ → List (SenderEvent × ℕ) → Fop → Fop
@@ -124,21 +119,13 @@ module _ (set : Settings) (within : Within set) (v : ℕ) (octet : v ≤ largest
   abbrev first : SenderState
   first = startOf (senderSettings set) v v
 
-  limits-hold : settingsHold (senderSettings set) ≡ true
+  pub limits-hold : settingsHold (senderSettings set) ≡ true
   limits-hold =
-      simp (
-        le-leb 1 (set .k) (within .windowLeast),
-        le-leb (set .k) largestK (within .windowMost),
-        le-leb 1 (set .t1) (within .timerLeast),
-        le-leb 1 (set .limit) (within .limitLeast),
-        le-leb (set .timeoutType) largestTimeoutType (within .timeoutMost),
-        le-leb (set .own .spacecraft) largestSpacecraft (within .spacecraft),
-        le-leb (set .own .channel) largestChannel (within .channel),
-      )
+      settings-test (senderSettings set) (within .windowLeast) (within .windowMost) (within .timerLeast) (within .limitLeast) (within .timeoutMost)
+      (within .spacecraft) (within .channel)
 
   pub starts : startingOf (senderSettings set) v v (length store) ≡ record { refusal = 0; sender = record { fop = first } }
-  unfolding startingOf
-  starts = simp (limits-hold, le-leb (storeNeed (set .k) 0) (length store) long)
+  starts = start-done (senderSettings set) v v limits-hold (length store) long
 
   first-good : Good (set .own) first store
   first-good = start-good (senderSettings set) v v limits-hold store (omega (arith, octet)) (omega (arith, octet)) (within .limitMost) long

@@ -2,3 +2,4 @@ pub mod Ours
 pub mod Does
 pub mod Demand
 pub mod Suspension
+pub mod Ledger
