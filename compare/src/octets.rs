@@ -4,10 +4,11 @@
 use independent::farm1::{self, Farm1};
 use independent::fault::Fault;
 use independent::fop1::{
-    Answer, Response, Sender, K_MOST, SUSPEND_STATE_MOST, TIMEOUT_TYPE_MOST, UNIT_MOST,
+    Answer, Response, Run, Sender, K_MOST, SUSPEND_STATE_MOST, TIMEOUT_TYPE_MOST, UNIT_MOST,
 };
-use independent::frame::Content;
-use independent::table_7_8::{Reason, State};
+use independent::frame::{self, Content};
+use independent::ledger::Held;
+use independent::table_7_8::{Reason, State, STATES};
 
 pub const SENDER_STATE: usize = LENGTHS + 2 * PLACES;
 pub const ANSWER: usize = 18;
@@ -280,31 +281,60 @@ pub fn put_stored(sender: &Sender, store: &mut [u8]) {
     }
 }
 
-fn response_number(response: Response) -> u8 {
-    match response {
-        Response::AdAccept => 1,
-        Response::AdReject => 2,
-        Response::BdAccept => 3,
-        Response::BdReject => 4,
-        Response::DirectiveAccept => 5,
-        Response::DirectiveReject => 6,
-        Response::DirectivePositiveConfirm => 7,
-        Response::DirectiveNegativeConfirm => 8,
+/// The units that a state and its store hold: those on the Sent_Queue, the oldest first, their
+/// numbers the last before V(S), and behind them the one waiting. None where the octets are not laid
+/// out as a state, or the store is shorter than the units.
+pub fn held<'a>(state: &[u8], store: &'a [u8]) -> Option<Held<'a>> {
+    let state = SenderState::read(state)?;
+    let sent = state.marks.len();
+    let mut units = Vec::new();
+    for (place, length) in state.lengths.iter().enumerate() {
+        let first = place * UNIT_MOST;
+        units.push(store.get(first..first + usize::from(*length))?);
     }
+    let waiting = units.split_off(sent);
+    let first = state.v_s.wrapping_sub(sent as u8);
+    let numbers = (0..sent).map(|place| first.wrapping_add(place as u8));
+    Some(Held {
+        outstanding: numbers.zip(units).collect(),
+        waiting,
+    })
 }
 
-fn alert_number(alert: Option<Reason>) -> u8 {
-    match alert {
-        None => 0,
-        Some(Reason::Synch) => 1,
-        Some(Reason::Clcw) => 2,
-        Some(Reason::Limit) => 3,
-        Some(Reason::NnR) => 4,
-        Some(Reason::Lockout) => 5,
-        Some(Reason::T1) => 6,
-        Some(Reason::Term) => 7,
-        Some(Reason::Llif) => 8,
-    }
+/// By number, from 1 on.
+const RESPONSE_NUMBERS: [Response; 8] = [
+    Response::AdAccept,
+    Response::AdReject,
+    Response::BdAccept,
+    Response::BdReject,
+    Response::DirectiveAccept,
+    Response::DirectiveReject,
+    Response::DirectivePositiveConfirm,
+    Response::DirectiveNegativeConfirm,
+];
+
+/// By number, from 1 on; 0 is none.
+const ALERT_NUMBERS: [Reason; 8] = [
+    Reason::Synch,
+    Reason::Clcw,
+    Reason::Limit,
+    Reason::NnR,
+    Reason::Lockout,
+    Reason::T1,
+    Reason::Term,
+    Reason::Llif,
+];
+
+/// The number of one of a list, from 1 on.
+fn number_of<T: PartialEq>(list: &[T], one: &T) -> u8 {
+    let place = list.iter().position(|other| other == one);
+    1 + place.expect("each has its number") as u8
+}
+
+/// The one of a list that has the number, from 1 on.
+fn numbered<T: Copy>(list: &[T], number: u8) -> Option<T> {
+    let place = usize::from(number).checked_sub(1)?;
+    list.get(place).copied()
 }
 
 /// The octets of an answer.
@@ -316,12 +346,14 @@ pub fn answer(answer: &Answer) -> [u8; ANSWER] {
     octets[2] = answer.state.number();
     octets[3..5].copy_from_slice(&frame.to_be_bytes());
     octets[5] = answer.abort as u8;
-    octets[6] = alert_number(answer.alert);
+    octets[6] = answer
+        .alert
+        .map_or(0, |alert| number_of(&ALERT_NUMBERS, &alert));
     octets[7] = answer.suspend as u8;
     octets[8] = answer.responses.len() as u8;
     assert!(answer.responses.len() <= RESPONSES);
     for (place, response) in answer.responses.iter().enumerate() {
-        octets[9 + place] = response_number(*response);
+        octets[9 + place] = number_of(&RESPONSE_NUMBERS, response);
     }
     octets[13] = answer.confirmed.first;
     octets[14] = answer.confirmed.count;
@@ -329,6 +361,48 @@ pub fn answer(answer: &Answer) -> [u8; ANSWER] {
     octets[16] = answer.denied.count;
     octets[17] = answer.kind;
     octets
+}
+
+/// Reads an answer back, with the frame handed down at the front of the output; none where the
+/// octets are not laid out as one.
+pub fn read_answer(octets: &[u8], output: &[u8]) -> Option<Answer> {
+    let octets = octets.get(..ANSWER)?;
+    let (given, rest) = octets[9..13].split_at_checked(octets[8].into())?;
+    let flags_hold = octets[5] <= 1 && octets[7] <= 1;
+    if !flags_hold || rest.iter().any(|octet| *octet != 0) {
+        return None;
+    }
+    let responses = given
+        .iter()
+        .map(|number| numbered(&RESPONSE_NUMBERS, *number));
+    let frame = match (two(octets, 3), octets[17]) {
+        (0, frame::NONE) => None,
+        (0, _) | (_, frame::NONE) => return None,
+        (length, frame::AD..=frame::BC_SET_VR) => Some(output.get(..length.into())?.to_vec()),
+        _ => return None,
+    };
+    Some(Answer {
+        refusal: octets[0],
+        row: octets[1],
+        state: numbered(&STATES, octets[2])?,
+        frame,
+        kind: octets[17],
+        abort: octets[5] == 1,
+        responses: responses.collect::<Option<Vec<Response>>>()?,
+        alert: match octets[6] {
+            0 => None,
+            number => Some(numbered(&ALERT_NUMBERS, number)?),
+        },
+        suspend: octets[7] == 1,
+        confirmed: Run {
+            first: octets[13],
+            count: octets[14],
+        },
+        denied: Run {
+            first: octets[15],
+            count: octets[16],
+        },
+    })
 }
 
 /// The octets of a receiver's state.
@@ -475,6 +549,86 @@ mod tests {
             ended,
             [0, 29, 6, 0, 0, 0, 7, 0, 3, 5, 2, 7, 0, 0, 0, 255, 2, 0]
         );
+    }
+
+    /// The answer's octets read back.
+    fn reads_back(given: &Answer) -> bool {
+        let octets = answer(given);
+        let output = given.frame.clone().unwrap_or_default();
+        read_answer(&octets, &output).as_ref() == Some(given)
+    }
+
+    #[test]
+    fn answers_read_back() {
+        let mut sender = started();
+        let events = [
+            DIRECTIVE(4, 200),
+            Event::BcAccept,
+            Event::ControlWord(vec![1, 0x0C, 0, 200]),
+            Event::AdRequest(vec![7; 3]),
+            Event::BdRequest(vec![7; UNIT_MOST]),
+            Event::AdAccept,
+            Event::AdRequest(vec![8]),
+            Event::AdRequest(vec![9]),
+            Event::AdRequest(Vec::new()),
+            Event::AdAccept,
+            Event::ControlWord(vec![1, 0x0C, 8, 201]),
+            DIRECTIVE(12, 0),
+            DIRECTIVE(5, 0),
+        ];
+        let mut given = Vec::new();
+        for event in &events {
+            let answer = sender.take(event, FRAME_MOST, Fault::None);
+            assert!(reads_back(&answer), "{answer:?}");
+            given.push(answer);
+        }
+        let (aborts, ends) = (&given[10], &given[12]);
+        assert!(aborts.abort && aborts.confirmed.count == 1 && ends.denied.count == 1);
+        let octets = answer(aborts);
+        let output = aborts.frame.clone().unwrap();
+        assert_eq!(read_answer(&octets[..ANSWER - 1], &output), None);
+        assert_eq!(read_answer(&octets, &output[1..]), None);
+        let bad_octets = [
+            [(2, 0), (2, 7), (4, 0), (5, 2), (6, 9)],
+            [(7, 2), (8, 1), (8, 5), (9, 1), (17, 5)],
+        ];
+        for (place, octet) in bad_octets.into_iter().flatten() {
+            let mut octets = octets;
+            octets[place] = octet;
+            assert_eq!(read_answer(&octets, &output), None, "{place} {octet}");
+        }
+        for (place, reason) in ALERT_NUMBERS.iter().enumerate() {
+            let mut octets = octets;
+            octets[6] = place as u8 + 1;
+            let read = read_answer(&octets, &output).unwrap();
+            assert_eq!((read.alert, answer(&read)), (Some(*reason), octets));
+        }
+    }
+
+    // Three units of 3, 1,017 and 1 octets, the last one waiting, V(S) 1.
+    #[test]
+    fn held_by_state_and_store() {
+        let mut state = whole(&[
+            0x53, 2, 1, 2, 0x12, 0x34, 5, 0, 0x02, 0xA5, 3, 1, 255, 0x12, 0x34, 1, 14, 0, 2, 0, 0,
+            0, 0, 3, 3, 249, 0, 1,
+        ]);
+        let mut store = vec![0; 2 * UNIT_MOST + 1];
+        store[..3].copy_from_slice(&[7; 3]);
+        store[UNIT_MOST..2 * UNIT_MOST].copy_from_slice(&[8; UNIT_MOST]);
+        store[2 * UNIT_MOST] = 9;
+        let units = Held {
+            outstanding: vec![(255, &[7; 3]), (0, &[8; UNIT_MOST])],
+            waiting: vec![&[9]],
+        };
+        assert_eq!(held(&state, &store), Some(units));
+        assert_eq!(held(&state, &store[..2 * UNIT_MOST]), None);
+        assert_eq!(held(&state[1..], &store), None);
+        state[16] -= 8;
+        let sent = held(&state, &store).unwrap();
+        assert_eq!((sent.outstanding.len(), sent.waiting.len()), (2, 0));
+        let none = SenderState::of(&started()).octets();
+        let nothing = held(&none, &[]).unwrap();
+        assert!(nothing.outstanding.is_empty() && nothing.waiting.is_empty());
     }
 
     #[test]

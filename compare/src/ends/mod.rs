@@ -5,6 +5,7 @@ mod receiver;
 mod receiver_end;
 mod sender;
 mod sender_end;
+mod sender_ledger;
 mod session;
 mod session_met;
 
@@ -14,8 +15,8 @@ use crate::octets::LENGTHS;
 use crate::random::Random;
 use crate::settings::{self, print_names, Settings};
 use independent::fault::{
-    Fault, FOP_FAULTS, KEPT_FAULTS, PASS_FAULTS, PROGRAM_FAULTS, SESSION_FAULTS, STORE_FAULTS,
-    SUSPENSION_FAULTS,
+    Fault, FOP_FAULTS, KEPT_FAULTS, LEDGER_FAULTS, PASS_FAULTS, PROGRAM_FAULTS, SESSION_FAULTS,
+    STORE_FAULTS, SUSPENSION_FAULTS,
 };
 use std::process::ExitCode;
 use std::time::Instant;
@@ -80,7 +81,13 @@ fn faults(mode: &Mode) -> Vec<(&'static str, Fault)> {
         .iter()
         .filter(|fault| KEPT_FAULTS.contains(&fault.1));
     match mode {
-        Mode::Sender => [&FOP_FAULTS[..], &SUSPENSION_FAULTS, &STORE_FAULTS].concat(),
+        Mode::Sender => [
+            &FOP_FAULTS[..],
+            &SUSPENSION_FAULTS,
+            &LEDGER_FAULTS,
+            &STORE_FAULTS,
+        ]
+        .concat(),
         Mode::Receiver => farm_faults(),
         Mode::Session => {
             let faults = SESSION_FAULTS.iter().chain(of_a_pass);

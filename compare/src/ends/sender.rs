@@ -1,6 +1,7 @@
 //! Random runs of a sender.
 
 use super::sender_end::{self, call, Call, Expected, SenderEnd};
+use super::sender_ledger::Account;
 use super::{compare_runs, damage, refusal, Counts, Report, ENOUGH_TO_MEET_ALL};
 use crate::check::Tally;
 use crate::inputs::fop1::{self as inputs, Manner};
@@ -13,6 +14,7 @@ use independent::clcw;
 use independent::fault::Fault;
 use independent::fop1::{self, Answer, Sender, K_MOST, UNIT_MOST};
 use independent::frame::{self, FRAME_MOST};
+use independent::ledger;
 use independent::refusal::{ADDRESS, DONE, LENGTH, ROOM, SETTING};
 use independent::suspension::{self, Law};
 use independent::table_7_8::{cell, Cell, STATES, TABLE};
@@ -20,8 +22,13 @@ use independent::table_7_8::{cell, Cell, STATES, TABLE};
 /// The octets of the shortest unit beyond the limit.
 const TOO_LONG: usize = UNIT_MOST + 1;
 
-/// Once in so many events a suspended sender is restored.
+/// In one of so many runs, once in so many events, a suspended sender is restored. A ledger is kept
+/// until then.
+const RESTORING: usize = 3;
 const RESTORED: usize = 150;
+
+/// At least one of so many events is of a ledger.
+const LEDGER_SHARE: u64 = 2;
 
 const KINDS: [&str; 15] = [
     "new",
@@ -59,6 +66,9 @@ const WIDEST: [&str; 3] = [
     "127 units of 1017 octets sent",
 ];
 
+/// The case of a ledger that only brisk runs meet.
+const ALL_NUMBERS: &str = "number used again after 256 units";
+
 /// By number, from 1 on.
 const DIRECTIVES: [&str; 11] = [
     "directive 1",
@@ -91,20 +101,34 @@ const WHILE_SUSPENDED: [&str; 3] = [
     "BD frame handed down",
 ];
 
-const LENDINGS: [&str; 13] = [
+const LENDINGS: [&str; 17] = [
     "whole",
     "store longer than the need",
+    "other octets behind the units",
+    "other octets behind the units, none held",
     "store one octet too short",
     "store too short",
     "Set K, store for the old K alone",
     "Set K, store for the new K alone",
     "store for K, more units sent",
     "output too short",
+    "AD request, store too short",
+    "AD request, output too short",
     "answer too short",
     "former layout",
     "no state",
     "damaged and perhaps a state",
     "suspended sender restored",
+];
+
+/// The units of all ledgers, those waiting and outstanding at their ends.
+const UNITS: [&str; 6] = [
+    "offered",
+    "rejected",
+    "waiting",
+    "confirmed",
+    "denied",
+    "outstanding",
 ];
 
 struct Met {
@@ -120,6 +144,10 @@ struct Met {
     cells: Counts,
     /// The cases of the law of suspension.
     law: Counts,
+    /// The events of ledgers, their units and their cases.
+    ledger_events: Counts,
+    units: Counts,
+    ledger: Counts,
 }
 
 /// Counts of some things by name.
@@ -128,11 +156,14 @@ fn named<'a>(title: &'static str, names: impl IntoIterator<Item = &'a str>) -> C
 }
 
 impl Met {
-    fn new() -> Met {
+    /// Of so many events.
+    fn new(count: u64) -> Met {
         let events = [&EVENTS[..], &DIRECTIVES, &LOWER_LAYER].concat();
         let kinds = [&KINDS[..], &events].concat();
         let while_suspended = [&events[..], &WHILE_SUSPENDED].concat();
         let law = suspension::Met::default().named();
+        let ledger = ledger::Met::default();
+        let ledger = ledger.named().iter().map(|case| &case.0[..]);
         let rows = || TABLE.iter().map(|row| row.event);
         let refusals = [DONE, ADDRESS, LENGTH, ROOM, SETTING].map(refusal);
         let met_in = |row: u8| {
@@ -155,6 +186,12 @@ impl Met {
                 ..Counts::new("cells", rows().flat_map(met_in))
             },
             law: named("law of suspension", law.map(|met| met.0)),
+            ledger_events: Counts {
+                least: count / LEDGER_SHARE,
+                ..named("ledgers", ["events"])
+            },
+            units: named("units of ledgers", UNITS),
+            ledger: named("cases of ledgers", ledger),
         }
     }
 
@@ -164,6 +201,30 @@ impl Met {
             self.law.meet_often(name, count as u64);
         }
     }
+
+    /// What a ledger came to.
+    fn meet_ledger(&mut self, account: Option<Account>) {
+        let Some(Account { ledger, .. }) = account else {
+            return;
+        };
+        self.ledger_events
+            .meet_often("events", ledger.events as u64);
+        let counts = ledger.counts();
+        let counts = [
+            counts.offered,
+            counts.rejected,
+            counts.waiting,
+            counts.confirmed,
+            counts.denied,
+            counts.outstanding,
+        ];
+        for (name, count) in UNITS.into_iter().zip(counts) {
+            self.units.meet_often(name, count as u64);
+        }
+        for (name, count) in ledger.met.named() {
+            self.ledger.meet_often(name, *count as u64);
+        }
+    }
 }
 
 fn cell_name(row: u8, state: u8) -> String {
@@ -171,13 +232,14 @@ fn cell_name(row: u8, state: u8) -> String {
 }
 
 pub fn compare(settings: &Settings) -> Report {
-    let mut met = Met::new();
+    let mut met = Met::new(settings.count);
     let mut fixed = inputs::fixed_settings().into_iter();
     let enough = settings.count >= ENOUGH_TO_MEET_ALL;
     let (tally, runs) = compare_runs(settings, |random, tally| {
-        // Until the widest window was full.
+        // Until the widest window was full, and then until all numbers were used.
         let is_full = WIDEST.iter().all(|name| met.kinds.is_met(name));
-        let is_widest = enough && fixed.len() == 0 && !is_full;
+        let is_round = met.ledger.is_met(ALL_NUMBERS);
+        let is_widest = enough && fixed.len() == 0 && !(is_full && is_round);
         let memory = match fixed.next() {
             Some(settings) => (
                 settings,
@@ -191,6 +253,7 @@ pub fn compare(settings: &Settings) -> Report {
             return false;
         };
         let manner = match is_widest {
+            true if is_full => Manner::brisk(5000),
             true => Manner::full(1),
             false => Manner::new(random, &sender),
         };
@@ -210,6 +273,9 @@ pub fn compare(settings: &Settings) -> Report {
             met.rows,
             met.cells,
             met.law,
+            met.ledger_events,
+            met.units,
+            met.ledger,
         ],
     }
 }
@@ -243,14 +309,17 @@ fn run(
     tally: &mut Tally,
     met: &mut Met,
 ) {
-    let least = if manner.full { 700 } else { 100 };
+    let (least, most) = manner.events;
+    let restoring = !manner.full && random.once_in(RESTORING);
     let mut law = Law::from(&sender);
-    for n in 0..random.between(least, 1500) {
+    let mut account = Some(Account::of(&sender, settings.fault));
+    for n in 0..random.between(least, most) {
         if tally.inputs >= settings.count {
             break;
         }
-        if !manner.full && random.once_in(RESTORED) {
+        if restoring && random.once_in(RESTORED) {
             met.meet_law(&law);
+            met.meet_ledger(account.take());
             (end, sender) = restored(random, &sender);
             law = Law::from(&sender);
             met.lendings.meet("suspended sender restored");
@@ -283,6 +352,10 @@ fn run(
         meet(&call, &expected, &before, met);
         let mut differences = call.differences(&expected, &sender);
         differences.extend(check_law(&mut law, &event, &expected, (&before, &sender)));
+        if let Some(account) = account.as_mut().filter(|_| !is_damaged) {
+            let broken = account.check(&call, &end, &sender).err();
+            differences.extend(broken.map(|claim| format!("ledger: {claim}")));
+        }
         tally.compared(differences.is_empty(), || {
             format!(
                 "  event {n} of the run: {}\n{}",
@@ -298,6 +371,7 @@ fn run(
         }
     }
     met.meet_law(&law);
+    met.meet_ledger(account);
 }
 
 /// The law of suspension where the event came to the sender.
@@ -353,6 +427,7 @@ fn memory(
     };
     let store = store(event, sender, random, met);
     let mut memory = end.memory(random, [store, output, answer]);
+    lend_anew(&mut memory.store, sender, random, met);
     let mut ill_formed = None;
     match random.below(160) {
         0 => memory.answer.truncate(random.below(ANSWER)),
@@ -406,6 +481,27 @@ fn store(event: &SenderEvent, sender: &Sender, random: &mut Random, met: &mut Me
     lent
 }
 
+/// Mostly the octets behind the units are other ones than the last event left: a host may lend any
+/// first part that has the units, and what it likes behind it.
+fn lend_anew(store: &mut [u8], sender: &Sender, random: &mut Random, met: &mut Met) {
+    let units = sender.stored();
+    let last = units.last().map_or(0, Vec::len);
+    let kept = units.len().saturating_sub(1) * UNIT_MOST + last;
+    if store.len() <= kept || random.once_in(3) {
+        return;
+    }
+    let kept = match random.below(3) {
+        0 => random.between(kept, store.len()),
+        _ => kept,
+    };
+    let others = random.octets(store.len() - kept);
+    store[kept..].copy_from_slice(&others);
+    met.lendings.meet(match units.len() {
+        0 => "other octets behind the units, none held",
+        _ => "other octets behind the units",
+    });
+}
+
 /// The octets of the frame that the event hands down, or some.
 fn need(event: &SenderEvent, sender: &Sender) -> usize {
     let Some(event) = sender_end::independent_event(event) else {
@@ -428,8 +524,16 @@ fn meet(call: &Call, expected: &Expected, before: &Sender, met: &mut Met) {
     }
     let event = sender_end::independent_event(&call.event);
     let need = event.map_or(0, |event| before.store_at(&event, Fault::None));
-    if answer.refusal == ROOM && call.before.store.len() >= need {
+    let is_request = matches!(call.event, SenderEvent::RequestAd(_));
+    let store_short = call.before.store.len() < need;
+    if answer.refusal == ROOM && !store_short {
         met.lendings.meet("output too short");
+    }
+    if answer.refusal == ROOM && is_request {
+        met.lendings.meet(match store_short {
+            true => "AD request, store too short",
+            false => "AD request, output too short",
+        });
     }
     if answer.row != 0 {
         met.rows.meet(&format!("E{}", answer.row));

@@ -113,6 +113,15 @@ pub enum Fault {
     FopTerminateEndsSuspension,
     /// A control word that comes while suspended confirms units (rows E2 and E6 in S6).
     FopConfirmsWhileSuspended,
+    /// A unit that waits still waits after an alert (clause 7.9.2.14; a wrong account of units,
+    /// document 02, order 11, for these four).
+    LedgerKeepsWaiting,
+    /// Units are confirmed twice.
+    LedgerConfirmsTwice,
+    /// One of the units denied is not told (clause 7.9.2.4).
+    LedgerForgetsDenied,
+    /// What becomes of a unit that waits is not told (clauses 7.9.2.5 and 7.9.2.16).
+    LedgerWaitingUnanswered,
     /// The store is judged by the old K at Set K (document 02, order 7, for these five).
     StoreByOldK,
     /// The store is judged by the larger of both at Set K.
@@ -236,6 +245,15 @@ pub const SUSPENSION_FAULTS: [(&str, Fault); 8] = [
         "fop_confirms_while_suspended",
         Fault::FopConfirmsWhileSuspended,
     ),
+];
+
+/// The faults of the account that a sender gives of its AD units (document 02, order 11), by name;
+/// stand_in.rs has the senders.
+pub const LEDGER_FAULTS: [(&str, Fault); 4] = [
+    ("ledger_keeps_waiting", Fault::LedgerKeepsWaiting),
+    ("ledger_confirms_twice", Fault::LedgerConfirmsTwice),
+    ("ledger_forgets_denied", Fault::LedgerForgetsDenied),
+    ("ledger_waiting_unanswered", Fault::LedgerWaitingUnanswered),
 ];
 
 /// The faults of a sender's limits, its store and its state's octets, by name. No session has them: its

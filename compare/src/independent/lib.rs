@@ -11,6 +11,7 @@ pub mod fault;
 pub mod fecf;
 pub mod fop1;
 pub mod frame;
+pub mod ledger;
 pub mod output;
 pub mod program;
 pub mod randomizer;
@@ -21,6 +22,7 @@ pub mod session_check;
 pub mod session_noise;
 pub mod session_pass;
 pub mod session_random;
+pub mod stand_in;
 pub mod suspension;
 pub mod table_7_8;
 

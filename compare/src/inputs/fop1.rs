@@ -161,6 +161,8 @@ pub struct Manner {
     largest: usize,
     /// Next to nothing comes but units and their accepts, so that the widest window is full.
     pub full: bool,
+    /// So many events at the least and at the most.
+    pub events: (usize, usize),
 }
 
 /// The kinds of events.
@@ -175,6 +177,19 @@ impl Manner {
             unit_most: 12,
             largest,
             full: true,
+            events: (700, 1500),
+        }
+    }
+
+    /// Units are sent and acknowledged one after the other, so that all numbers are used and more.
+    pub fn brisk(harm: usize) -> Manner {
+        Manner {
+            shares: [60, 2, 2, 6, 60, 2, 2, 1, 40, 2],
+            harm,
+            unit_most: 12,
+            largest: 400,
+            full: false,
+            events: (2000, 4000),
         }
     }
 
@@ -182,6 +197,10 @@ impl Manner {
         if sender.k > 32 || random.once_in(12) {
             let largest = *random.pick(&[1, 4, 40]);
             return Manner::full(largest);
+        }
+        if random.once_in(12) {
+            let harm = *random.pick(&[20, 60, 5000]);
+            return Manner::brisk(harm);
         }
         // Much is sent and little of it acknowledged.
         let deep = random.once_in(3);
@@ -212,7 +231,16 @@ impl Manner {
             unit_most: *random.pick(&[12, 12, 12, 12, 12, 12, 12, 250, 250, 250, UNIT_MOST]),
             largest: 40,
             full: false,
+            events: (100, 1500),
         }
+    }
+}
+
+/// A value for V(S): often one near it, whose number was used.
+fn value_of_v_s(random: &mut Random, sender: &Sender) -> u32 {
+    match random.below(3) {
+        0 => sender.v_s.wrapping_sub(random.below(12) as u8).into(),
+        _ => random.below(256) as u32,
     }
 }
 
@@ -223,12 +251,12 @@ pub fn event(random: &mut Random, manner: &Manner, sender: &Sender) -> SenderEve
             return event;
         }
     } else if sender.state == State::S6 && random.once_in(3) {
-        let number = if manner.full {
-            1
-        } else {
-            random.between(1, 4) as u32
+        let number = match random.below(8) {
+            _ if manner.full => 1,
+            0 => 7,
+            _ => random.between(1, 4) as u32,
         };
-        let value = random.below(256) as u32;
+        let value = value_of_v_s(random, sender);
         return SenderEvent::Directive { number, value };
     }
     // No word ends this where V(S) is not NN(R).
@@ -332,6 +360,7 @@ fn directive(random: &mut Random, manner: &Manner, sender: &Sender) -> SenderEve
             high + random.between(1, K_MOST) as u32
         }
         3 if random.once_in(4) => random.number() as u32,
+        4 | 5 if [4, 7].contains(&number) => value_of_v_s(random, sender),
         _ => random.between(least_and_most[0] as usize, least_and_most[1] as usize) as u32,
     };
     SenderEvent::Directive { number, value }
@@ -364,7 +393,10 @@ fn word(random: &mut Random, manner: &Manner, sender: &Sender) -> Vec<u8> {
     let mut octets = bits::to_octets(&word);
     match random.below(60) {
         0 => octets.truncate(random.below(4)),
-        1 => octets.extend(vec![0; random.between(1, 4)]),
+        1 => {
+            let behind = random.between(1, 4);
+            octets.extend(random.octets(behind));
+        }
         _ => (),
     }
     if octets.len() == 4 && random.once_in(2 * manner.harm) {
