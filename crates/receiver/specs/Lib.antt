@@ -1,3 +1,4 @@
 pub mod Channel
 pub mod Receiver
 pub mod State
+pub mod Shared

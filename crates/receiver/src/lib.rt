@@ -1,5 +1,6 @@
 // Clauses 7.2.3, 7.5 and 7.9.3, table 7-9: FARM-1, the receiver: its address, its AD buffers and its channel.
 mod events;
+mod shared;
 mod state;
 
 use crate::state::well_formed;

@@ -7,7 +7,7 @@ ghost use mathlib.Core.Path.{_≡_};
 ghost use Rattle.receiver.specs.State.{flagsHold, wellFormed};
 
 // Whether the flags are those of the state.
-fn flags_hold(state: State, lockout: bool, wait: bool, retransmit: bool) -> bool
+pub(crate) fn flags_hold(state: State, lockout: bool, wait: bool, retransmit: bool) -> bool
     ensures { λ r. ⌜ r ≡ flagsHold state lockout wait retransmit ⌝ }
 {
     match state {

@@ -36,22 +36,22 @@ abbrev pub flagsOctet : Bool → Bool → Bool → ℕ
 flagsOctet lockout wait retransmit = bitOf lockout * 4 + bitOf wait * 2 + bitOf retransmit
 
 -- what is written for what is read, of a state's number and of flags
-state-again : (n : ℕ) → 1 ≤ n → n ≤ 3 → n ≡ stateNumber (stateNumbered n)
+pub state-again : (n : ℕ) → 1 ≤ n → n ≤ 3 → n ≡ stateNumber (stateNumbered n)
 state-again zero h k = absurd (omega arith)
 state-again (suc zero) h k = refl
 state-again (suc (suc zero)) h k = refl
 state-again (suc (suc (suc zero))) h k = refl
 state-again (suc (suc (suc (suc n)))) h k = absurd (omega arith)
 
-flags-again : (n : ℕ) → n < 8 → n ≡ flagsOctet (isSet n 4) (isSet n 2) (isSet n 1)
+pub flags-again : (n : ℕ) → n < 8 → n ≡ flagsOctet (isSet n 4) (isSet n 2) (isSet n 1)
 flags-again n h = eqb→eq n (flagsOctet (isSet n 4) (isSet n 2) (isSet n 1)) (below (λ m. eqb m (flagsOctet (isSet m 4) (isSet m 2) (isSet m 1))) 8 tt n h)
 
-state-low : (s : State) → 1 ≤ stateNumber s
+pub state-low : (s : State) → 1 ≤ stateNumber s
 state-low Open = omega arith
 state-low Wait = omega arith
 state-low Lockout = omega arith
 
-state-high : (s : State) → stateNumber s ≤ 3
+pub state-high : (s : State) → stateNumber s ≤ 3
 state-high Open = omega arith
 state-high Wait = omega arith
 state-high Lockout = omega arith

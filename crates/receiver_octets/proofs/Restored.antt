@@ -25,10 +25,10 @@ use Rattle.receiver_octets.specs.Kept.{stateNumber, stateNumbered, octet
 use Rattle.receiver_octets.proofs.Judged.{flagsOctet}
 
 -- a state by its number, and flags by their octet
-numbered-back : (s : State) → stateNumbered (stateNumber s) ≡ s
+pub numbered-back : (s : State) → stateNumbered (stateNumber s) ≡ s
 numbered-back = by-state (λ (s : State). stateNumbered (stateNumber s) ≡ s) refl refl refl
 
-flags-back : (l w t : Bool) → (isSet (flagsOctet l w t) 4 ≡ l) × (isSet (flagsOctet l w t) 2 ≡ w) × (isSet (flagsOctet l w t) 1 ≡ t)
+pub flags-back : (l w t : Bool) → (isSet (flagsOctet l w t) 4 ≡ l) × (isSet (flagsOctet l w t) 2 ≡ w) × (isSet (flagsOctet l w t) 1 ≡ t)
 flags-back true true true = (refl, refl, refl)
 flags-back true true false = (refl, refl, refl)
 flags-back true false true = (refl, refl, refl)

@@ -21,22 +21,22 @@ const MARK: u8 = 0x52;
 const LAYOUT: u8 = 1;
 
 // Octet 2.
-const OPEN: u8 = 1;
+pub const OPEN: u8 = 1;
 
 const WAIT: u8 = 2;
 
-const LOCKOUT: u8 = 3;
+pub const LOCKOUT: u8 = 3;
 
 // Octet 10: the weights of the flags.
-const LOCKOUT_FLAG: u8 = 4;
+pub const LOCKOUT_FLAG: u8 = 4;
 
-const WAIT_FLAG: u8 = 2;
+pub const WAIT_FLAG: u8 = 2;
 
-const RETRANSMIT_FLAG: u8 = 1;
+pub const RETRANSMIT_FLAG: u8 = 1;
 
-const FLAGS_END: u8 = 8;
+pub const FLAGS_END: u8 = 8;
 
-fn state_number(state: State) -> u8
+pub fn state_number(state: State) -> u8
     ensures { λ r. ⌜ r ≡ stateNumber state ⌝ }
 {
     match state {
@@ -46,7 +46,7 @@ fn state_number(state: State) -> u8
     }
 }
 
-fn state_numbered(number: u8) -> State
+pub fn state_numbered(number: u8) -> State
     ensures { λ r. ⌜ r ≡ stateNumbered number ⌝ }
 {
     if number == OPEN {
@@ -58,7 +58,7 @@ fn state_numbered(number: u8) -> State
     State::Lockout
 }
 
-fn flag(set: bool) -> u8
+pub fn flag(set: bool) -> u8
     ensures number { λ r. ⌜ r ≡ bitOf set ⌝ }
     ensures small { λ r. ⌜ r ≤ 1 ⌝ }
 {

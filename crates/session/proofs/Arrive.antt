@@ -7,7 +7,7 @@ use mathlib.Core.Option.{some}
 use Prim.Native.Nat.{ℕ, _-_, _/_, _≤_}
 use native.Mathlib.Omega.{arith}
 use lib.ListN.{length, length-append}
-use borrow.Author.Tests.{ltb-true, ltb-false}
+use borrow.Author.Tests.{ltb-true, lt-ltb}
 use Rattle.base.specs.Choice.{pick}
 use Rattle.base.specs.Modulo.{advanced}
 use Rattle.fop.specs.Units.{Fdu, Frame, AD, BD, legal}
@@ -20,7 +20,7 @@ use Rattle.fop.specs.Events.{fopBd, first, when, requestBd}
 use Rattle.fop.specs.Events.{work}
 use Rattle.fop.specs.Answers.{judged, needed}
 use Rattle.session.specs.Ends.{Settings, Within}
-use Rattle.session.specs.Session.{bdRequest, frameIn}
+use Rattle.session.specs.Session.{History, bdRequest, frameIn}
 use Rattle.session.specs.Claims.{expected, BufferFree}
 use Rattle.session.proofs.Core.{stepWith, frameEvent, isHanded, handed, free, Session, answered, frameCome, receiver, step}
 use Rattle.session.proofs.Inv.{Inv}
@@ -51,8 +51,9 @@ open-takes = refl
 both-open : (a : Bool) (s : FarmState) → s ≡ Open → both a (notWait s) ≡ false → a ≡ false
 both-open a s o e = sym (both-true a) ∙ ap (λ (x : FarmState). both a (notWait x)) (sym o) ∙ e
 
--- an AD frame that is handed out
-module _ (set : Settings) (vw : Within set) (σ : Session) (I : Inv set σ) (u : Fdu) (fs : List Frame) (e : σ .frames ≡ AD u ∷ fs) where
+-- an AD frame that is handed out; room: a buffer is free, which Free says
+module _ (set : Settings) (vw : Within set) (σ : Session) (I : Inv set σ) (room : Bool) (Free : Type 0) (isFree : (room ≡ true) ↔ Free) (u : Fdu)
+    (fs : List Frame) (e : σ .frames ≡ AD u ∷ fs) where
   fly : Fly (set .w / 2) (σ .sent) (length (σ .accepted)) (length (σ .accepted)) (AD u ∷ fs)
   fly = rw e at (I .base .fly)
 
@@ -63,33 +64,26 @@ module _ (set : Settings) (vw : Within set) (σ : Session) (I : Inv set σ) (u :
   place-is : u .ns ≡ advanced (set .n) (length (σ .accepted)) → fly .0 ≡ length (σ .accepted)
   place-is q = omega (arith, num-is, q, fly .3, fly .4, I .base .small)
 
-  only : handed (set .w) (free set σ) (AD u) (σ .farm) ≡ true
-      → (σ .farm .state ≡ Open) × (u .ns ≡ expected set (historyOf σ)) × BufferFree set (historyOf σ)
+  only : handed (set .w) room (AD u) (σ .farm) ≡ true → (σ .farm .state ≡ Open) × (u .ns ≡ expected set (historyOf σ)) × Free
   unfolding frameEvent
   only =
-      ad-cases set vw σ (free set σ) u fs I fly
-      (λ x. isHanded (unitOf x (σ .farm .state)) ≡ true → (σ .farm .state ≡ Open) × (u .ns ≡ expected set (historyOf σ)) × BufferFree set (historyOf σ))
+      ad-cases set vw σ room u fs I fly
+      (λ x. isHanded (unitOf x (σ .farm .state)) ≡ true → (σ .farm .state ≡ Open) × (u .ns ≡ expected set (historyOf σ)) × Free)
       (λ i p h. (
         e1-takes (σ .farm .state) h,
         num-is ∙ ap (λ (j : ℕ). advanced (set .n) j) i,
-        omega (arith, ltb-true (length (σ .accepted) - σ .released) (set .buffers) (both-left (free set σ) (notWait (σ .farm .state)) p)),
+        isFree .0 (both-left room (notWait (σ .farm .state)) p),
       ))
       (λ i p h. absurd (false≢true (rw (no-unit farm.E2 (σ .farm .state) refl refl) at h)))
       (λ i h. absurd (false≢true (rw (no-unit farm.E3 (σ .farm .state) refl refl) at h)))
       (λ i h. absurd (false≢true (rw (no-unit farm.E4 (σ .farm .state) refl refl) at h)))
 
-  when-open : σ .farm .state ≡ Open → u .ns ≡ expected set (historyOf σ) → BufferFree set (historyOf σ)
-      → handed (set .w) (free set σ) (AD u) (σ .farm) ≡ true
+  when-open : σ .farm .state ≡ Open → u .ns ≡ expected set (historyOf σ) → Free → handed (set .w) room (AD u) (σ .farm) ≡ true
   unfolding frameEvent
   when-open s q b =
-      ad-cases set vw σ (free set σ) u fs I fly (λ x. isHanded (unitOf x (σ .farm .state)) ≡ true)
+      ad-cases set vw σ room u fs I fly (λ x. isHanded (unitOf x (σ .farm .state)) ≡ true)
       (λ i p. ap (λ (x : FarmState). isHanded (unitOf farm.E1 x)) s ∙ open-takes)
-      (λ i p. absurd (omega (
-        arith,
-        ltb-false (length (σ .accepted) - σ .released) (set .buffers) (both-open (free set σ) (σ .farm .state) s p),
-        b,
-        vw .buffersLeast,
-      )))
+      (λ i p. absurd (false≢true (sym (both-open room (σ .farm .state) s p) ∙ isFree .1 b)))
       (λ i. absurd (omega (arith, i, place-is q)))
       (λ i. absurd (omega (arith, i, place-is q)))
 
@@ -97,16 +91,26 @@ acc-is : (u : Fdu) (a : List Fdu) (b : Bool) → (pick b (a ++ (u ∷ [])) a ≡
 acc-is u a true = (λ e. refl, λ e. refl)
 acc-is u a false = (λ e. absurd (omega (arith, ap length e, length-append a (u ∷ []))), λ e. absurd (false≢true e))
 
-pub accepts : (set : Settings) → Within set → (σ : Session) → Inv set σ → (u : Fdu) (fs : List Frame) → σ .frames ≡ AD u ∷ fs
-    → ((step set frameIn σ) .accepted ≡ σ .accepted ++ (u ∷ []))
-    ↔ ((σ .farm .state ≡ Open) × (u .ns ≡ expected set (historyOf σ)) × BufferFree set (historyOf σ))
-unfolding step stepWith frameCome receiver
-accepts set vw σ I u fs e =
-    let k : (step set frameIn σ) .accepted ≡ pick (handed (set .w) (free set σ) (AD u) (σ .farm)) (σ .accepted ++ (u ∷ [])) (σ .accepted) =
-    ap (λ (l : List Frame). (frameCome set (free set σ) l σ) .accepted) e in
-    let iff = acc-is u (σ .accepted) (handed (set .w) (free set σ) (AD u) (σ .farm)) in (
-      λ q. only set vw σ I u fs e (iff .0 (sym k ∙ q)),
-      λ q. k ∙ iff .1 (when-open set vw σ I u fs e (q .0) (q .1) (q .2)),
+pub accepts : (set : Settings) → Within set → (σ : Session) → Inv set σ → (room held : Bool) (Free : Type 0) → (room ≡ true) ↔ Free → (u : Fdu) (fs : List Frame)
+    → σ .frames ≡ AD u ∷ fs
+    → ((stepWith set room held frameIn σ) .accepted ≡ σ .accepted ++ (u ∷ []))
+    ↔ ((σ .farm .state ≡ Open) × (u .ns ≡ expected set (historyOf σ)) × Free)
+unfolding stepWith frameCome receiver
+accepts set vw σ I room held Free isFree u fs e =
+    let k : (stepWith set room held frameIn σ) .accepted ≡ pick (handed (set .w) room (AD u) (σ .farm)) (σ .accepted ++ (u ∷ [])) (σ .accepted) =
+    ap (λ (l : List Frame). (frameCome set room l σ) .accepted) e in
+    let iff = acc-is u (σ .accepted) (handed (set .w) room (AD u) (σ .farm)) in (
+      λ q. only set vw σ I room Free isFree u fs e (iff .0 (sym k ∙ q)),
+      λ q. k ∙ iff .1 (when-open set vw σ I room Free isFree u fs e (q .0) (q .1) (q .2)),
+    )
+
+-- of a receiver that has its buffers for itself, by the histories
+pub free-is : (set : Settings) → Within set → (σ : Session) (h : History) → h ≡ historyOf σ → (free set σ ≡ true) ↔ BufferFree set h
+free-is set vw σ h e =
+    let a : length (h .accepted) ≡ length (σ .accepted) = ap (λ (x : History). length (x .accepted)) e in
+    let r : h .released ≡ σ .released = ap (λ (x : History). x .released) e in (
+      λ p. omega (arith, a, r, ltb-true (length (σ .accepted) - σ .released) (set .buffers) p),
+      λ b. lt-ltb (length (σ .accepted) - σ .released) (set .buffers) (omega (arith, a, r, b, vw .buffersLeast)),
     )
 
 -- a BD unit is offered, and arrives

@@ -19,6 +19,7 @@ use Rattle.receiver.specs.Channel as channel
 use Rattle.receiver.specs.Receiver as farm
 use Rattle.receiver.specs.Receiver.{wordOf}
 use Rattle.farm.specs.declared.Event.the-variants.{E10}
+use Rattle.farm.specs.declared.Variables.{Variables}
 use Rattle.receiver.specs.declared.Receiver.{Receiver}
 use Rattle.receiver.specs.declared.Received.{Received}
 use Rattle.receiver.specs.declared.Released.{Released}
@@ -35,7 +36,7 @@ use Rattle.session.specs.Session as ses
 use Rattle.session.specs.Suspension.{admits, rejects}
 use Rattle.session.proofs.Core as core
 use Rattle.session.proofs.Received.{Readable, receiverOf, received-is, part-is, released-is, answerBy, accepted-is, acceptedBd-is, used-is}
-use Rattle.session.proofs.Buffers.{Stocked, stock-keeps, start-stock}
+use Rattle.session.proofs.Buffers.{Stock, Stocked, stock-keeps, start-stock}
 use Rattle.session.proofs.Core.{addWord, frameEvent, star, used, free, isHeld, Session, addAll, addBds, firstOf, goes}
 use Rattle.session.proofs.Lists.{Numbered}
 use Rattle.session.proofs.Chan.{Fly}
@@ -80,7 +81,7 @@ run-is : (l : List Fdu) → runOf l ≡ record { number = firstOf l; count = len
 run-is [] = refl
 run-is (u ∷ us) = refl
 
-map-rest : {A B : Type 0} (f : A → B) (l : List A) → rest (map f l) ≡ map f (rest l)
+pub map-rest : {A B : Type 0} (f : A → B) (l : List A) → rest (map f l) ≡ map f (rest l)
 map-rest f [] = refl
 map-rest f (x ∷ l) = refl
 
@@ -122,14 +123,111 @@ module _ (set : Settings) (vw : Within set) where
   unfolding afterSender
   refusal-through r f κ = rw (append-nil (κ .confirmed), append-nil (κ .denied))
 
-  word-enters : (b : Bool) (w : Word) (ws : List Word)
+  pub word-enters : (b : Bool) (w : Word) (ws : List Word)
       → enters (map (wordOctets (set .own)) ws) ((toldIf b (wordOctets (set .own) w)) .word) ≡ map (wordOctets (set .own)) (addWord b w ws)
   word-enters true w ws = sym (map-append (wordOctets (set .own)) ws (w ∷ []))
   word-enters false w ws = refl
 
-  -- the receiver's answer to a frame of the session
-  abbrev answerTo : Session → Frame → ReceiverAnswer
-  answerTo κ x = answerBy (frameEvent (set .w) (free set κ) x (κ .farm)) (κ .farm .state) x
+  -- the receiver's answer to a frame of the session; room: a buffer is free
+  abbrev pub answerTo : Bool → Session → Frame → ReceiverAnswer
+  answerTo room κ x = answerBy (frameEvent (set .w) room x (κ .farm)) (κ .farm .state) x
+
+  -- no frame of the session locks the receiver out
+  unlocks : (room : Bool) (κ : Session) (x : Frame) (fs : List Frame) → Inv set κ
+      → Fly (set .w / 2) (κ .sent) (length (κ .accepted)) (length (κ .accepted)) (x ∷ fs)
+      → locks (some (frameEvent (set .w) room x (κ .farm))) ≡ false
+  unfolding frameEvent
+  unlocks room κ (AD u) fs I h = ad-cases set vw κ room u fs I h (λ e. locks (some e) ≡ false) (λ i p. refl) (λ i p. refl) (λ i. refl) (λ i. refl)
+  unlocks room κ (BD o) fs I h = refl
+  unlocks room κ Unlock fs I h = absurd h
+  unlocks room κ (SetVR v) fs I h = absurd h
+  unlocks room κ (Refused r) fs I h = absurd h
+
+  -- the histories after the receiver's answer
+  pub said : (room : Bool) (κ : Session) (x : Frame) (fs : List Frame) → Inv set κ
+      → Fly (set .w / 2) (κ .sent) (length (κ .accepted)) (length (κ .accepted)) (x ∷ fs)
+      → afterFrame x (answerTo room κ x) (historyOf κ) ≡ historyOf (core.frameCome set room (x ∷ fs) κ)
+  unfolding core.frameCome core.receiver afterFrame
+  said room κ x fs I h = rw (unlocks room κ x fs I h, accepted-is set vw κ I room x fs h, acceptedBd-is set vw κ I room x)
+
+  -- what `Tied` says of the sender
+  pub record SenderTied (m : Ends) : Type 1 where
+    pub fop : m .Sender → Fop
+    pub Good : m .Sender → Type 0
+    pub keeps : (e : SenderEvent) → Brought e → (lent : ℕ) (x : m .Sender) → Good x → Good (m .next e lent x)
+    pub next : (e : SenderEvent) → Brought e → (lent : ℕ) (x : m .Sender) → Good x → fop (m .next e lent x) ≡ senderNext (set .own) e lent (fop x)
+    pub answer : (e : SenderEvent) → Brought e → (lent : ℕ) (x : m .Sender) → Good x → m .answer e lent x ≡ senderAnswer (set .own) e lent (fop x)
+
+  -- The sender's half. Of the receiver it has what X says, by FARM-1's variables, the units accepted and the releases done: no event of the sender
+  -- changes that.
+  module _ (m : Ends) (t : SenderTied m) (X : m .Receiver → Variables → List Fdu → ℕ → Type 0) where
+    -- the ends' session, seen as the table machines'
+    pub record Half (σ : Linked m) (κ : Session) : Type 0 where
+      pub good : t .Good (σ .sender)
+      pub fop : t .fop (σ .sender) ≡ κ .fop
+      pub receiver : X (σ .receiver) (κ .farm) (κ .accepted) (κ .released)
+      pub frames : σ .frames ≡ map (written (set .own)) (κ .frames)
+      pub words : σ .words ≡ map (wordOctets (set .own)) (κ .words)
+      pub history : σ .history ≡ historyOf κ
+
+    -- an event of the sender, with ws the words left; b says whether it goes through
+    chosen : (b : Bool) (w : Work) (r : ℕ) (σ : Linked m) (κ : Session) (e : SenderEvent) → Brought e → (lent : ℕ) (ws : List Word) → Half σ κ
+        → (b ≡ true → (length (w .frames) ≤ 1) × Reads (w .frames))
+        → t .fop (m .next e lent (σ .sender)) ≡ pick b (w .fop) (κ .fop)
+        → m .answer e lent (σ .sender) ≡ pick b (ans.answered (set .own) w) (refused r (κ .fop))
+        → Half (toSender set m e lent (map (wordOctets (set .own)) ws) σ)
+        (pick b (core.answered (set .n) w (core.channels (κ .frames) ws κ)) (core.channels (κ .frames) ws κ))
+    unfolding toSender core.channels core.answered
+    chosen true w r σ κ e i lent ws R h f a =
+        let g = h refl in
+        record {
+          good = t .keeps e i lent (σ .sender) (R .good);
+          fop = f;
+          receiver = R .receiver;
+          frames = rw (a, R .frames) (down-through (κ .frames) (w .frames) (g .0));
+          words = refl;
+          history = rw (a, R .history) (answer-through w κ (g .0) (g .1));
+        }
+    chosen false w r σ κ e i lent ws R h f a =
+        record {
+          good = t .keeps e i lent (σ .sender) (R .good);
+          fop = f;
+          receiver = R .receiver;
+          frames = rw (a, R .frames);
+          words = refl;
+          history = rw (a, R .history) (refusal-through r (κ .fop) κ);
+        }
+
+    -- an event of the sender
+    to-sender : (σ : Linked m) (κ : Session) (e : SenderEvent) → Brought e → (lent : ℕ) (ws : List Word) → Half σ κ
+        → Inv set (core.sender set e lent (core.channels (κ .frames) ws κ))
+        → Half (toSender set m e lent (map (wordOctets (set .own)) ws) σ) (core.sender set e lent (core.channels (κ .frames) ws κ))
+    unfolding core.sender core.channels senderAnswer senderNext core.answered
+    to-sender σ κ e i lent ws R J =
+        chosen (goes (set .own) e lent (κ .fop)) (work (set .own) e (κ .fop)) (senderRefusal (set .own) e lent (κ .fop)) σ κ e i lent ws R
+        (λ b. (work-few (set .own) e (κ .fop), reads-of set e lent (core.channels (κ .frames) ws κ) b J))
+        (t .next e i lent (σ .sender) (R .good) ∙ ap (λ (f : Fop). senderNext (set .own) e lent f) (R .fop))
+        (t .answer e i lent (σ .sender) (R .good) ∙ ap (λ (f : Fop). senderAnswer (set .own) e lent f) (R .fop))
+
+    -- the oldest word to the sender
+    pub half-word-in : (σ : Linked m) (κ : Session) (lent : ℕ) (ws : List Word) → Half σ κ → Inv set (core.wordCome set lent ws κ)
+        → Half (ses.wordCome set m lent (map (wordOctets (set .own)) ws) σ) (core.wordCome set lent ws κ)
+    unfolding ses.wordCome core.wordCome
+    half-word-in σ κ lent [] R J = R
+    half-word-in σ κ lent (w ∷ ws) R J = to-sender σ κ (wordArrives (wordOctets (set .own) w)) tt lent ws R J
+
+    -- an event of the sender that is no word
+    pub half-plain : (σ : Linked m) (κ : Session) (e : SenderEvent) → Brought e → (lent : ℕ) → Half σ κ → Inv set (core.sender set e lent κ)
+        → Half (toSender set m e lent (σ .words) σ) (core.sender set e lent κ)
+    unfolding core.channels toSender core.sender
+    half-plain σ κ e i lent R J = rw (R .words) (to-sender σ κ e i lent (κ .words) R J)
+
+    -- other channels
+    pub half-relink : (σ : Linked m) (κ : Session) (fs : List Frame) (ws : List Word) (fs' ws' : List (List ℕ)) → Half σ κ → fs' ≡ map (written (set .own)) fs
+        → ws' ≡ map (wordOctets (set .own)) ws → Half (ses.channels m fs' ws' σ) (core.channels fs ws κ)
+    unfolding core.channels
+    half-relink σ κ fs ws fs' ws' R f w =
+        record { good = R .good; fop = R .fop; receiver = R .receiver; frames = f; words = w; history = R .history }
 
   module _ (m : Ends) (t : Tied set m) where
     -- the ends' session, seen as the table machines'
@@ -142,6 +240,37 @@ module _ (set : Settings) (vw : Within set) where
       pub frames : σ .frames ≡ map (written (set .own)) (κ .frames)
       pub words : σ .words ≡ map (wordOctets (set .own)) (κ .words)
       pub history : σ .history ≡ historyOf κ
+
+    -- the sender's half of it
+    abbrev sender : SenderTied m
+    sender = record { fop = t .fop; Good = t .Good; keeps = t .keeps; next = t .next; answer = t .answer }
+
+    abbrev Known : m .Receiver → Variables → List Fdu → ℕ → Type 0
+    Known r v a k = t .GoodReceiver r × (t .farm r ≡ receiverOf set (length a - k) v) × Stock set (length a) k (v .state)
+
+    halved : (σ : Linked m) (κ : Session) → Rel σ κ → Half m sender Known σ κ
+    halved σ κ R =
+        record {
+          good = R .good;
+          fop = R .fop;
+          receiver = (R .goodReceiver, R .farm, R .stock);
+          frames = R .frames;
+          words = R .words;
+          history = R .history;
+        }
+
+    whole : (σ : Linked m) (κ : Session) → Half m sender Known σ κ → Rel σ κ
+    whole σ κ H =
+        record {
+          good = H .good;
+          goodReceiver = H .receiver .0;
+          fop = H .fop;
+          farm = H .receiver .1;
+          stock = H .receiver .2;
+          frames = H .frames;
+          words = H .words;
+          history = H .history;
+        }
 
     -- the start
     pub at-start : Rel (begins m) (begun set)
@@ -158,75 +287,14 @@ module _ (set : Settings) (vw : Within set) where
           history = refl;
         }
 
-    -- an event of the sender, with ws the words left; b says whether it goes through
-    chosen : (b : Bool) (w : Work) (r : ℕ) (σ : Linked m) (κ : Session) (e : SenderEvent) → Brought e → (lent : ℕ) (ws : List Word) → Rel σ κ
-        → (b ≡ true → (length (w .frames) ≤ 1) × Reads (w .frames))
-        → t .fop (m .next e lent (σ .sender)) ≡ pick b (w .fop) (κ .fop)
-        → m .answer e lent (σ .sender) ≡ pick b (ans.answered (set .own) w) (refused r (κ .fop))
-        → Rel (toSender set m e lent (map (wordOctets (set .own)) ws) σ)
-        (pick b (core.answered (set .n) w (core.channels (κ .frames) ws κ)) (core.channels (κ .frames) ws κ))
-    unfolding toSender core.channels core.answered
-    chosen true w r σ κ e i lent ws R h f a =
-        let g = h refl in
-        record {
-          good = t .keeps e i lent (σ .sender) (R .good);
-          goodReceiver = R .goodReceiver;
-          fop = f;
-          farm = R .farm;
-          stock = R .stock;
-          frames = rw (a, R .frames) (down-through (κ .frames) (w .frames) (g .0));
-          words = refl;
-          history = rw (a, R .history) (answer-through w κ (g .0) (g .1));
-        }
-    chosen false w r σ κ e i lent ws R h f a =
-        record {
-          good = t .keeps e i lent (σ .sender) (R .good);
-          goodReceiver = R .goodReceiver;
-          fop = f;
-          farm = R .farm;
-          stock = R .stock;
-          frames = rw (a, R .frames);
-          words = refl;
-          history = rw (a, R .history) (refusal-through r (κ .fop) κ);
-        }
-
-    -- an event of the sender
-    to-sender : (σ : Linked m) (κ : Session) (e : SenderEvent) → Brought e → (lent : ℕ) (ws : List Word) → Rel σ κ
-        → Inv set (core.sender set e lent (core.channels (κ .frames) ws κ))
-        → Rel (toSender set m e lent (map (wordOctets (set .own)) ws) σ) (core.sender set e lent (core.channels (κ .frames) ws κ))
-    unfolding core.sender core.channels senderAnswer senderNext core.answered
-    to-sender σ κ e i lent ws R J =
-        chosen (goes (set .own) e lent (κ .fop)) (work (set .own) e (κ .fop)) (senderRefusal (set .own) e lent (κ .fop)) σ κ e i lent ws R
-        (λ b. (work-few (set .own) e (κ .fop), reads-of set e lent (core.channels (κ .frames) ws κ) b J))
-        (t .next e i lent (σ .sender) (R .good) ∙ ap (λ (f : Fop). senderNext (set .own) e lent f) (R .fop))
-        (t .answer e i lent (σ .sender) (R .good) ∙ ap (λ (f : Fop). senderAnswer (set .own) e lent f) (R .fop))
-
     -- the oldest word to the sender
     pub word-in : (σ : Linked m) (κ : Session) (lent : ℕ) (ws : List Word) → Rel σ κ → Inv set (core.wordCome set lent ws κ)
         → Rel (ses.wordCome set m lent (map (wordOctets (set .own)) ws) σ) (core.wordCome set lent ws κ)
-    unfolding ses.wordCome core.wordCome
-    word-in σ κ lent [] R J = R
-    word-in σ κ lent (w ∷ ws) R J = to-sender σ κ (wordArrives (wordOctets (set .own) w)) tt lent ws R J
-
-    -- no frame of the session locks the receiver out
-    unlocks : (κ : Session) (x : Frame) (fs : List Frame) → Inv set κ → Fly (set .w / 2) (κ .sent) (length (κ .accepted)) (length (κ .accepted)) (x ∷ fs)
-        → locks (some (frameEvent (set .w) (free set κ) x (κ .farm))) ≡ false
-    unfolding frameEvent
-    unlocks κ (AD u) fs I h = ad-cases set vw κ (free set κ) u fs I h (λ e. locks (some e) ≡ false) (λ i p. refl) (λ i p. refl) (λ i. refl) (λ i. refl)
-    unlocks κ (BD o) fs I h = refl
-    unlocks κ Unlock fs I h = absurd h
-    unlocks κ (SetVR v) fs I h = absurd h
-    unlocks κ (Refused r) fs I h = absurd h
-
-    -- the histories after the receiver's answer
-    said : (κ : Session) (x : Frame) (fs : List Frame) → Inv set κ → Fly (set .w / 2) (κ .sent) (length (κ .accepted)) (length (κ .accepted)) (x ∷ fs)
-        → afterFrame x (answerTo κ x) (historyOf κ) ≡ historyOf (core.frameCome set (free set κ) (x ∷ fs) κ)
-    unfolding core.frameCome core.receiver afterFrame
-    said κ x fs I h = rw (unlocks κ x fs I h, accepted-is set vw κ I x fs h, acceptedBd-is set vw κ I x)
+    word-in σ κ lent ws R J = whole _ _ (half-word-in m sender Known σ κ lent ws (halved σ κ R) J)
 
     -- the receiver's answer to a frame under way
     pub answer-to : (σ : Linked m) (κ : Session) (x : Frame) → Rel σ κ → Readable x
-        → m .answerReceiver (frameArrives (written (set .own) x)) (σ .receiver) ≡ answerTo κ x
+        → m .answerReceiver (frameArrives (written (set .own) x)) (σ .receiver) ≡ answerTo (free set κ) κ x
     unfolding receiverAnswer farm.answered channel.answered
     answer-to σ κ x R rx =
         t .answerReceiver (frameArrives (written (set .own) x)) (σ .receiver) (R .goodReceiver)
@@ -242,7 +310,7 @@ module _ (set : Settings) (vw : Within set) where
     arrives σ κ x fs R I h rx S =
         let rd : read (set .own) (written (set .own) x) ≡ x = reads set vw x rx in
         let got = received-is set vw (used κ) (κ .farm) x rx in
-        let b : m .answerReceiver (frameArrives (written (set .own) x)) (σ .receiver) ≡ answerTo κ x = answer-to σ κ x R rx in
+        let b : m .answerReceiver (frameArrives (written (set .own) x)) (σ .receiver) ≡ answerTo (free set κ) κ x = answer-to σ κ x R rx in
         record {
           good = R .good;
           goodReceiver = t .keepsReceiver (frameArrives (written (set .own) x)) (σ .receiver) (R .goodReceiver);
@@ -256,8 +324,8 @@ module _ (set : Settings) (vw : Within set) where
           frames = refl;
           words = R .words;
           history = ap (λ (y : Frame). afterFrame y (m .answerReceiver (frameArrives (written (set .own) x)) (σ .receiver)) (σ .history)) rd
-              ∙ ap (λ (b : ReceiverAnswer). afterFrame x b (σ .history)) b ∙ ap (λ (h : History). afterFrame x (answerTo κ x) h) (R .history)
-              ∙ said κ x fs I h;
+              ∙ ap (λ (b : ReceiverAnswer). afterFrame x b (σ .history)) b ∙ ap (λ (h : History). afterFrame x (answerTo (free set κ) κ x) h) (R .history)
+              ∙ said (free set κ) κ x fs I h;
         }
 
     -- the oldest frame to the receiver
@@ -304,8 +372,7 @@ module _ (set : Settings) (vw : Within set) where
     -- an event of the sender that is no word
     pub plain : (σ : Linked m) (κ : Session) (e : SenderEvent) → Brought e → (lent : ℕ) → Rel σ κ → Inv set (core.sender set e lent κ)
         → Rel (toSender set m e lent (σ .words) σ) (core.sender set e lent κ)
-    unfolding core.channels toSender core.sender
-    plain σ κ e i lent R J = rw (R .words) (to-sender σ κ e i lent (κ .words) R J)
+    plain σ κ e i lent R J = whole _ _ (half-plain m sender Known σ κ e i lent (halved σ κ R) J)
 
     -- other channels
     pub relink : (σ : Linked m) (κ : Session) (fs : List Frame) (ws : List Word) (fs' ws' : List (List ℕ)) → Rel σ κ → fs' ≡ map (written (set .own)) fs

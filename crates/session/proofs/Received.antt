@@ -1,6 +1,6 @@
 -- Crate receiver's receiver at a written frame and at a release, seen as FARM-1's variables and a count of buffers taken.
 use mathlib.Core.Path.{_≡_, refl, ap}
-use mathlib.Core.Bool.{true}
+use mathlib.Core.Bool.{Bool, true}
 use mathlib.Core.Option.{some}
 use mathlib.Core.List.{List, [], _∷_}
 use Prim.Native.Nat.{ℕ, _+_, _-_, _/_, _≤_, _<_}
@@ -101,13 +101,13 @@ e6-adds l o Open = refl
 e6-adds l o Wait = refl
 e6-adds l o Lockout = refl
 
-module _ (set : Settings) (vw : Within set) (κ : Session) (I : Inv set κ) where
+module _ (set : Settings) (vw : Within set) (κ : Session) (I : Inv set κ) (room : Bool) where
   pub accepted-is : (x : Frame) (fs : List Frame) → Fly (set .w / 2) (κ .sent) (length (κ .accepted)) (length (κ .accepted)) (x ∷ fs)
-      → addAccepted (κ .accepted) x (answerBy (frameEvent (set .w) (free set κ) x (κ .farm)) (κ .farm .state) x)
-      ≡ taken x (isHanded (unitOf (frameEvent (set .w) (free set κ) x (κ .farm)) (κ .farm .state))) (κ .accepted)
+      → addAccepted (κ .accepted) x (answerBy (frameEvent (set .w) room x (κ .farm)) (κ .farm .state) x)
+      ≡ taken x (isHanded (unitOf (frameEvent (set .w) room x (κ .farm)) (κ .farm .state))) (κ .accepted)
   unfolding frameEvent
   accepted-is (AD u) fs h =
-      ad-cases set vw κ (free set κ) u fs I h
+      ad-cases set vw κ room u fs I h
       (λ e. addAccepted (κ .accepted) (AD u) (answerBy e (κ .farm .state) (AD u)) ≡ taken (AD u) (isHanded (unitOf e (κ .farm .state))) (κ .accepted))
       (λ i p. e1-adds (κ .accepted) u (κ .farm .state)) (λ i p. rw (no-unit farm.E2 (κ .farm .state) refl refl))
       (λ i. rw (no-unit farm.E3 (κ .farm .state) refl refl)) (λ i. rw (no-unit farm.E4 (κ .farm .state) refl refl))
@@ -117,8 +117,8 @@ module _ (set : Settings) (vw : Within set) (κ : Session) (I : Inv set κ) wher
   accepted-is (Refused r) fs h = refl
 
   pub acceptedBd-is : (x : Frame)
-      → addAcceptedBd (κ .acceptedBd) x (answerBy (frameEvent (set .w) (free set κ) x (κ .farm)) (κ .farm .state) x)
-      ≡ takenBd x (isHanded (unitOf (frameEvent (set .w) (free set κ) x (κ .farm)) (κ .farm .state))) (κ .acceptedBd)
+      → addAcceptedBd (κ .acceptedBd) x (answerBy (frameEvent (set .w) room x (κ .farm)) (κ .farm .state) x)
+      ≡ takenBd x (isHanded (unitOf (frameEvent (set .w) room x (κ .farm)) (κ .farm .state))) (κ .acceptedBd)
   unfolding frameEvent
   acceptedBd-is (AD u) = refl
   acceptedBd-is (BD o) = e6-adds (κ .acceptedBd) o (κ .farm .state)

@@ -40,13 +40,13 @@ use Rattle.session.proofs.Receiver.{at}
 use Rattle.session.proofs.Next.{historyOf, live-of, live-in, word-step}
 use Rattle.session.proofs.Arrive.{expedites, accepts-bd}
 use Rattle.session.proofs.Asks.{responds, starts, asks}
-use Rattle.session.proofs.Link.{Rel, reads-of, same-step, tables-tied, reads, fly-reads, Reads}
+use Rattle.session.proofs.Link.{Rel, reads-of, word-is, same-step, tables-tied, reads, fly-reads, Reads}
 use Rattle.fop.proofs.Choices.{none-some}
 use Rattle.session.proofs.Few.{work-few}
 use Rattle.session.proofs.Handed.{From, row-from, is-handed}
 use Rattle.session.proofs.Keys.{Tidy}
 use Rattle.session.proofs.Tidy.{start-tidy}
-use Rattle.session.proofs.Theorem.{oldest-frame, word-comes, either}
+use Rattle.session.proofs.Theorem.{oldest-frame, word-comes, either, looked}
 use Rattle.session.proofs.Channels.{link-tidy, link-once}
 use Rattle.session.proofs.Linked.{from-start, as-demanded, unrejected-demanded}
 use Rattle.session.proofs.Standing.{initial-denied, all-units, at-most, standing, queued, states-are, suspended-in, opens}
@@ -217,7 +217,7 @@ module _ (set : Settings) (vw : Within set) (m : Ends) (t : Tied set m) (σ : Li
       → w .nr ≡ advanced (set .n) (length ((ses.step set m (wordIn lent) σ) .history .confirmed))
   unfolding core.answered core.channels
   exactly s ws w lent e q r sv =
-      let x = word-comes set vw m t σ γ κ R G I s ws w lent e q r in
+      let x = word-comes set vw m _ _ σ γ κ (looked set vw m t σ γ κ R G I) I s ws w lent e q r in
       let c : length ((ses.step set m (wordIn lent) σ) .history .confirmed) ≡ length (κ .confirmed) + length ((fopWord w (κ .fop)) .confirmed) =
       ap (λ (h : History). length (h .confirmed)) (same-step set vw m t (wordIn lent) σ κ refl R I .history)
       ∙ ap (λ (y : Session). length (y .confirmed)) (word-step set vw κ I w (x .0) lent (x .1) (x .2))
@@ -225,6 +225,7 @@ module _ (set : Settings) (vw : Within set) (m : Ends) (t : Tied set m) (σ : Li
       exact set κ I Q (ap inService (sym st-is) ∙ sv) w (x .0) (x .1) ∙ ap (advanced (set .n)) (sym c)
 
   stronger : Stronger set m σ γ
+  unfolding core.step
   stronger =
       record {
         atMostK = by (λ h. length (outstanding h) ≤ set .k) (at-most set κ I);
@@ -247,10 +248,11 @@ module _ (set : Settings) (vw : Within set) (m : Ends) (t : Tied set m) (σ : Li
             ∙ starts set κ I o lent g (subst (λ (f : Fop). needed (set .own) (requestAd o) f ≤ lent) (G .fop) r) (rw (G .fop) at a) (rw (G .fop) at b)
             (rw (G .fop) at c) (rw (G .fop) at d) (rw (R .history) at k);
         asks = λ s ws w i lent e q r a k l b c d f o.
-            let x = word-comes set vw m t σ γ κ R G I s ws w lent e q r in
+            let x = word-comes set vw m _ _ σ γ κ (looked set vw m t σ γ κ R G I) I s ws w lent e q r in
             by (λ h. Resends set (getD (h .sent) i noUnit) σ (ses.step set m (wordIn lent) σ)
             ⊎ Marked (getD (h .sent) i noUnit) ((ses.step set (tables set) (wordIn lent) γ) .sender))
-            (either set vw m t σ γ κ R G I (wordIn lent) refl i
+            (either set vw m _ _ σ γ κ (looked set vw m t σ γ κ R G I) I (wordIn lent) refl
+            (same-step set vw (tables set) (tables-tied set) (wordIn lent) γ κ refl G I .fop) i
             (asks set vw κ I w (x .0) i lent (x .1) (x .2) (rw (G .fop) at a) (rw (G .fop) at k) l b c d (rw (R .history) at f) (rw (R .history) at o)));
         handed = λ e lent h o u d q.
             by (λ y. (u .ns ≡ nextNumber set y) ⊎ ((i : ℕ) × IsOutstanding y i × (u ≡ getD (y .sent) i noUnit))) (handed e lent h o u d q);
@@ -282,7 +284,7 @@ module _ (set : Settings) (vw : Within set) (m : Ends) (t : Tied set m) (σ : Li
             (((m .answerReceiver releaseBuffer (σ .receiver)) .refusal ≡ 0) × (h .released < length (h .accepted)))
             ⊎ (((m .answerReceiver releaseBuffer (σ .receiver)) .refusal ≡ 13) × (h .released ≡ length (h .accepted)))) (A.release-refusal set vw m t
             σ γ κ R G I Q);
-        wordRefusal = word-refusal set vw m t σ κ R I;
+        wordRefusal = word-refusal set vw m σ κ (R .history) (word-is set vw m t σ κ R I) I;
       }
 
 -- the stronger claims over channels that repeat and noise: after every list of events in which no lower-layer reject comes while suspended, and at

@@ -7,11 +7,12 @@
 -- octets and all, is a session of Core, so the ends' run and the tables' run share one (Linked).
 use mathlib.Core.Logic.{_⊎_, inl, inr, _↔_}
 use mathlib.Core.Path.{_≡_, refl, sym, ap, _∙_, subst}
-use mathlib.Core.Bool.{true, false, true≢false}
+use mathlib.Core.Bool.{Bool, true, false, true≢false}
 use mathlib.Core.List.{List, [], _∷_, _++_, map, map-append}
 use mathlib.Core.Option.{Option, some}
 use Prim.Native.Nat.{ℕ, _≤_}
 use native.Mathlib.Omega.{arith}
+use lib.Dec.{leb}
 use lib.ListN.{length, take, drop, getD, take-append-drop}
 use lib.Seq.{take-take}
 use Rattle.fop.specs.Units.{Fdu, Frame, AD, Word, valid, written, wordOctets, readWord}
@@ -21,26 +22,28 @@ use Rattle.fop.specs.Events.{SenderEvent, requestAd, lower, wordArrives}
 use Rattle.fop.specs.Answers.{needed}
 use Rattle.receiver.specs.declared.Receiver.{Receiver}
 use Rattle.farm.specs.declared.State.the-variants.{Open}
+use Rattle.farm.specs.declared.Variables.{Variables}
 use Rattle.session.specs.Frames.{read}
+use Rattle.session.specs.Receiver.{wordLength}
 use Rattle.session.specs.Ends.{Settings, Within, Ends, Tied, tables}
 use Rattle.session.specs.Session.{Linked, History, Event, adRequest, ticks, lowerSays, wordIn, frameIn, begins, noUnit}
 use Rattle.session.specs.Channels.{LinkEvent, demanded, negativeWindow, linkRun}
 use Rattle.session.specs.Suspension.{rejects, linkUnrejected}
 use Rattle.session.specs.Signed.{Demanded}
-use Rattle.session.specs.Claims.{unitsAt, member, Sends, Resends, Marked, Claims, serves, expected, BufferFree, nextUnit, nextNumber}
+use Rattle.session.specs.Claims.{unitsAt, member, Sends, Resends, Marked, Claims, ClaimsWhen, serves, expected, nextUnit, nextNumber}
 use Rattle.fop.specs.Events as fop
 use Rattle.session.specs.Session as ses
 use Rattle.session.proofs.Core as core
 use Rattle.session.proofs.Core.{Session}
 use Rattle.session.proofs.Lists.{units-iota}
 use Rattle.session.proofs.Chan.{Wds}
-use Rattle.session.proofs.Octets.{word-back}
+use Rattle.session.proofs.Octets.{word-back, toldIf}
 use Rattle.session.proofs.Inv.{Inv, isLocked}
 use Rattle.session.proofs.Clear.{clears-all, clears-sends}
-use Rattle.session.proofs.Arrive.{accepts}
+use Rattle.session.proofs.Arrive.{accepts, free-is}
 use Rattle.session.proofs.Next.{historyOf, Sent, Resent, offers, ready-again, ready-new, expires}
 use Rattle.session.proofs.Words.{word-made}
-use Rattle.session.proofs.Link.{Rel, same-step, tables-tied, reads, fly-reads, Reads}
+use Rattle.session.proofs.Link.{Rel, word-is, same-step, tables-tied, reads, fly-reads, Reads}
 use Rattle.session.proofs.Linked.{from-start, as-demanded, unrejected-demanded}
 use Rattle.session.proofs.Suspended.{admitted}
 
@@ -69,26 +72,45 @@ module _ (set : Settings) (vw : Within set) where
       let a : s ≡ wordOctets (set .own) w = cc in
       (w, more, refl, a, ap (readWord (set .own)) a ∙ word-back (set .own) (vw .spacecraft) (vw .channel) w (h .3) (omega (arith, h .1)))
 
-module _ (set : Settings) (vw : Within set) (m : Ends) (t : Tied set m) (σ : Linked m) (γ : Linked (tables set)) (κ : Session)
-    (R : Rel set vw m t σ κ) (G : Rel set vw (tables set) (tables-tied set) γ κ) (I : Inv set κ) where
-  -- an event that is no reject of the lower layer is admitted
-  next : (e : Event) → rejects e ≡ false → Rel set vw m t (ses.step set m e σ) (core.step set e κ)
-  next e q = same-step set vw m t e σ κ (admitted (rejects e) (κ .fop) q) R I
+-- the ends' channels and histories are Core's
+pub record Now (set : Settings) {m : Ends} (σ : Linked m) (κ : Session) : Type 0 where
+  pub frames : σ .frames ≡ map (written (set .own)) (κ .frames)
+  pub words : σ .words ≡ map (wordOctets (set .own)) (κ .words)
+  pub history : σ .history ≡ historyOf κ
 
-  down : (e : Event) → rejects e ≡ false → (u : Fdu) → (core.step set e κ) .frames ≡ κ .frames ++ (AD u ∷ [])
+-- What the claims look at, where a buffer is free or not (`room`) and a release is done or not (`held`): the ends' session is Core's now and after
+-- whatever event comes next, and the tables' too.
+pub record Looked (set : Settings) (m : Ends) (room held : Bool) (σ : Linked m) (γ : Linked (tables set)) (κ : Session) : Type 0 where
+  pub now : Now set σ κ
+  pub next : (e : Event) → rejects e ≡ false → Now set (ses.step set m e σ) (core.stepWith set room held e κ)
+  pub word : (lent : ℕ) → m .word lent (σ .receiver) ≡ toldIf (leb wordLength lent) (wordOctets (set .own) (core.report (κ .farm)))
+  pub fop : γ .sender ≡ κ .fop
+  pub farm : γ .receiver .farm .channel .variables ≡ κ .farm
+  pub unlocked : γ .history .lockedOut ≡ false
+  pub ticked : (lent : ℕ) → (ses.step set (tables set) (ticks lent) γ) .sender ≡ (core.stepWith set room held (ticks lent) κ) .fop
+
+module _ (set : Settings) (vw : Within set) (m : Ends) (room held : Bool) (σ : Linked m) (γ : Linked (tables set)) (κ : Session)
+    (G : Looked set m room held σ γ κ) (I : Inv set κ) where
+  abbrev R : Now set σ κ
+  R = G .now
+
+  abbrev next : (e : Event) → rejects e ≡ false → Now set (ses.step set m e σ) (core.stepWith set room held e κ)
+  next = G .next
+
+  down : (e : Event) → rejects e ≡ false → (u : Fdu) → (core.stepWith set room held e κ) .frames ≡ κ .frames ++ (AD u ∷ [])
       → (ses.step set m e σ) .frames ≡ σ .frames ++ (written (set .own) (AD u) ∷ [])
   down e q u d =
       next e q .frames ∙ ap (map (written (set .own))) d ∙ map-append (written (set .own)) (κ .frames) (AD u ∷ [])
       ∙ ap (λ (l : List (List ℕ)). l ++ (written (set .own) (AD u) ∷ [])) (sym (R .frames))
 
-  sends : (e : Event) → rejects e ≡ false → (u : Fdu) → Sent u κ (core.step set e κ) → Sends set u σ (ses.step set m e σ)
+  sends : (e : Event) → rejects e ≡ false → (u : Fdu) → Sent u κ (core.stepWith set room held e κ) → Sends set u σ (ses.step set m e σ)
   sends e q u s =
       record {
         down = down e q u (s .down);
         counted = ap (λ (h : History). h .sent) (next e q .history) ∙ s .counted ∙ ap (λ (h : History). h .sent ++ (u ∷ [])) (sym (R .history));
       }
 
-  resends : (e : Event) → rejects e ≡ false → (u : Fdu) → Resent u κ (core.step set e κ) → Resends set u σ (ses.step set m e σ)
+  resends : (e : Event) → rejects e ≡ false → (u : Fdu) → Resent u κ (core.stepWith set room held e κ) → Resends set u σ (ses.step set m e σ)
   resends e q u s =
       record {
         down = down e q u (s .down);
@@ -118,13 +140,15 @@ module _ (set : Settings) (vw : Within set) (m : Ends) (t : Tied set m) (σ : Li
         subst (λ (x : List ℕ). needed (set .own) (wordArrives x) (κ .fop) ≤ lent) so (lent-is (wordArrives s) lent r),
       )
 
-  pub either : (e : Event) → rejects e ≡ false → (i : ℕ) → Resent (getD (κ .sent) i noUnit) κ (core.step set e κ) ⊎ Marked (getD (κ .sent) i noUnit) ((core.step set e κ) .fop)
+  pub either : (e : Event) → rejects e ≡ false → (ses.step set (tables set) e γ) .sender ≡ (core.stepWith set room held e κ) .fop → (i : ℕ)
+      → Resent (getD (κ .sent) i noUnit) κ (core.stepWith set room held e κ) ⊎ Marked (getD (κ .sent) i noUnit) ((core.stepWith set room held e κ) .fop)
       → Resends set (getD (κ .sent) i noUnit) σ (ses.step set m e σ) ⊎ Marked (getD (κ .sent) i noUnit) ((ses.step set (tables set) e γ) .sender)
-  either e q i (inl s) = inl (resends e q _ s)
-  either e q i (inr k) = inr (subst (Marked (getD (κ .sent) i noUnit)) (sym (same-step set vw (tables set) (tables-tied set) e γ κ (admitted (rejects e) (κ .fop) q) G I .fop)) k)
+  either e q f i (inl s) = inl (resends e q _ s)
+  either e q f i (inr k) = inr (subst (Marked (getD (κ .sent) i noUnit)) (sym f) k)
 
-  pub claims : Claims set m σ γ
-  claims =
+  pub claims : (Free : Type 0) → (room ≡ true) ↔ Free → ClaimsWhen set m σ γ Free
+  unfolding core.step core.stepWith
+  claims Free isFree =
       record {
         inOrder = rw (R .history) (
           drop (length (κ .accepted)) (κ .sent),
@@ -139,18 +163,18 @@ module _ (set : Settings) (vw : Within set) (m : Ends) (t : Tied set m) (σ : Li
         );
         never = (
           ap (λ (h : History). h .lockedOut) (R .history),
-          ap (λ (h : History). h .lockedOut) (G .history),
-          ap (λ (f : Receiver). f .farm .channel .variables .lockout) (G .farm) ∙ I .receiver .noLock,
-          λ e. true≢false (ap isLocked (sym e ∙ ap (λ (f : Receiver). f .farm .channel .variables .state) (G .farm)) ∙ I .receiver .unlocked),
+          G .unlocked,
+          ap (λ (v : Variables). v .lockout) (G .farm) ∙ I .receiver .noLock,
+          λ e. true≢false (ap isLocked (sym e ∙ ap (λ (v : Variables). v .state) (G .farm)) ∙ I .receiver .unlocked),
         );
         accepts = λ s fs u e q.
             let l = oldest-frame set vw (κ .frames) s fs (AD u) (fly-reads (set .n) _ (κ .sent) (I .base .num) _ _ (κ .frames) (I .base .fly))
             (sym e ∙ R .frames) q in
-            let a = accepts set vw κ I u (l .0) (l .1) in
+            let a = accepts set vw κ I room held Free isFree u (l .0) (l .1) in
             let n = ap (λ (h : History). h .accepted) (next frameIn refl .history) in
-            let g = ap (λ (f : Receiver). f .farm .channel .variables .state) (G .farm) in
+            let g = ap (λ (v : Variables). v .state) (G .farm) in
             by (λ h. ((ses.step set m frameIn σ) .history .accepted ≡ h .accepted ++ (u ∷ [])) ↔
-            ((γ .receiver .farm .channel .variables .state ≡ Open) × (u .ns ≡ expected set h) × BufferFree set h))
+            ((γ .receiver .farm .channel .variables .state ≡ Open) × (u .ns ≡ expected set h) × Free))
             (λ x. let r = a .0 (sym n ∙ x) in (g ∙ r .0, r .1, r .2), λ x. n ∙ a .1 (sym g ∙ x .0, x .1, x .2));
         offered = λ o lent g r a b c d k.
             by (λ h. Sends set (nextUnit set h o) σ (ses.step set m (adRequest o lent) σ))
@@ -165,7 +189,7 @@ module _ (set : Settings) (vw : Within set) (m : Ends) (t : Tied set m) (σ : Li
         expires = λ i lent r a b c o.
             by (λ h. Resends set (getD (h .sent) i noUnit) σ (ses.step set m (ticks lent) σ)
             ⊎ Marked (getD (h .sent) i noUnit) ((ses.step set (tables set) (ticks lent) γ) .sender))
-            (either (ticks lent) refl i (expires set κ I i lent (lent-is fop.tick lent r) (rw (G .fop) at a) (rw (G .fop) at b) (rw (G .fop) at c)
+            (either (ticks lent) refl (G .ticked lent) i (expires set κ I i lent (lent-is fop.tick lent r) (rw (G .fop) at a) (rw (G .fop) at b) (rw (G .fop) at c)
             (rw (R .history) at o)));
         clears = λ s ws w lent e q r a b c d f.
             let k = word-comes s ws w lent e q r in
@@ -177,8 +201,25 @@ module _ (set : Settings) (vw : Within set) (m : Ends) (t : Tied set m) (σ : Li
                   (sends (wordIn lent) refl _
                   (clears-sends set vw κ I a' w (k .0) lent (k .1) (k .2) b c d f' o (rw (R .history) at p) (rw (G .fop) at x) (rw (G .fop) at y))),
             );
-        words = word-made set vw m t σ κ R I (γ .receiver .farm .channel .variables) (ap (λ (f : Receiver). f .farm .channel .variables) (G .farm));
+        words = word-made set vw m σ κ (R .history) (G .word) I (γ .receiver .farm .channel .variables) (G .farm);
       }
+
+-- ends that are tied, whose receiver has its buffers for itself
+pub looked : (set : Settings) (vw : Within set) (m : Ends) (t : Tied set m) (σ : Linked m) (γ : Linked (tables set)) (κ : Session)
+    → Rel set vw m t σ κ → Rel set vw (tables set) (tables-tied set) γ κ → Inv set κ → Looked set m (core.free set κ) (core.isHeld κ) σ γ κ
+unfolding core.step
+looked set vw m t σ γ κ R G I =
+    record {
+      now = record { frames = R .frames; words = R .words; history = R .history };
+      next = λ e q.
+          let n = same-step set vw m t e σ κ (admitted (rejects e) (κ .fop) q) R I in
+          record { frames = n .frames; words = n .words; history = n .history };
+      word = word-is set vw m t σ κ R I;
+      fop = G .fop;
+      farm = ap (λ (f : Receiver). f .farm .channel .variables) (G .farm);
+      unlocked = ap (λ (h : History). h .lockedOut) (G .history);
+      ticked = λ lent. same-step set vw (tables set) (tables-tied set) (ticks lent) γ κ refl G I .fop;
+    }
 
 -- All of demand 3 over channels that repeat and noise, for all settings within their limits and all ends that do as the tables say, with a
 -- recorder that keeps at most NW units: after every list of events in which no lower-layer reject comes while suspended, and at whatever event of
@@ -188,7 +229,8 @@ pub claims-linked : (set : Settings) → Within set → (m : Ends) → Tied set 
     → Claims set m (linkRun set kept m es (begins m)) (linkRun set kept (tables set) es (begins (tables set)))
 claims-linked set vw m t kept most es u =
     let k = from-start set vw m t kept most (λ κ. Unit {0}) (λ e κ a I x. tt) tt es u in
-    claims set vw m t _ _ (k .session) (k .ends) (k .ofTables) (k .inv)
+    claims set vw m _ _ _ _ (k .session) (looked set vw m t _ _ (k .session) (k .ends) (k .ofTables) (k .inv)) (k .inv) _
+    (free-is set vw (k .session) _ (k .ends .history))
 
 -- Demand 3, whole: the case of its own events alone.
 pub demand3 : (set : Settings) → Within set → (m : Ends) → Tied set m → Demanded set m

@@ -11,22 +11,22 @@ use borrow.Author.Tests.{leb-true, leb-false, le-leb}
 use Rattle.fop.specs.Units.{valid, wordOctets, readWord}
 use Rattle.farm.specs.declared.Variables.{Variables}
 use Rattle.session.specs.Receiver.{wordLength, WordAnswer}
-use Rattle.session.specs.Ends.{Settings, Within, Ends, Tied}
+use Rattle.session.specs.Ends.{Settings, Within, Ends}
 use Rattle.session.specs.Session.{Linked, History, wordMade, enters, step}
 use Rattle.session.specs.Claims.{reported}
 use Rattle.session.proofs.Core.{Session, report}
 use Rattle.session.proofs.Octets.{word-back, toldIf}
 use Rattle.session.proofs.Inv.{Inv}
 use Rattle.session.proofs.Next.{historyOf}
-use Rattle.session.proofs.Link.{Rel, word-is}
 
-module _ (set : Settings) (vw : Within set) (m : Ends) (t : Tied set m) (σ : Linked m) (κ : Session) (R : Rel set vw m t σ κ) (I : Inv set κ) where
+module _ (set : Settings) (vw : Within set) (m : Ends) (σ : Linked m) (κ : Session) (history : σ .history ≡ historyOf κ)
+    (word : (lent : ℕ) → m .word lent (σ .receiver) ≡ toldIf (leb wordLength lent) (wordOctets (set .own) (report (κ .farm)))) (I : Inv set κ) where
   abbrev octets : List ℕ
   octets = wordOctets (set .own) (report (κ .farm))
 
   -- the word by whether its room is lent, and the words under way after it
   told : (lent : ℕ) (b : Bool) → leb wordLength lent ≡ b → m .word lent (σ .receiver) ≡ toldIf b octets
-  told lent b e = word-is set vw m t σ κ R I lent ∙ ap (λ (x : Bool). toldIf x octets) e
+  told lent b e = word lent ∙ ap (λ (x : Bool). toldIf x octets) e
 
   under-way : (lent : ℕ) (b : Bool) → leb wordLength lent ≡ b → (step set m (wordMade lent) σ) .words ≡ enters (σ .words) ((toldIf b octets) .word)
   unfolding step
@@ -45,7 +45,7 @@ module _ (set : Settings) (vw : Within set) (m : Ends) (t : Tied set m) (σ : Li
     octets,
     under-way lent true (le-leb wordLength lent h),
     reads-as ∙ ap (λ (x : Variables). valid (reported set x (historyOf κ))) (sym e)
-        ∙ ap (λ (x : History). valid (reported set v x)) (sym (R .history)),
+        ∙ ap (λ (x : History). valid (reported set v x)) (sym history),
   )
 
   -- the refusal, by whether the room is lent

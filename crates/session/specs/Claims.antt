@@ -121,8 +121,8 @@ pub record Marked (u : Fdu) (f : Fop) : Type 0 where
 abbrev pub Lent : Settings → SenderEvent → ℕ → Fop → Type 0
 Lent set e lent f = needed (set .own) e f ≤ lent
 
--- demand 3, sentence by sentence
-pub record Claims (set : Settings) (m : Ends) (σ : Linked m) (γ : Linked (tables set)) : Type 0 where
+-- demand 3, sentence by sentence, with what "a buffer free" means
+pub record ClaimsWhen (set : Settings) (m : Ends) (σ : Linked m) (γ : Linked (tables set)) (free : Type 0) : Type 0 where
   -- "accepted AD units are a first part, in order, of those sent,"
   pub inOrder : Prefix (σ .history .accepted) (σ .history .sent)
   -- "and confirmed units of those accepted;"
@@ -134,7 +134,7 @@ pub record Claims (set : Settings) (m : Ends) (σ : Linked m) (γ : Linked (tabl
   -- expected and a buffer free."
   pub accepts : (s : List ℕ) (fs : List (List ℕ)) (u : Fdu) → σ .frames ≡ s ∷ fs → read (set .own) s ≡ AD u
       → ((step set m frameIn σ) .history .accepted ≡ σ .history .accepted ++ (u ∷ []))
-      ↔ ((γ .receiver .farm .channel .variables .state ≡ Open) × (u .ns ≡ expected set (σ .history)) × BufferFree set (σ .history))
+      ↔ ((γ .receiver .farm .channel .variables .state ≡ Open) × (u .ns ≡ expected set (σ .history)) × free)
   -- "An active sender with a ready lower layer, an empty wait queue, nothing marked and fewer than K outstanding sends at once a legal unit
   -- offered to it."
   pub offered : (o : List ℕ) (lent : ℕ) → legal o ≡ true → Lent set (requestAd o) lent (γ .sender)
@@ -167,3 +167,7 @@ pub record Claims (set : Settings) (m : Ends) (σ : Linked m) (γ : Linked (tabl
   pub words : (lent : ℕ) → wordLength ≤ lent
       → (s : List ℕ) × ((step set m (wordMade lent) σ) .words ≡ σ .words ++ (s ∷ []))
       × (readWord (set .own) s ≡ valid (reported set (γ .receiver .farm .channel .variables) (σ .history)))
+
+-- of a receiver that has its buffers for itself
+abbrev pub Claims : (set : Settings) (m : Ends) → Linked m → Linked (tables set) → Type 0
+Claims set m σ γ = ClaimsWhen set m σ γ (BufferFree set (σ .history))

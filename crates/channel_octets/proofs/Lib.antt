@@ -1,0 +1,4 @@
+pub mod Judged
+pub mod Table
+pub mod Taken
+pub mod Back

@@ -1,0 +1,15 @@
+pub mod RecordLaws
+pub mod Addresses
+pub mod Turns
+pub mod Isolation
+pub mod Agree
+pub mod Kept
+pub mod Pool
+pub mod Runs
+pub mod Waiting
+pub mod Single
+pub mod Examples
+pub mod Refuted
+pub mod Left
+pub mod Told
+pub mod Judged
