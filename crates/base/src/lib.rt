@@ -1,4 +1,5 @@
 // Definitions and laws that every crate shares, and document 01's limits by name, as document 02's order 7 amends them. No function.
+#![tactic(auto)]
 
 // A transfer frame with its FECF.
 pub const SMALLEST_FRAME: usize = 8;

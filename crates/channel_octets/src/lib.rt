@@ -1,5 +1,7 @@
 // The records of virtual channels as octets (document 02, order 8), one behind the other in a lent table, so that a unit can keep them over a reset. The
 // layout: specs/Kept.
+#![tactic(auto)]
+
 ghost use Rattle.std.specs.Prelude.{◌≡◌, ◌*◌, ◌≤◌, length, take};
 ghost use Rattle.base.specs.Octets.{same};
 ghost use Rattle.memory.specs.Placed.{placed};

@@ -1,6 +1,8 @@
 // Document 02, order 8, "then keep them in a lent table of channel records": the host lends the records of up to eight virtual channels, with the
 // spacecraft and the size of the pool that they share, and an event changes one record at the most. Each function takes the records by value, leaves the
 // work to crate channels, and puts one record back. More than eight are 12, as everything else that crate channels judges first.
+#![tactic(auto)]
+
 ghost use Rattle.std.specs.Prelude.{◌≡◌, length, set};
 ghost use Rattle.base.specs.Outcome.{answer, after};
 ghost use Rattle.channels.specs.Table.{records_after, frame_turn, release_turn, unit_part, word_writing};

@@ -1,5 +1,7 @@
 // Document 02, order 8: one receiver of up to eight virtual channels that share a pool of AD buffers, by value: clauses 7.2.3, 7.5 and 7.9.3. Its events:
 // a frame (`frames`), a release (here), a control word (`words`). Each judges the records first, 12, and answers for any value.
+#![tactic(auto)]
+
 pub mod frames;
 pub mod records;
 mod table;
@@ -35,7 +37,7 @@ pub const NO_RECORD: Channel = Channel {
 };
 
 // The receiver: its spacecraft, the size of its pool, and the records of its channels, the first `count` of eight.
-#[derive(Drop)]
+#[derive(Clone, Copy)]
 pub struct Channels {
     pub spacecraft: u16,
     pub pool: u8,
@@ -45,7 +47,7 @@ pub struct Channels {
 
 // What an event comes to: document 01's refusal, 0 for done; the event's number in table 7-9, 0 where it is none; the channel that it is of, 0 where it
 // is of none; the unit accepted; and the one record that changes, with its place: the count of records where none does.
-#[derive(Drop)]
+#[derive(Clone, Copy)]
 pub struct Turn {
     pub refusal: u8,
     pub event: u8,
@@ -56,7 +58,7 @@ pub struct Turn {
 }
 
 // What an event gives: the same with the receiver next.
-#[derive(Drop)]
+#[derive(Clone, Copy)]
 pub struct Turned {
     pub refusal: u8,
     pub event: u8,
@@ -66,7 +68,7 @@ pub struct Turned {
 }
 
 // The count of octets written, or document 01's refusal 12, 7 or 11.
-#[derive(Drop)]
+#[derive(Clone, Copy)]
 pub enum ChannelWordWritten {
     Done(usize),
     Setting,

@@ -1,4 +1,6 @@
 // Clause 6.3: the communications link control word (CLCW), built and read.
+#![tactic(auto)]
+
 ghost use Rattle.std.specs.Prelude.{◌≡◌, ◌*◌, ◌≤◌, length};
 ghost use Rattle.base.specs.Outcome.{answer, after};
 ghost use Rattle.base.specs.Limits.{largest_channel};
@@ -10,7 +12,7 @@ use base::LARGEST_CHANNEL;
 
 // The fields of a control word that FOP-1 and FARM-1 give a meaning: channel, the three flags, the FARM-B counter (0 to 3) and
 // the report value.
-#[derive(Drop)]
+#[derive(Clone, Copy)]
 pub struct Clcw {
     pub channel: u8,
     pub lockout: bool,
@@ -21,7 +23,7 @@ pub struct Clcw {
 }
 
 // A control word as it was received, with the fields that are read and not judged.
-#[derive(Drop)]
+#[derive(Clone, Copy)]
 pub struct ReceivedWord {
     pub word: Clcw,
     pub status: u8,
@@ -30,7 +32,7 @@ pub struct ReceivedWord {
 }
 
 // The count of octets written, or document 01's refusal 12 or 11.
-#[derive(Drop)]
+#[derive(Clone, Copy)]
 pub enum WordWritten {
     Done(usize),
     Setting,
@@ -38,7 +40,7 @@ pub enum WordWritten {
 }
 
 // A control word; an invalid one, which is no refusal; or document 01's refusal 7 or 10.
-#[derive(Drop)]
+#[derive(Clone, Copy)]
 pub enum WordReading {
     Word(ReceivedWord),
     Invalid,

@@ -11,7 +11,7 @@ use codeblock::Mode;
 
 // The octets handed out, the bad codeblock's offset and the count of corrected codeblocks; or document 01's refusal 1, 2 or 3
 // with its place, 10 or 11.
-#[derive(Drop)]
+#[derive(Clone, Copy)]
 pub enum CltuReading {
     Done {
         count: usize,

@@ -11,7 +11,7 @@ ghost use Rattle.cltu.specs.Answers.{written_answer};
 use base::{LARGEST_FRAME, SMALLEST_FRAME};
 
 // The count of octets written, or document 01's refusal 10 or 11.
-#[derive(Drop)]
+#[derive(Clone, Copy)]
 pub enum CltuWritten {
     Done(usize),
     Length,

@@ -1,4 +1,6 @@
 // Writes the CLTU of a small frame, reads it back, damages it and reads it again, and prints what each reading found.
+#![tactic(auto)]
+
 use cltu::reader::CltuReading;
 use cltu::writer::CltuWritten;
 use codeblock::Mode;

@@ -1,4 +1,6 @@
 // Clause 8.3, Encoded Data, and clause 8.7, state S3: the good codeblocks at the front of an input, taken one by one.
+#![tactic(auto)]
+
 pub mod block;
 mod table;
 pub mod writer;
@@ -14,7 +16,7 @@ use crate::table::{BITS, BITS_LENGTH, NO_BIT, SHARES, SHARES_LENGTH};
 use codeblock::{Judged, Mode};
 
 // The good codeblocks at the front of an input: how many, and how many of them were corrected.
-#[derive(Drop)]
+#[derive(Clone, Copy)]
 pub struct Run {
     pub blocks: usize,
     pub corrected: usize,

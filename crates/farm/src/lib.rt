@@ -1,15 +1,17 @@
 // Clause 7.2.3 and table 7-9: the states, events and variables of FARM-1, and the unit accepted. The table and its window: specs/.
+#![tactic(auto)]
+
 ghost use Rattle.std.specs.Prelude.{◌≡◌};
 ghost use Rattle.farm.specs.Table.{event_number};
 
-#[derive(Drop)]
+#[derive(Clone, Copy)]
 pub enum State {
     Open,
     Wait,
     Lockout,
 }
 
-#[derive(Drop)]
+#[derive(Clone, Copy)]
 pub enum Event {
     E1,
     E2,
@@ -25,7 +27,7 @@ pub enum Event {
 }
 
 // The variables of clause 7.2.3 that table 7-9 changes.
-#[derive(Drop)]
+#[derive(Clone, Copy)]
 pub struct Variables {
     pub state: State,
     pub vr: u8,
@@ -36,7 +38,7 @@ pub struct Variables {
 }
 
 // The unit that an event accepts.
-#[derive(Drop)]
+#[derive(Clone, Copy)]
 pub enum AcceptedUnit {
     None,
     AdUnit,

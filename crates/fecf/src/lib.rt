@@ -1,4 +1,6 @@
 // Clause 6.2.4: the Frame Error Control Field, octet by octet through a table.
+#![tactic(auto)]
+
 mod entries;
 
 ghost use Rattle.std.specs.Prelude.{◌≡◌, ◌/◌};

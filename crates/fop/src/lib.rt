@@ -1,8 +1,9 @@
 // Clauses 7.2.2, 7.4, 7.9.2 and table 7-8: FOP-1, the sender. It is defined in specs/; here stand the types that the definitions share with
 // the code, which is crate sender and those below it.
+#![tactic(auto)]
 
 // Active, Retransmit without wait, Retransmit with wait, Initialising without BC frame, Initialising with BC frame, Initial.
-#[derive(Drop)]
+#[derive(Clone, Copy)]
 pub enum State {
     S1,
     S2,
@@ -13,7 +14,7 @@ pub enum State {
 }
 
 // Table 7-4: the reason of an Alert notification; None where there is none.
-#[derive(Drop)]
+#[derive(Clone, Copy)]
 pub enum Alert {
     None,
     Synch,
@@ -28,7 +29,7 @@ pub enum Alert {
 
 // A response to a request (AD unit, BD unit) or to a directive; DenyDirective is the Negative Confirm. The confirms of AD units, positive and
 // negative, are the two runs of units.
-#[derive(Drop)]
+#[derive(Clone, Copy)]
 pub enum Response {
     AcceptAdUnit,
     RejectAdUnit,
@@ -41,7 +42,7 @@ pub enum Response {
 }
 
 // An answer of the lower layer.
-#[derive(Drop)]
+#[derive(Clone, Copy)]
 pub enum Lower {
     AdAccept,
     AdReject,
@@ -52,7 +53,7 @@ pub enum Lower {
 }
 
 // A run of units, by first number and count; 0 and 0 where empty.
-#[derive(Drop)]
+#[derive(Clone, Copy)]
 pub struct Run {
     pub number: u8,
     pub count: u8,

@@ -1,4 +1,6 @@
 // Clauses 6.2 and 6.4 to 6.8: the TC Transfer Frame, read; the crate `frame_writer` writes it.
+#![tactic(auto)]
+
 ghost use Rattle.std.specs.Prelude.{◌≡◌, ◌+◌, ◌*◌, ◌≤◌, true, length};
 ghost use Rattle.frame.specs.Frame.{total_of, data_field, is_command, command_held, header_refusal, content_refusal, refusal_of, kind_of};
 ghost use Rattle.frame.specs.Answers.{reading_of, reading_number, part_of};
@@ -6,7 +8,7 @@ ghost use Rattle.frame.specs.Answers.{reading_of, reading_number, part_of};
 use base::SMALLEST_FRAME;
 
 // The type of a frame with what it carries: N(S), or the value of Set V(R).
-#[derive(Drop)]
+#[derive(Clone, Copy)]
 pub enum Kind {
     Ad(u8),
     Bd,
@@ -15,7 +17,7 @@ pub enum Kind {
 }
 
 // The fields of a valid frame: its kind, its address, the octets of the whole frame and of its data field.
-#[derive(Drop)]
+#[derive(Clone, Copy)]
 pub struct Fields {
     pub kind: Kind,
     pub spacecraft: u16,
@@ -25,14 +27,14 @@ pub struct Fields {
 }
 
 // The fields, or document 01's refusal by its number.
-#[derive(Drop)]
+#[derive(Clone, Copy)]
 pub enum FrameReading {
     Frame(Fields),
     Refused(u8),
 }
 
 // The count of octets written, or document 01's refusal 10, 12 or 11.
-#[derive(Drop)]
+#[derive(Clone, Copy)]
 pub enum FrameWritten {
     Done(usize),
     Length,

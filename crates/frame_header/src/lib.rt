@@ -1,4 +1,6 @@
 // Clauses 6.2.2 and 6.8: the Transfer Frame Primary Header, and its values that are valid whatever the receiver.
+#![tactic(auto)]
+
 ghost use Rattle.std.specs.Prelude.{◌≡◌};
 ghost use Rattle.frame_header.specs.Header.{valid_header};
 

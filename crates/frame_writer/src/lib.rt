@@ -1,4 +1,6 @@
 // Clauses 6.4 and 6.5: the TC Transfer Frame, written into lent output.
+#![tactic(auto)]
+
 ghost use Rattle.std.specs.Prelude.{◌≡◌, ◌+◌, ◌*◌, ◌/◌, ◌%◌, ◌≤◌, [], ◌++◌, length, drop};
 ghost use Rattle.base.specs.Limits.{largest_unit, largest_spacecraft, largest_channel, largest_frame};
 ghost use Rattle.base.specs.Outcome.{answer, after};

@@ -1,6 +1,8 @@
 // What C and Rust call: numbers, and octets as a pointer and a length. Each function passes its arguments on and puts the answer into numbers
 // (crates pondreszi_numbers, pondreszi_receiver, pondreszi_channels and pondreszi_sender). Only this crate's functions are exported. This file:
 // channel coding (clause 8); the modules: frames and control words (clause 6), receiver, receiver of several channels and sender (clause 7).
+#![tactic(auto)]
+
 pub mod channels;
 pub mod frames;
 pub mod receivers;

@@ -1,6 +1,8 @@
 // Document 02, order 8: the receiver of up to eight virtual channels, as C and Rust call it. Its records lie in one lent buffer, 9 octets each (crate
 // channel_octets, specs/Kept), which a caller may keep over a reset; spacecraft and pool come with each call. A buffer that is no table is refused by 12
 // and stays as it is.
+#![tactic(auto)]
+
 ghost use Rattle.std.specs.Prelude.{◌≡◌, suc, length};
 ghost use Rattle.base.specs.Limits.{largest_spacecraft, largest_channel};
 ghost use Rattle.base.specs.Outcome.{answer, after, number_of, count_of};

@@ -1,6 +1,8 @@
 // Document 01, "Limits" and its refusals, as C and Rust meet them: what is given and what is answered are numbers. Numbers come as 32 bits, and
 // the crates behind take fewer. What does not fit is handed on as a number that they judge in the same way. Flags go out as 1 or 0. The
 // modules tell what the writers and readers of CLTUs (clause 8), frames and control words (clause 6) answered.
+#![tactic(auto)]
+
 pub mod coding;
 pub mod frames;
 pub mod words;

@@ -1,5 +1,7 @@
 // FARM-1, the receiver (clause 7), as C and Rust call it. Its state lies in a lent buffer of 12 octets (crate receiver_octets, specs/Kept), which a caller may keep over a
 // reset. Octets that are no state are refused by 12 and stay as they are.
+#![tactic(auto)]
+
 ghost use Rattle.std.specs.Prelude.{◌≡◌, length};
 ghost use Rattle.base.specs.Outcome.{answer, after, number_of, count_of};
 ghost use Rattle.memory.specs.Placed.{placed};

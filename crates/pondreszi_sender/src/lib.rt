@@ -1,5 +1,7 @@
 // FOP-1, the sender (clause 7, table 7-8), as C and Rust call it: its state is octets in a lent buffer, its answer octets in another (crate
 // sender_octets). One call for every event, and what the numbers given are to the sender.
+#![tactic(auto)]
+
 ghost use Rattle.std.specs.Prelude.{◌≡◌, leb, eqb, length};
 ghost use Rattle.base.specs.Choice.{must};
 ghost use Rattle.memory.specs.Placed.{placed};

@@ -1,5 +1,7 @@
 // Reads lines of events from standard input, and writes a row for each (document 01, "The program"). What is written is the
 // that of crate program_console: see its proofs/Program. Here are only the reading and the writing.
+#![tactic(auto)]
+
 ghost use Rattle.std.specs.Prelude.{◌≡◌, ◌*◌, ◌≤◌, length};
 ghost use Rattle.base.specs.Outcome.{number_of, count_of};
 ghost use Rattle.text.specs.Answers.{written_answer};
@@ -16,7 +18,7 @@ const CHUNK: usize = 2048;
 // Octets of output: a row's for each octet read.
 const ROOM: usize = CHUNK * ROW_ROOM;
 
-#[derive(Drop)]
+#[derive(Clone, Copy)]
 enum Went {
     On,
     Ended,
@@ -24,7 +26,7 @@ enum Went {
 }
 
 // The console behind a read, and how the read and the writing of its rows went.
-#[derive(Drop)]
+#[derive(Clone, Copy)]
 struct Step {
     console: Console,
     went: Went,

@@ -1,4 +1,6 @@
 // Document 01, "The program": lines of events read out of octets, and a row of octets written for each.
+#![tactic(auto)]
+
 ghost use Rattle.std.specs.Prelude.{◌≡◌, ◌+◌, ◌*◌, ◌≤◌, length};
 ghost use Rattle.base.specs.Outcome.{answer, after};
 ghost use Rattle.memory.specs.Placed.{placed};
@@ -16,7 +18,7 @@ use text::{NEWLINE, NumberWritten};
 const MOST_KEPT: usize = 64;
 
 // The session, and the line under way, of which len octets are kept. No other crate can write one.
-#[derive(Drop)]
+#[derive(Clone, Copy)]
 pub struct Console {
     session: Session,
     kept: [u8; MOST_KEPT],
@@ -24,14 +26,14 @@ pub struct Console {
 }
 
 // What feeding gives: the count of octets written, or 11, and the console next.
-#[derive(Drop)]
+#[derive(Clone, Copy)]
 pub struct Fed {
     pub written: NumberWritten,
     pub console: Console,
 }
 
 // A console under way, and the place behind what it has written.
-#[derive(Drop)]
+#[derive(Clone, Copy)]
 struct Place {
     console: Console,
     at: usize,

@@ -1,4 +1,6 @@
 // Document 01, "The program": what a line says.
+#![tactic(auto)]
+
 ghost use Rattle.std.specs.Prelude.{◌≡◌, [], ◌∷◌};
 ghost use Rattle.text.specs.Fields.{fields_of};
 ghost use Rattle.program_lines.specs.Line.{number_of, ad_line, set_vr_line, set_line, by_fields, line_of};
@@ -9,7 +11,7 @@ use text::Decimal;
 const LONGEST_LINE: usize = 63;
 
 // What a line says.
-#[derive(Drop)]
+#[derive(Clone, Copy)]
 pub enum Line {
     Set(u8, u8, u8),
     Ad(u8),

@@ -1,4 +1,6 @@
 // Document 01, "The program": what is written for a line, a row of fields, and the header.
+#![tactic(auto)]
+
 ghost use Rattle.std.specs.Prelude.{◌≡◌, [], ◌∷◌, ◌++◌, ◌+◌, ◌≤◌, length};
 ghost use Rattle.base.specs.Outcome.{answer, after};
 ghost use Rattle.memory.specs.Placed.{placed};
@@ -15,7 +17,7 @@ use text::{NEWLINE, NumberWritten, TAB};
 pub const ROW_ROOM: usize = 20;
 
 // What is written for a line.
-#[derive(Drop)]
+#[derive(Clone, Copy)]
 pub enum Output {
     Nothing,
     Refused,

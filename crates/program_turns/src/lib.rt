@@ -1,4 +1,6 @@
 // Document 01, "The program": what a line does to the session.
+#![tactic(auto)]
+
 ghost use Rattle.std.specs.Prelude.{◌≡◌};
 ghost use Rattle.program_turns.specs.Turns.{refused_in, row_turn, first_of, later_of, turn_of};
 
@@ -13,7 +15,7 @@ const SPACECRAFT: u16 = 0;
 const CHANNEL: u8 = 0;
 
 // Before the first line, behind a good SET, or behind another first line.
-#[derive(Drop)]
+#[derive(Clone, Copy)]
 pub enum Session {
     Fresh,
     Running(Receiver),
@@ -21,7 +23,7 @@ pub enum Session {
 }
 
 // The session behind a line, and what is written for it.
-#[derive(Drop)]
+#[derive(Clone, Copy)]
 pub struct Turn {
     pub session: Session,
     pub output: Output,

@@ -1,4 +1,6 @@
 // Clause 8.4: the randomizer's sequence, by its octets, and its application.
+#![tactic(auto)]
+
 mod octets;
 
 ghost use Rattle.std.specs.Prelude.{◌≡◌, ◌≤◌, length};

@@ -1,4 +1,6 @@
 // Clauses 7.2.3, 7.5 and 7.9.3, table 7-9: FARM-1, the receiver: its address, its AD buffers and its channel.
+#![tactic(auto)]
+
 mod events;
 mod shared;
 mod state;
@@ -22,7 +24,7 @@ use frame::{FrameReading, Kind};
 pub const LARGEST_BUFFERS: u8 = 8;
 
 // A virtual channel: its number, its window W, the AD units that it holds (each has a buffer), and the variables of clause 7.2.3.
-#[derive(Drop)]
+#[derive(Clone, Copy)]
 pub struct Channel {
     pub number: u8,
     pub window: u8,
@@ -31,7 +33,7 @@ pub struct Channel {
 }
 
 // What an event gives of the channel: the event, the unit accepted, the channel next.
-#[derive(Drop)]
+#[derive(Clone, Copy)]
 pub struct ChannelAnswer {
     pub event: Event,
     pub unit: AcceptedUnit,
@@ -39,14 +41,14 @@ pub struct ChannelAnswer {
 }
 
 // A release of the channel done, or document 01's refusal 13.
-#[derive(Drop)]
+#[derive(Clone, Copy)]
 pub enum ChannelReleased {
     Done(ChannelAnswer),
     NoneHeld,
 }
 
 // The receiver's state: its spacecraft, its AD buffers and its channel.
-#[derive(Drop)]
+#[derive(Clone, Copy)]
 pub struct ReceiverState {
     pub spacecraft: u16,
     pub buffers: u8,
@@ -54,13 +56,13 @@ pub struct ReceiverState {
 }
 
 // The receiver. No other crate can write one: a start gives one, and each answer the next.
-#[derive(Drop)]
+#[derive(Clone, Copy)]
 pub struct Receiver {
     farm: ReceiverState,
 }
 
 // What an event gives: the number of the frame's refusal (0 where there is none), the event, the unit accepted, the receiver next.
-#[derive(Drop)]
+#[derive(Clone, Copy)]
 pub struct Received {
     pub refusal: u8,
     pub event: Event,
@@ -69,14 +71,14 @@ pub struct Received {
 }
 
 // A new receiver, or document 01's refusal 12.
-#[derive(Drop)]
+#[derive(Clone, Copy)]
 pub enum Start {
     Ready(Receiver),
     Setting,
 }
 
 // A release done, or document 01's refusal 13.
-#[derive(Drop)]
+#[derive(Clone, Copy)]
 pub enum Released {
     Done(Received),
     NoneTaken,

@@ -1,4 +1,6 @@
 // The receiver's state as 12 octets, so that a unit can keep it over a reset. The layout: specs/Kept.
+#![tactic(auto)]
+
 ghost use Rattle.std.specs.Prelude.{◌≡◌, ◌<◌, ◌≤◌, length};
 ghost use Rattle.base.specs.Octets.{same};
 ghost use Rattle.base.specs.Flags.{bit_of, is_set};

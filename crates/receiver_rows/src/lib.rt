@@ -1,4 +1,6 @@
 // Clause 7.9.3, table 7-9: the event of an AD frame, the variables of FARM-1 after an event, row by row, and the unit accepted.
+#![tactic(auto)]
+
 ghost use Rattle.std.specs.Prelude.{◌≡◌, ◌+◌, ◌%◌};
 ghost use Rattle.base.specs.Choice.{both};
 ghost use Rattle.base.specs.Modulo.{offset};

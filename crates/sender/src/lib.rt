@@ -3,6 +3,8 @@
 // The sender's state goes in by value and comes back in the answer. The units lie in a store that the host lends at every event, the
 // same one each time and written by nobody else: one in each place of LARGEST_UNIT octets from offset 0 on, the oldest first, the unit
 // waiting behind the sent ones. The frame handed down to the lower layer is written at the front of the lent output. A refusal changes nothing.
+#![tactic(auto)]
+
 mod answers;
 
 ghost use Rattle.std.specs.Prelude.{◌≡◌, ◌+◌, ◌-◌, ◌≤◌, leb, length};
@@ -36,21 +38,21 @@ use store::units::put_unit;
 use store::{PLACES, suffices};
 
 // The sender's state. No other crate can write one: a start gives one, and each answer the next.
-#[derive(Drop)]
+#[derive(Clone, Copy)]
 pub struct Sender {
     fop: sender_values::SenderState,
 }
 
 // A start: document 01's refusal (0 for done, 12 for a setting, 11 for the lent store), and the sender; after a refusal that of the least
 // settings, so that no ill-formed sender can be had.
-#[derive(Drop)]
+#[derive(Clone, Copy)]
 pub struct Start {
     pub refusal: u8,
     pub sender: Sender,
 }
 
 // The kind of the frame handed down (table 6-3, clause 7.8), which tells whose accept or reject the lower layer's answer to it is.
-#[derive(Drop)]
+#[derive(Clone, Copy)]
 pub enum FrameKind {
     None,
     Ad,
@@ -60,7 +62,7 @@ pub enum FrameKind {
 }
 
 // An event of the sender (crate fop, specs/Events, `SenderEvent`). The unit of a request and a control word are octets, lent beside it.
-#[derive(Drop)]
+#[derive(Clone, Copy)]
 pub enum Event {
     RequestAd,
     RequestBd,
@@ -74,7 +76,7 @@ pub enum Event {
 // of octets of the frame handed down, at the front of the output (0 where there is none); whether the lower layer is asked to abort; the
 // alert; whether a Suspend notification is given (clause 7.9.2.18; document 02, order 9); the responses in their order; the units confirmed and
 // denied; the kind of the frame handed down; the next sender.
-#[derive(Drop)]
+#[derive(Clone, Copy)]
 pub struct Answer {
     pub refusal: u8,
     pub event: u8,

@@ -1,4 +1,6 @@
 // Table 7-8, its conditions: which event it is that reaches the sender, by the event's number.
+#![tactic(auto)]
+
 pub mod directives;
 pub mod words;
 

@@ -1,5 +1,7 @@
 // Clauses 7.2.2 and 7.8, document 01, "FOP-1": the frame that the sender hands down. Its unit is the one offered or one out of the lent store,
 // and the frame is written into the lent output. The unit offered and the store are judged here, and the units confirmed leave the store.
+#![tactic(auto)]
+
 pub mod units;
 
 ghost use Rattle.std.specs.Prelude.{◌≡◌, ◌+◌, ◌≤◌, length};

@@ -1,4 +1,6 @@
 // The sender's state and its answer as octets, for a unit that keeps the state over a reset and for callers in other languages.
+#![tactic(auto)]
+
 mod reader;
 pub mod writer;
 

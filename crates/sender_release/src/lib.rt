@@ -1,4 +1,6 @@
 // Clauses 7.9.2.4, 7.9.2.5, 7.9.2.13, 7.9.2.14 and 7.9.2.17: frames and units leave the queues.
+#![tactic(auto)]
+
 pub mod entries;
 
 ghost use Rattle.std.specs.Prelude.{◌≡◌};

@@ -1,4 +1,6 @@
 // Table 7-8, the rows of FOP-1, the sender, on its state by value. The table's cells are crate sender_table's.
+#![tactic(auto)]
+
 mod actions;
 
 ghost use Rattle.std.specs.Prelude.{◌≡◌};

@@ -1,4 +1,6 @@
 // Document 01, "FOP-1": the well-formed states of the sender, tested. A state that was kept over a reset is told from one that no sender has.
+#![tactic(auto)]
+
 ghost use Rattle.std.specs.Prelude.{◌≡◌, ◌≤◌, leb, length};
 ghost use Rattle.base.specs.Choice.{both};
 ghost use Rattle.base.specs.Limits.{largest_unit};

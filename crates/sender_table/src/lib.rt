@@ -1,4 +1,6 @@
 // Table 7-8 as data, in the module `table`; that it is the standard's, cell by cell, is proofs/Cells.
+#![tactic(auto)]
+
 pub mod table;
 
 ghost use Rattle.std.specs.Prelude.{◌≡◌, ◌<◌};
@@ -9,7 +11,7 @@ use crate::table::{CELLS, ROWS, S1, S2, S3, S4, S5, S6};
 use fop::State;
 
 // A cell of table 7-8 in a state: its actions by number (specs/Numbers), five, filled up with Ignore, and the next state.
-#[derive(Drop)]
+#[derive(Clone, Copy)]
 pub struct CellNumbers {
     pub actions: [u8; 5],
     pub next: State,

@@ -1,4 +1,6 @@
 // Clauses 7.9.2.6 to 7.9.2.12, 7.9.2.15 and 7.9.2.16: transmission and retransmission.
+#![tactic(auto)]
+
 ghost use Rattle.std.specs.Prelude.{◌≡◌};
 ghost use Rattle.sender_values.specs.Actions.{count_for, transmit_ad_frame, send_marked, in_window, look_for_fdu, transmit_bc_frame, transmit_unlock, transmit_set_vr, transmit_bd_frame, send_control, send_marked_control, look_for_directive, again, initiate_ad_retransmission, initiate_bc_retransmission};
 

@@ -1,4 +1,6 @@
 // Clauses 7.2.2 and 7.9.2: the state of FOP-1, the sender, by value, and the actions of clause 7.9.2 on its values and on what an event tells.
+#![tactic(auto)]
+
 pub mod answers;
 pub mod start;
 pub mod values;
@@ -16,7 +18,7 @@ pub const LARGEST_TIMEOUT_TYPE: u8 = 1;
 pub const LARGEST_SUSPEND_STATE: u8 = 4;
 
 // K (FOP_Sliding_Window_Width), T1_Initial, Transmission_Limit, Timeout_Type, and the address of the frames.
-#[derive(Drop)]
+#[derive(Clone, Copy)]
 pub struct Settings {
     pub k: u8,
     pub t1_initial: u16,
@@ -28,7 +30,7 @@ pub struct Settings {
 
 // V(S), NN(R), the timer's ticks left (0 where it is stopped), Transmission_Count, AD_Out_Flag, BC_Out_Flag, BD_Out_Flag (true where
 // Ready) and Suspend_State.
-#[derive(Drop)]
+#[derive(Clone, Copy)]
 pub struct Variables {
     pub vs: u8,
     pub nnr: u8,
@@ -41,7 +43,7 @@ pub struct Variables {
 }
 
 // The type-BC frame on the sent queue; Set V(R) with its value.
-#[derive(Drop)]
+#[derive(Clone, Copy)]
 pub enum Control {
     None,
     Unlock,
@@ -51,7 +53,7 @@ pub enum Control {
 // The sent queue and the wait queue. The units lie in the store, the oldest first: `sent` units on the sent queue, of which the last
 // `marked` have their To_Be_Retransmitted_Flag set, and directly behind them the unit waiting. `control_marked` is the
 // To_Be_Retransmitted_Flag of the type-BC frame.
-#[derive(Drop)]
+#[derive(Clone, Copy)]
 pub struct Queues {
     pub sent: u8,
     pub marked: u8,
@@ -61,7 +63,7 @@ pub struct Queues {
 }
 
 // The frame handed down to the lower procedures: AD with its N(S) and the place of its unit in the store, BD with the unit requested.
-#[derive(Drop)]
+#[derive(Clone, Copy)]
 pub enum Handed {
     None,
     Ad { number: u8, place: u8 },
@@ -71,14 +73,14 @@ pub enum Handed {
 }
 
 // The responses in their order, each by its number.
-#[derive(Drop)]
+#[derive(Clone, Copy)]
 pub struct Responses {
     pub count: u8,
     pub numbers: [u8; LARGEST_RESPONSES],
 }
 
 // The state of the sender, beside its store. `lengths` has the length of each unit in the store.
-#[derive(Drop)]
+#[derive(Clone, Copy)]
 pub struct SenderState {
     pub state: State,
     pub settings: Settings,
@@ -89,7 +91,7 @@ pub struct SenderState {
 
 // What is told so far: the frame handed down, an abort request, an Alert notification, a Suspend notification, the responses, the units
 // confirmed and denied.
-#[derive(Drop)]
+#[derive(Clone, Copy)]
 pub struct Told {
     pub handed: Handed,
     pub abort: bool,
@@ -101,7 +103,7 @@ pub struct Told {
 }
 
 // The work on an event: the state of the sender but for its units' lengths, and what is told so far.
-#[derive(Drop)]
+#[derive(Clone, Copy)]
 pub struct Work {
     pub state: State,
     pub settings: Settings,

@@ -1,4 +1,6 @@
 // Clause 8.3, Start Sequence, and documents 01 and 02: the first place at an octet boundary where it stands, at most one bit wrong.
+#![tactic(auto)]
+
 ghost use Rattle.std.specs.Prelude.{◌≡◌, ◌<◌, length, drop};
 ghost use Rattle.start_sequence.specs.StartSequence.{starts, start_of};
 

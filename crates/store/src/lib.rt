@@ -1,5 +1,7 @@
 // Document 01, "FOP-1": the store of units that the host lends to the sender. Place i is the octets from LARGEST_UNIT * i on. The sent units
 // stand there oldest first, and the unit waiting behind them; each has its length in a list of lengths.
+#![tactic(auto)]
+
 pub mod lengths;
 pub mod removal;
 pub mod units;

@@ -1,4 +1,6 @@
 // Texts: fields parted by tabs, and decimal numbers (document 01, "The program").
+#![tactic(auto)]
+
 ghost use Rattle.std.specs.Prelude.{◌≡◌, ◌≤◌, ◌<◌, ◌++◌, length, drop};
 ghost use Rattle.base.specs.Octets.{same as same-octets};
 ghost use Rattle.base.specs.Outcome.{answer, after};
@@ -15,14 +17,14 @@ pub const ZERO: u8 = 0x30;
 pub const NINE: u8 = 0x39;
 
 // A number, or none.
-#[derive(Drop)]
+#[derive(Clone, Copy)]
 pub enum Decimal {
     Is(u64),
     None,
 }
 
 // The count of octets written, or document 01's refusal 11.
-#[derive(Drop)]
+#[derive(Clone, Copy)]
 pub enum NumberWritten {
     Done(usize),
     Room,
