@@ -1,0 +1,27 @@
+use borrow.Author.Rules.{rules}
+use mathlib.Core.Path.{◌≡◌, refl, sym, ap, ◌∙◌}
+use Prim.Native.Nat.{ℕ, ◌-◌, ◌*◌, ◌/◌, ◌%◌}
+use native.Mathlib.Nat.{add-zero}
+use native.Mathlib.Omega.{arith}
+use lib.Bits.{bit_xor}
+use lib.ListN.{length}
+use Rattle.base.proofs.Register.{OctetsLeft, octet_shifted, octets_shifted}
+use Rattle.base.proofs.Xor.{double}
+use Rattle.codeblock.specs.Codeblock.{generator, parity, error_control}
+use Rattle.encoded_data.proofs.block.control_by.Goals as goal
+
+pub loop-i-init : goal.loop-i-init
+loop-i-init c = (refl, record { same = refl; within = search rules })
+
+pub loop-i-preserved : goal.loop-i-preserved
+loop-i-preserved c =
+    let e = c.next_parity-parity.ensures in
+    (omega (arith, e), octet_shifted c.loop-i.invariant.1 c.loop-i-test.true (omega (arith, e)))
+
+pub returns : goal.returns
+unfolding error_control parity
+returns c =
+    let l = c.loop-i in
+    let s = c.args.information.now in
+    let e : l.parity ≡ parity s * 2 = omega (arith, octets_shifted l.invariant.1 c.loop-i-test.false, l.invariant.0) in
+    ap (λ (x : ℕ). bit_xor x 254) e ∙ sym (double (parity s) 127) ∙ sym (add-zero (bit_xor (parity s) 127 * 2))

@@ -1,0 +1,19 @@
+-- Where the codeblocks do not fit, nothing is placed; else they are put.
+use borrow.Author.Rules.{rules}
+use mathlib.Core.Path.{sym}
+use Prim.Native.Nat.{◌/◌}
+use native.Mathlib.Omega.{arith}
+use lib.ListN.{length}
+use Rattle.memory.proofs.Laws.{placed_not}
+use Rattle.encoded_data.specs.EncodedData.{encoded}
+use Rattle.encoded_data.proofs.Encoded.{length_encoded}
+use Rattle.encoded_data.proofs.writer.encode_by.Goals as goal
+
+pub returns-then-out-whole : goal.returns-then-out-whole
+returns-then-out-whole c =
+    let a = c.args in
+    let s = a.information.now in
+    sym (placed_not a.out.now 0 (encoded (length s / 7) s) (omega (arith, length_encoded (length s / 7) s (omega arith))))
+
+pub put_codeblocks-requires : goal.put_codeblocks-requires
+put_codeblocks-requires c = (search rules, search rules, search rules)

@@ -1,0 +1,13 @@
+-- The sequence repeats after 255 octets, so its first 255 tell every octet.
+use borrow.Author.Rules.{rules}
+use mathlib.Core.Path.{ap, ◌∙◌}
+use mathlib.Core.List.{List}
+use Prim.Native.Nat.{ℕ, ◌%◌}
+use lib.ListN.{get_or}
+use Rattle.randomizer.proofs.Randomized.{sequence_tells}
+use Rattle.randomizer.proofs.octet_in.Goals as goal
+
+pub returns : goal.returns
+returns c =
+    let k = c.args.place in
+    ap (λ (l : List ℕ). get_or l (k % 255) 0) c.requires ∙ sequence_tells k

@@ -1,0 +1,19 @@
+-- The loop's invariant: the output is the derandomized information up to a multiple of 255, and as it was from there.
+use borrow.Author.Rules.{rules}
+use mathlib.Core.Path.{◌≡◌, refl, sym, ◌∙◌}
+use mathlib.Core.List.{◌++◌}
+use Prim.Native.Nat.{◌+◌, ◌-◌, ◌%◌, ◌≤◌}
+use native.Mathlib.Omega.{arith}
+use lib.ListN.{length, take, drop}
+use Rattle.base.proofs.Lists.{stored}
+use Rattle.randomizer.specs.Randomizer.{randomized}
+use Rattle.randomizer.proofs.Randomized.{length_randomized}
+use Rattle.memory.proofs.Laws.{placed_front}
+use Rattle.randomizer.proofs.Runs.{store_run}
+use Rattle.randomizer.proofs.randomize_runs.Given as goal
+
+abbrev pub invariant-loop-at : goal.invariant-loop-at
+invariant-loop-at l = (l.at ≤ length l.octets) × (l.at % 255 ≡ 0) × (l.out ≡ take l.at (randomized 0 l.octets) ++ drop l.at l.initial.out) × (length l.out ≡ length l.initial.out)
+
+abbrev pub decreases-loop-at : goal.decreases-loop-at
+decreases-loop-at l = length l.octets - l.at
