@@ -50,7 +50,7 @@ stored m p a b c d e f g h =
 pub returns : goal.returns
 returns c =
     let a = c.args in
-    let s = a.t3 in
-    let l : length s ≡ 7 = good_length (e_int w8) 7 s _ c.good.1.1.0 in
+    let s = a.seven in
+    let l : length s ≡ 7 = search rules in
     stored a.memory.now a.place (get_or s 0 0) (get_or s 1 0) (get_or s 2 0) (get_or s 3 0) (get_or s 4 0) (get_or s 5 0) (get_or s 6 0) (search rules)
     ∙ ap (placed a.memory.now a.place) (sym (first_seven s (omega arith)) ∙ take_all 7 s (omega arith))

@@ -6,26 +6,21 @@ use Rattle.base.proofs.Tests.{tests}
 use Rattle.frame_header.specs.Header.{valid_header}
 use Rattle.frame_header.proofs.Laws.{tested, valid_short, valid_by_octets}
 use Rattle.frame_header.proofs.valid.Goals as goal
-use Rattle.frame_header.proofs.valid.Lts.View as view
 
 pub returns-then-octets-lt-HEADER_LENGTH : goal.returns-then-octets-lt-HEADER_LENGTH
 returns-then-octets-lt-HEADER_LENGTH c = valid_short _ (search rules)
 
--- what the tests of the octets give is the answer
-judged : (c : view.In-After-shared_slice_known) {r : Bool} → r ≡ tested c.before.before.args.octets.now → r ≡ valid_header c.before.before.args.octets.now
-judged c e = valid_by_octets _ (λ i. (c.shared-slice-known.given i).fits) (search rules) e
-
 pub returns-then-first-ne0 : goal.returns-then-first-ne0
-returns-then-first-ne0 c = judged (search rules) (search tests)
+returns-then-first-ne0 c = valid_by_octets _ (λ i. (c.type_inv.octets i).fits) (search rules) (search tests)
 
 pub returns-then-first-ne0-2 : goal.returns-then-first-ne0-2
-returns-then-first-ne0-2 c = judged (search rules) (search tests)
+returns-then-first-ne0-2 c = valid_by_octets _ (λ i. (c.type_inv.octets i).fits) (search rules) (search tests)
 
 pub returns-then-first-eq1 : goal.returns-then-first-eq1
-returns-then-first-eq1 c = judged (search rules) (search tests)
+returns-then-first-eq1 c = valid_by_octets _ (λ i. (c.type_inv.octets i).fits) (search rules) (search tests)
 
 pub returns-then-first-eq1-2 : goal.returns-then-first-eq1-2
-returns-then-first-eq1-2 c = judged (search rules) (search tests)
+returns-then-first-eq1-2 c = valid_by_octets _ (λ i. (c.type_inv.octets i).fits) (search rules) (search tests)
 
 pub returns : goal.returns
-returns c = judged (search rules) (search tests)
+returns c = valid_by_octets _ (λ i. (c.type_inv.octets i).fits) (search rules) (search tests)
