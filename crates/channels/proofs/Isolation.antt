@@ -18,7 +18,7 @@ use Rattle.receiver.specs.declared.Channel.{Channel}
 use Rattle.receiver.specs.declared.ChannelAnswer.{ChannelAnswer}
 use Rattle.receiver.specs.Channel.{answered, arrived}
 use Rattle.receiver.specs.Receiver.{part_for}
-use Rattle.channels.specs.Table.{is_in, place_of, table_holds, has_room, record_of, Turn, nothing, turned, records_after, addressed, frame_turn, unit_part, release_turn, word_writing}
+use Rattle.channels.specs.Table.{is_in, place_of, table_holds, has_room, no_channel, record_of, Turn, nothing, turned, records_after, addressed, frame_turn, unit_part, release_turn, word_writing}
 use Rattle.channels.specs.Isolation.{ours, Event, frame_arrives, release_buffer, report_word, named, channel_of, Told, turn, told_of, told, refusal, after, numbers, Isolated, Refusals}
 use Rattle.channels.proofs.RecordLaws.{others_set, numbers_set}
 use Rattle.channels.proofs.Addresses.{addressed_there, absent_seven, addressed_absent}
@@ -130,6 +130,12 @@ module _ (spacecraft pool : ℕ) (cs : List Channel) where
   frame_number_lem octets f (FrameCase.refused h d) = refl
   frame_number_lem octets f (FrameCase.arrives h here z) = sym (ap (refusal_of octets spacecraft) (addressed_there cs octets here) ∙ z)
 
+  -- whatever else is wrong with a frame of a channel that is not there, it is read as one of no channel of ours
+  pub absent_number : table_holds spacecraft pool cs ≡ true → (octets : List ℕ) → Octets octets → is_in (named octets) cs ≡ false
+      → (frame_turn spacecraft pool cs octets).refusal ≡ refusal_of octets spacecraft no_channel
+  absent_number h octets lent e = frame_number_lem octets h (frame_case spacecraft pool cs octets lent)
+      ∙ ap (refusal_of octets spacecraft) (addressed_absent cs octets e)
+
   pub refusals : Refusals ours spacecraft pool cs
   unfolding unit_part frame_turn release_turn word_writing
   refusals = record {
@@ -139,8 +145,6 @@ module _ (spacecraft pool : ℕ) (cs : List Channel) where
     frame_refused = λ h octets lent. frame_refused_lem octets h (frame_case spacecraft pool cs octets lent);
     frame7 = λ h octets lent e z. frame_number_lem octets h (frame_case spacecraft pool cs octets lent)
         ∙ absent_seven cs octets spacecraft lent e z;
-    frame_absent = λ h octets lent e. frame_number_lem octets h (frame_case spacecraft pool cs octets lent)
-        ∙ ap (refusal_of octets spacecraft) (addressed_absent cs octets e);
     release7 = λ h n e. rw (h, e);
     word7 = λ h n room e. rw (h, e);
     frame_there = λ h octets lent e. frame_number_lem octets h (frame_case spacecraft pool cs octets lent)

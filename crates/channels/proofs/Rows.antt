@@ -26,7 +26,7 @@ use Rattle.channels.specs.Rows.{own_of, row_of, handed, Rows}
 use Rattle.channels.proofs.Addresses.{addressed_there}
 use Rattle.channels.proofs.RecordLaws.{own_set}
 use Rattle.channels.proofs.Turns.{given_back, FrameCase, ReleaseCase, frame_case, release_case}
-use Rattle.channels.proofs.Isolation.{arrived_number, given_number, frame_told}
+use Rattle.channels.proofs.Isolation.{arrived_number, given_number, frame_told, absent_number}
 
 module _ (spacecraft pool : ℕ) (cs : List Channel) where
   -- a frame that is taken is the row's turn
@@ -89,4 +89,4 @@ module _ (spacecraft pool : ℕ) (cs : List Channel) where
 
   pub rows : Rows ours spacecraft pool cs
   unfolding word_writing
-  rows = record { frame_told = frame_told_lem; frame_next = frame_next_lem; release_next = release_next_lem; words = λ h n room there. rw (h, there) }
+  rows = record { frame_told = frame_told_lem; frame_next = frame_next_lem; release_next = release_next_lem; words = λ h n room there. rw (h, there); frame_absent = absent_number spacecraft pool cs }

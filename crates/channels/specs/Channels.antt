@@ -1,5 +1,5 @@
 -- Document 02, order 8, "Records by value first": an array of eight, of which the first `count` are records; what each event makes of it is specs/Table.
-use Rattle.std.specs.Prelude.{ℕ, List, [], ◌++◌, leb, take, drop}
+use Rattle.std.specs.Prelude.{ℕ, List, ◌++◌, leb, take, drop}
 use Rattle.base.specs.Choice.{must}
 use Rattle.base.specs.Outcome.{Outcome, Outcome.refused}
 use Rattle.farm.specs.declared.AcceptedUnit.TheVariants.{None}
@@ -42,7 +42,7 @@ receive_of s octets = must (leb s.count largest_channels) (refused_count s) (tol
 
 -- the unit that they bring, a part of them
 unfoldable pub unit_part : Channels → List ℕ → List ℕ
-unit_part s octets = must (leb s.count largest_channels) [] (table.unit_part s.spacecraft s.pool (records_in s) octets)
+unit_part s octets = must (leb s.count largest_channels) (take 0 octets) (table.unit_part s.spacecraft s.pool (records_in s) octets)
 
 -- what a release that names the channel n comes to, likewise
 unfoldable pub release_turn_of : Channels → ℕ → Turn

@@ -25,7 +25,7 @@ use Rattle.receiver.specs.declared.Released.{Released}
 use Rattle.receiver.specs.declared.Released.TheVariants.{Done, NoneTaken}
 use Rattle.receiver.specs.Channel.{takes}
 use Rattle.receiver.specs.Receiver as single
-use Rattle.channels.specs.Table.{is_in, held_in, table_holds, has_room, no_channel, record_of, Turn, records_after, frame_turn, unit_part, release_turn, word_writing}
+use Rattle.channels.specs.Table.{is_in, held_in, table_holds, has_room, record_of, Turn, records_after, frame_turn, unit_part, release_turn, word_writing}
 
 -- A receiver of several channels.
 
@@ -117,9 +117,6 @@ pub record Refusals (m : Machine) (spacecraft pool : ℕ) (cs : List Channel) : 
   -- "Refusal 7 now means none of the eight, for a release too": of frames, one that a receiver of the channel it names would take, or refuse with 9
   pub frame7 : table_holds spacecraft pool cs ≡ true → (octets : List ℕ) (lent : Octets octets) → is_in (named octets) cs ≡ false
       → (refusal_of octets spacecraft (named octets) ≡ 0) ⊎ (refusal_of octets spacecraft (named octets) ≡ 9) → (m.frame spacecraft pool cs octets).refusal ≡ 7
-  -- whatever else is wrong with it is judged where it was: it is read as a frame of no channel of ours
-  pub frame_absent : table_holds spacecraft pool cs ≡ true → (octets : List ℕ) → Octets octets → is_in (named octets) cs ≡ false
-      → (m.frame spacecraft pool cs octets).refusal ≡ refusal_of octets spacecraft no_channel
   pub release7 : table_holds spacecraft pool cs ≡ true → (n : ℕ) → is_in n cs ≡ false → told m spacecraft pool cs (release_buffer n) ≡ turn 7 0 0 None []
   pub word7 : table_holds spacecraft pool cs ≡ true → (n room : ℕ) → is_in n cs ≡ false → told m spacecraft pool cs (report_word n room) ≡ word (Outcome.refused 7 0)
   -- of a channel that is there a frame is refused as by a receiver of that channel alone

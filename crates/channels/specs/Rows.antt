@@ -12,7 +12,7 @@ use Rattle.frame.specs.Frame.{refusal_of, kind_of, data_field, total_of}
 use Rattle.receiver.specs.declared.Channel.{Channel}
 use Rattle.receiver.specs.Channel.{become, event_of, star_of, takes}
 use Rattle.receiver.specs.Receiver.{part_for}
-use Rattle.channels.specs.Table.{is_in, table_holds, has_room, record_of, word_of}
+use Rattle.channels.specs.Table.{is_in, table_holds, has_room, no_channel, record_of, word_of}
 use Rattle.channels.specs.Isolation.{Machine, frame_arrives, release_buffer, named, turn, told, after}
 
 -- the record of the channel that a frame names, the event that the frame is to it, and the unit that the event's row hands out
@@ -41,3 +41,6 @@ pub record Rows (m : Machine) (spacecraft pool : ℕ) (cs : List Channel) : Type
       → record_of n (after m spacecraft pool cs (release_buffer n)) ≡ become ((record_of n cs).held - 1) (step_of E10 0 (record_of n cs).variables) (record_of n cs)
   -- the control word asked of a channel has its V(R), flags and counter
   pub words : table_holds spacecraft pool cs ≡ true → (n room : ℕ) → is_in n cs ≡ true → m.word spacecraft pool cs n room ≡ writing (word_of (record_of n cs)) room
+  -- a frame of a channel that is not there, whatever else is wrong with it, is judged where it was: it is read as a frame of no channel of ours
+  pub frame_absent : table_holds spacecraft pool cs ≡ true → (octets : List ℕ) → Octets octets → is_in (named octets) cs ≡ false
+      → (m.frame spacecraft pool cs octets).refusal ≡ refusal_of octets spacecraft no_channel

@@ -21,7 +21,7 @@ use Rattle.receiver.specs.declared.ChannelReleased.TheVariants.{Done, NoneHeld}
 use Rattle.receiver.specs.Channel.{arrived, release_of}
 use Rattle.receiver.specs.Receiver.{part_for}
 use Rattle.receiver.specs.State.{flags_hold}
-use Rattle.channels.specs.Limits.{largest_channels, largest_pool, smallest_window, largest_window, counter_modulus}
+use Rattle.channels.specs.Limits.{largest_channels, largest_pool}
 pub use Rattle.channels.specs.declared.Turn.{Turn}
 
 -- The records.
@@ -51,9 +51,9 @@ abbrev pub record_holds : Channel → Bool
 record_holds c =
     both (leb c.number largest_channel)
     (both (eqb (c.window % 2) 0)
-    (both (leb smallest_window c.window)
-    (both (leb c.window largest_window)
-    (both (flags_hold c.variables.state c.variables.lockout c.variables.wait c.variables.retransmit) (ltb c.variables.counter counter_modulus)))))
+    (both (leb 2 c.window)
+    (both (leb c.window 254)
+    (both (flags_hold c.variables.state c.variables.lockout c.variables.wait c.variables.retransmit) (ltb c.variables.counter 4)))))
 
 abbrev pub all_hold : List Channel → Bool
 all_hold [] = true

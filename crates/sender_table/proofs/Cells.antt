@@ -4,7 +4,7 @@ use mathlib.Core.Path.{◌≡◌, sym, ap, ◌∙◌}
 use mathlib.Core.Bool.{true}
 use mathlib.Core.List.{List, [], ◌∷◌, map}
 use mathlib.Core.Option.{Option, none, some}
-use Prim.Native.Nat.{ℕ, suc, ◌<◌}
+use Prim.Native.Nat.{ℕ, suc}
 use native.Mathlib.Omega.{arith}
 use lib.ListN.{length, get_or, take, get_or-map}
 use Rattle.base.proofs.Lists.{take_next}
@@ -13,7 +13,7 @@ use Rattle.fop.specs.declared.State.{State}
 use Rattle.fop.specs.declared.State.TheVariants.{S1, S2, S3, S4, S5, S6}
 use Rattle.sender_table.specs.declared.CellNumbers.{CellNumbers}
 use Rattle.sender_table.specs.Rows.{place_of, events, event_of}
-use Rattle.sender_table.specs.Numbers.{column_of, cell_numbered, cell_if, cell_of, Tells, number_at, cell_at}
+use Rattle.sender_table.specs.Numbers.{column_of, cell_numbered, cell_if, cell_of, Tells}
 use Rattle.sender_table.proofs.Once.{read_lists, lists_read}
 use Rattle.sender_table.proofs.Places.{all_below, is_below}
 
@@ -55,15 +55,6 @@ agree_at rows cells e p s =
 pub tells : (rows cells : List (List ℕ)) → Agree rows cells → all_below 50 rows ≡ true → Tells rows cells
 unfolding cell_of event_of
 tells rows cells e t = record { numbers = is_below 50 rows t (omega arith); says = λ k s. agree_at rows cells e (place_of k) s }
-
--- a number found in the rows is that of a cell, and the cell found by it is the table's
-pub found_below : (rows : List (List ℕ)) → all_below 50 rows ≡ true → (k : ℕ) (s : State) {n : ℕ} → n ≡ number_at rows k s → n < 50
-unfolding number_at
-found_below rows t k s e = omega (arith, e, is_below 50 rows t (omega arith) (place_of k) (column_of s))
-
-pub found : (rows cells : List (List ℕ)) → Tells rows cells → (k : ℕ) (s : State) {n : ℕ} {r : CellNumbers} → n ≡ number_at rows k s → r ≡ cell_at cells n s → r ≡ cell_of k s
-unfolding number_at cell_at
-found rows cells t k s p e = e ∙ ap (λ (m : ℕ). cell_numbered (get_or cells m []) s) p ∙ t.says k s
 
 -- the first five of six numbers
 pub first_five : (numbers : List ℕ) → length numbers ≡ 6

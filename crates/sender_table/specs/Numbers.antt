@@ -128,13 +128,6 @@ column_of state.S4 = 3
 column_of state.S5 = 4
 column_of state.S6 = 5
 
--- the number of a cell by rows of such numbers, at the event's place and in the state's column; the cell of a number in a state
-unfoldable pub number_at : List (List ℕ) → ℕ → State → ℕ
-number_at rows k s = get_or (get_or rows (place_of k) []) (column_of s) 0
-
-unfoldable pub cell_at : List (List ℕ) → ℕ → State → CellNumbers
-cell_at cells number s = cell_numbered (get_or cells number []) s
-
 -- rows of cells' numbers, with these cells, say what the table says: each number is that of a cell, and the cell found is the table's
 pub record Tells (rows cells : List (List ℕ)) : Type 0 where
   pub numbers : (p q : ℕ) → get_or (get_or rows p []) q 0 < 50

@@ -3,9 +3,9 @@
 
 pub mod table;
 
-ghost use Rattle.std.specs.Prelude.{◌≡◌, ◌<◌};
+ghost use Rattle.std.specs.Prelude.{◌≡◌};
 ghost use Rattle.sender_table.specs.Rows.{place_of};
-ghost use Rattle.sender_table.specs.Numbers.{column_of, state_numbered, cell_numbered, number_at, cell_at, cell_of};
+ghost use Rattle.sender_table.specs.Numbers.{column_of, state_numbered, cell_numbered, cell_of, Tells};
 
 use crate::table::{CELLS, ROWS, S1, S2, S3, S4, S5, S6};
 use fop::State;
@@ -83,19 +83,13 @@ fn numbered(numbers: [u8; 6], state: State) -> CellNumbers
     }
 }
 
-// The number of the cell of an event in a state, by these rows. The rows are no longer held where the cells are asked.
-fn number_in(rows: [[u8; 6]; 51], event: u8, state: State) -> u8
-    ensures { result ≡ number_at rows event state }
+// The cell of an event in a state, by rows of cells' numbers and these cells.
+fn cell_in(rows: [[u8; 6]; 51], cells: [[u8; 6]; 50], event: u8, state: State) -> CellNumbers
+    requires { Tells rows cells }
+    ensures { result ≡ cell_of event state }
 {
     let row = rows[place(event)];
-    row[column(state)]
-}
-
-// The cell of that number in a state, by these cells.
-fn cell_in(cells: [[u8; 6]; 50], number: u8, state: State) -> CellNumbers
-    requires { number < 50 }
-    ensures { result ≡ cell_at cells number state }
-{
+    let number = row[column(state)];
     numbered(cells[number as usize], state)
 }
 
@@ -103,6 +97,5 @@ fn cell_in(cells: [[u8; 6]; 50], number: u8, state: State) -> CellNumbers
 pub fn cell(event: u8, state: State) -> CellNumbers
     ensures { result ≡ cell_of event state }
 {
-    let number = number_in(ROWS, event, state);
-    cell_in(CELLS, number, state)
+    cell_in(ROWS, CELLS, event, state)
 }
