@@ -106,4 +106,4 @@ own_beyond octets s' c' h = (
 -- the header's fields stand contiguously, and the last ends with bit 39
 pub layout : (bypass control spacecraft channel total number : ℕ) → contiguous 40 0 (header_fields bypass control spacecraft channel total number) ≡ true
 unfolding header_fields
-layout bypass control spacecraft channel total number = refl
+layout _ _ _ _ _ _ = refl
