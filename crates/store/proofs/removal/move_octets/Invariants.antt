@@ -1,0 +1,15 @@
+-- The loop's invariant: the first i octets are copied; at its end all are.
+use borrow.Author.Rules.{rules}
+use mathlib.Core.Path.{◌≡◌, refl}
+use Prim.Native.Nat.{◌-◌, ◌≤◌}
+use native.Mathlib.Omega.{arith}
+use lib.Seq.{paste, paste-zero}
+use lib.ListN.{length, take, drop}
+use Rattle.store.proofs.Moving.{copy_turn, copy_end}
+use Rattle.store.proofs.removal.move_octets.Given as goal
+
+abbrev pub invariant-loop-i : goal.invariant-loop-i
+invariant-loop-i l = (l.i ≤ l.count) × (l.memory ≡ paste l.initial.memory l.to (take l.count (drop l.from l.initial.memory)) l.i) × (length l.memory ≡ length l.initial.memory)
+
+abbrev pub decreases-loop-i : goal.decreases-loop-i
+decreases-loop-i l = l.count - l.i
