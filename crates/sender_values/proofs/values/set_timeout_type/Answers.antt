@@ -1,0 +1,9 @@
+-- The fields stored are those that the definition names.
+use Rattle.std.proofs.Common.{refl}
+use Rattle.sender_values.specs.Parts.{with_settings}
+use Rattle.sender_values.specs.Actions.{set_timeout_type}
+use Rattle.sender_values.proofs.values.set_timeout_type.Goals as goal
+
+pub returns : goal.returns
+unfolding set_timeout_type with_settings
+returns c = refl

@@ -1,0 +1,9 @@
+-- The fields stored are those that the definition names.
+use Rattle.std.proofs.Common.{refl}
+use Rattle.sender_values.specs.Parts.{with_settings}
+use Rattle.sender_values.specs.Actions.{set_transmission_limit}
+use Rattle.sender_values.proofs.values.set_transmission_limit.Goals as goal
+
+pub returns : goal.returns
+unfolding set_transmission_limit with_settings
+returns c = refl

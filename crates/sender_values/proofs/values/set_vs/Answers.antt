@@ -1,0 +1,9 @@
+-- The fields stored are those that the definition names.
+use Rattle.std.proofs.Common.{refl}
+use Rattle.sender_values.specs.Parts.{with_variables}
+use Rattle.sender_values.specs.Actions.{set_vs}
+use Rattle.sender_values.proofs.values.set_vs.Goals as goal
+
+pub returns : goal.returns
+unfolding set_vs with_variables
+returns c = refl
