@@ -12,14 +12,14 @@ use Rattle.receiver.proofs.Channel.answer.Goals as goal
 pub overflow_add-held : goal.overflow_add-held
 overflow_add-held c =
     let a = c.args in
-    let e = ad_unit a.event a.self.variables.state (sym c.unit_of_lem.ensures ∙ c.in-AdUnit.is) in
+    let e = ad_unit a.event a.self.variables.state (sym c.unit_of-unit.ensures ∙ c.in-AdUnit.is) in
     let h : a.self.held + 1 < 256 = c.requires e in
     search rules
 
 pub returns : goal.returns
 returns c =
     let a = c.args in
-    let u = c.unit_of_lem.result in
+    let u = c.unit_of-unit.result in
     let t : c.match-unit.held ≡ a.self.held + takes u =
     ⊎_elim (λ w. omega (arith, ap takes w.1.given.1)) (⊎_elim (λ w. omega (arith, ap takes w.1.given.1)) (λ w. omega (arith, ap takes w.1.given.1))) c.match-unit.branch in
-    answer_of_lem a.event a.star a.self u c.match-unit.held c.step-after.result c.unit_of_lem.ensures t c.step-after.ensures
+    answer_of_lem a.event a.star a.self u c.match-unit.held c.step-after.result c.unit_of-unit.ensures t c.step-after.ensures

@@ -11,7 +11,7 @@ use Rattle.receiver.proofs.Channel.arrive.Goals as goal
 pub answer-requires : goal.answer-requires
 answer-requires c =
     let a = c.args in
-    λ e. c.requires (e1_room a.self.window a.self.variables.state _ _ (sym c.ad_event_lem.ensures ∙ e))
+    λ e. c.requires (e1_room a.self.window a.self.variables.state _ _ (sym c.ad_event-event.ensures ∙ e))
 
 pub answer-requires-in-Bd : goal.answer-requires-in-Bd
 answer-requires-in-Bd c = differ E6 E1 refl

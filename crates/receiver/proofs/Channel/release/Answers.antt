@@ -21,4 +21,4 @@ unfolding release_of
 returns c =
     let self = c.args.self in
     rw (sym c.may_release.ensures ∙ c.if-not-may_release.false)
-    (ap Done (c.answer.ensures ∙ ap (λ (held : ℕ). answered E10 0 (become held self.variables self)) c.one_less_lem.ensures))
+    (ap Done (c.answer.ensures ∙ ap (λ (held : ℕ). answered E10 0 (become held self.variables self)) c.one_less.ensures))

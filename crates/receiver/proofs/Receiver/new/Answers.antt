@@ -40,4 +40,4 @@ pub returns : goal.returns
 unfolding start_of
 returns c =
     let h : c.args.window ≤ 254 = omega arith in
-    record { value = ap Ready c.at_start_lem.ensures ∙ search tests; number = search tests }
+    record { value = ap Ready c.at_start.ensures ∙ search tests; number = search tests }

@@ -1,0 +1,8 @@
+-- What the callees ensure, put together, is the definition.
+use Rattle.sender_values.specs.Actions.{in_window}
+use Rattle.std.proofs.Common.{ℕ, ltb, ap, rules}
+use Rattle.sender_transmit.proofs.in_window.Goals as goal
+
+pub returns : goal.returns
+unfolding in_window
+returns c = ap (λ (d : ℕ). ltb d c.args.work.settings.k) c.difference-outstanding.ensures
