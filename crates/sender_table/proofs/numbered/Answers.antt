@@ -12,4 +12,4 @@ abbrev together : List ℕ → State → CellNumbers
 together actions next = record { actions = actions; next = next }
 
 pub returns : goal.returns
-returns c = ap₂ together (first_five c.args.t1 (search rules)) c.next_state-next.ensures
+returns c = ap₂ together (first_five c.args.numbers (search rules)) c.next_state-next.ensures

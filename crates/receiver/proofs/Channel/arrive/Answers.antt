@@ -1,5 +1,4 @@
 -- Each arm is the event of its kind; an AD frame is E1 only where there is room.
-use borrow.Author.Rules.{rules}
 use mathlib.Core.Path.{refl, sym, ◌∙◌}
 use Rattle.farm.specs.declared.Event.TheVariants.{E1, E6, E7, E8}
 use Rattle.receiver.specs.Channel.{event_of, arrived}

@@ -1,5 +1,4 @@
 -- The channel's answer; a record that counts no further has no room, whatever it is told.
-use borrow.Author.Rules.{rules}
 use borrow.Author.Tests.{lt-ltb, le-ltb}
 use mathlib.Core.Path.{sym, ap, ◌∙◌}
 use mathlib.Core.Bool.{Bool}

@@ -1,5 +1,4 @@
 -- The answer of E9, which takes no buffer.
-use borrow.Author.Rules.{rules}
 use mathlib.Core.Path.{refl}
 use Rattle.farm.specs.declared.Event.TheVariants.{E1, E9}
 use Rattle.farm.proofs.Cells.{differ}

@@ -1,6 +1,4 @@
 -- Refused by the test, or the answer of E10 with one unit held less.
-use borrow.Author.Rules.{rules}
-use borrow.Author.Tests.{not-true, not-false}
 use mathlib.Core.Path.{refl, sym, ap, ◌∙◌}
 use Prim.Native.Nat.{ℕ}
 use Rattle.farm.specs.declared.Event.TheVariants.{E10}

@@ -3,7 +3,6 @@ use borrow.Author.Rules.{rules}
 use borrow.Author.Tests.{ltb-true}
 use mathlib.Core.Path.{sym, ap, ◌∙◌}
 use mathlib.Core.Bool.{Bool}
-use native.Mathlib.Omega.{arith}
 use Rattle.receiver.specs.declared.ChannelAnswer.{ChannelAnswer}
 use Rattle.receiver.specs.Channel as channel
 use Rattle.receiver.specs.Receiver.{told_by, arrived}

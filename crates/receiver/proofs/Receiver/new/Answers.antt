@@ -1,5 +1,4 @@
 -- Each return is one of the checks of the settings, in their order, by its value and by its number.
-use borrow.Author.Rules.{rules}
 use mathlib.Core.Path.{ap, ◌∙◌}
 use Prim.Native.Nat.{◌≤◌}
 use native.Mathlib.Omega.{arith}

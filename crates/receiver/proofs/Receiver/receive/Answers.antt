@@ -1,5 +1,4 @@
 -- A frame is its kind's event, a refusal E9 with its number.
-use borrow.Author.Rules.{rules}
 use Rattle.receiver.proofs.Told.{receive_frame, receive_refused}
 use Rattle.receiver.proofs.Receiver.receive.Goals as goal
 

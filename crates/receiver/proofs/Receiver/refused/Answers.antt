@@ -1,5 +1,4 @@
 -- The channel's answer of E9, told as the receiver's.
-use borrow.Author.Rules.{rules}
 use mathlib.Core.Path.{ap, ◌∙◌}
 use Rattle.receiver.specs.declared.ChannelAnswer.{ChannelAnswer}
 use Rattle.receiver.specs.Receiver.{told_by, answered}

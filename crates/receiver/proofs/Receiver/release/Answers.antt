@@ -1,5 +1,4 @@
 -- None taken, or the answer that its channel gives, told as the receiver's; by value and by number.
-use borrow.Author.Rules.{rules}
 use borrow.Author.Tests.{lt-ltb}
 use mathlib.Core.Path.{refl}
 use Prim.Native.Nat.{◌<◌, ◌≤◌}
@@ -18,7 +17,7 @@ returns-then-channel-eq0 c =
 pub returns-in_default : goal.returns-in_default
 returns-in_default c =
     let self = c.args.self in
-    let p = not_none self c.has_room.result (omega arith) c.release-released.result c.release-released.ensures c.in_default.is in record { value = p.0; number = p.1 }
+    not_none self c.has_room.result (omega arith) c.release-released.result c.release-released.ensures c.in_default.is
 
 pub returns : goal.returns
 returns c =

@@ -1,5 +1,4 @@
 -- The unit that the answer names picks the part.
-use borrow.Author.Rules.{rules}
 use Rattle.receiver.proofs.Told.{part_told}
 use Rattle.receiver.proofs.Receiver.unit.Goals as goal
 

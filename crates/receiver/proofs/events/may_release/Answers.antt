@@ -1,5 +1,4 @@
 -- A unit held decides it; without one the state that each arm was told does.
-use borrow.Author.Rules.{rules}
 use borrow.Author.Tests.{le-ltb}
 use mathlib.Core.Path.{refl}
 use mathlib.Core.Bool.{false}
