@@ -37,6 +37,8 @@ data OtherFrame : Handed → Type 0 where
   set_vr : (n : ℕ) → OtherFrame (handed.SetVr n)
 
 not_ad : (down : Handed) → OtherFrame down → (sent k i : ℕ) → down ≡ handed.Ad k i → i < sent
+not_ad handed.None t sent k i q = elim t [ ]
+not_ad (handed.Ad _ _) t sent k i q = elim t [ ]
 not_ad handed.Bd t sent k i q = let z : ◌≡◌ {A = ℕ} 0 1 = cc in omega arith
 not_ad handed.Unlock t sent k i q = let z : ◌≡◌ {A = ℕ} 0 1 = cc in omega arith
 not_ad (handed.SetVr n) t sent k i q = let z : ◌≡◌ {A = ℕ} 0 1 = cc in omega arith

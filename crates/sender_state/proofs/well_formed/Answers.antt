@@ -10,26 +10,26 @@ use Rattle.sender_state.proofs.well_formed.Goals as goal
 pub returns-then-not-settings_hold : goal.returns-then-not-settings_hold
 returns-then-not-settings_hold c =
     let a = c.args in
-    settings_fail a.sender c.settings_hold.result c.settings_hold.ensures (not-true c.settings_hold.result c.if-not-settings_hold.true)
+    settings_fail a.sender c.settings_hold.result c.settings_hold.ensures (c.if-not-settings_hold.true)
 
 pub returns-then-not-numbers_hold : goal.returns-then-not-numbers_hold
 returns-then-not-numbers_hold c =
     let a = c.args in
     numbers_fail a.sender c.settings_hold.result c.numbers_hold.result _ c.settings_hold.ensures c.numbers_hold.ensures refl
-    (not-false c.settings_hold.result c.if-not-settings_hold.false) (not-true c.numbers_hold.result c.if-not-numbers_hold.true)
+    (c.if-not-settings_hold.false) (c.if-not-numbers_hold.true)
 
 pub returns-then-not-state_holds : goal.returns-then-not-state_holds
 returns-then-not-state_holds c =
     let a = c.args in
     state_fails a.sender c.settings_hold.result c.numbers_hold.result c.state_holds.result c.settings_hold.ensures c.numbers_hold.ensures
-    c.state_holds.ensures (not-false c.settings_hold.result c.if-not-settings_hold.false) (not-false c.numbers_hold.result c.if-not-numbers_hold.false)
-    (not-true c.state_holds.result c.if-not-state_holds.true)
+    c.state_holds.ensures (c.if-not-settings_hold.false) (c.if-not-numbers_hold.false)
+    (c.if-not-state_holds.true)
 
 pub lengths_hold-requires : goal.lengths_hold-requires
 lengths_hold-requires c =
     let q = c.args.sender in
-    let l : length q.lengths ≡ places = length_unmapped _ q.lengths places c.well_formed_lem.0.1.1.1.1.1.1.0.1.0.1 in (
-      held_places q.variables q.queues c.units_held-held.result (sym c.numbers_hold.ensures ∙ not-false c.numbers_hold.result c.if-not-numbers_hold.false) c.units_held-held.ensures,
+    let l : length q.lengths ≡ places = search rules in (
+      held_places q.variables q.queues c.units_held-held.result (sym c.numbers_hold.ensures ∙ c.if-not-numbers_hold.false) c.units_held-held.ensures,
       l,
     )
 
@@ -37,5 +37,5 @@ pub returns : goal.returns
 returns c =
     let a = c.args in
     by_lengths a.sender c.settings_hold.result c.numbers_hold.result c.state_holds.result c.settings_hold.ensures c.numbers_hold.ensures
-    c.state_holds.ensures c.lengths_hold.result c.units_held-held.result (not-false c.settings_hold.result c.if-not-settings_hold.false)
-    (not-false c.numbers_hold.result c.if-not-numbers_hold.false) (not-false c.state_holds.result c.if-not-state_holds.false) c.units_held-held.ensures c.lengths_hold.ensures
+    c.state_holds.ensures c.lengths_hold.result c.units_held-held.result (c.if-not-settings_hold.false)
+    (c.if-not-numbers_hold.false) (c.if-not-state_holds.false) c.units_held-held.ensures c.lengths_hold.ensures
