@@ -27,8 +27,8 @@ use frame::FrameWritten;
 use sender_events::directives::{directive_event, window_of};
 use sender_events::words::word_event;
 use sender_events::{ad_event, bd_event, expiry_event, lower_event};
-use sender_frames::units::{lengths_left, remove_confirmed};
-use sender_frames::{request_refusal, write_handed, write_offered, write_served};
+use sender_frames::units::{lengths_left, remove_oldest};
+use sender_frames::{request_refusal, write_handed, write_offered, write_unit_before};
 use sender_rows::row;
 use sender_state::{settings_hold, well_formed};
 use sender_values::start::{begin, start};
@@ -107,9 +107,9 @@ fn serve_work(
 {
     let told = work.told;
     let count = told.confirmed.count;
-    let written = write_served(settings, &lengths, work, store, output);
+    let written = write_unit_before(settings, &lengths, work, store, output);
     if number_written(written) == 0 {
-        remove_confirmed(store, &lengths, queues, count);
+        remove_oldest(store, &lengths, queues, count);
     }
     written
 }

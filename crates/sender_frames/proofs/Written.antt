@@ -2,7 +2,7 @@
 -- at its place in the store before the event.
 use mathlib.Core.Path.{◌≡◌, sym, ap, ◌∙◌}
 use mathlib.Core.List.{List}
-use Prim.Native.Nat.{ℕ}
+use Prim.Native.Nat.{ℕ, ◌+◌}
 use borrow.Author.Tests.{eq-eqb, ne_eqb}
 use lib.ListN.{length}
 use Rattle.base.specs.Outcome.{Outcome, answer, after}
@@ -14,7 +14,7 @@ use Rattle.sender_values.specs.declared.Handed.{Handed}
 use Rattle.sender_values.specs.declared.SenderState.{SenderState}
 use Rattle.sender_values.specs.declared.Work.{Work}
 use Rattle.store.specs.Places.{unit_at}
-use Rattle.sender_frames.specs.Frames.{handed_writing, place_handed, unit_offered}
+use Rattle.sender_frames.specs.Frames.{handed_writing, place_handed, unit_before, unit_offered}
 
 -- what writing a frame promises
 abbrev pub Writes : FrameWritten → List ℕ → Outcome (Unit {0}) → List ℕ → Type 0
@@ -34,6 +34,11 @@ unit_told_lem g h x new old u v p f = (
   f.0 ∙ ap (λ (y : List ℕ). answer (handed_writing g h y (length old))) p,
   f.1 ∙ ap (λ (y : List ℕ). after (handed_writing g h y (length old)) old) p,
 )
+
+-- the unit that an event hands down which offers none stood behind the units that it confirms
+pub stood_behind : (s : SenderState) (w : Work) (store : List ℕ) {place : ℕ} → place ≡ place_handed w.told.handed + w.told.confirmed.count
+    → unit_at s.lengths place store ≡ unit_before s w store
+stood_behind s w store p = ap (λ (n : ℕ). unit_at s.lengths n store) p
 
 -- the place picks the unit
 pub at_place : (lengths store : List ℕ) {place other : ℕ} → place ≡ other → unit_at lengths place store ≡ unit_at lengths other store

@@ -9,7 +9,7 @@ ghost use Rattle.base.specs.Limits.{largest_unit};
 ghost use Rattle.base.specs.Outcome.{answer, after};
 ghost use Rattle.frame.specs.Answers.{written_answer};
 ghost use Rattle.store.specs.Places.{unit_at};
-ghost use Rattle.sender_frames.specs.Frames.{request_refusal, handed_writing, place_handed, unit_offered};
+ghost use Rattle.sender_frames.specs.Frames.{request_refusal, handed_writing, place_handed, unit_before, unit_offered};
 
 use base::LARGEST_UNIT;
 use frame::FrameWritten;
@@ -79,7 +79,7 @@ pub fn write_handed(
 }
 
 // The same for an event that offers no unit: of the unit that stood behind the units that the event confirms.
-pub fn write_served(
+pub fn write_unit_before(
     settings: Settings,
     lengths: &[u16],
     work: Work,
@@ -111,6 +111,25 @@ fn write_stored(
 {
     let unit = unit_at(store, &lengths, place);
     write_handed(settings, handed, unit, output)
+}
+
+// Writes the frame that an event hands down which offers no unit: of the unit that stood behind the units that the event confirms.
+pub fn write_served(
+    sender: SenderState,
+    work: Work,
+    store: &[u8],
+    output: &mut [u8],
+) -> FrameWritten
+    ensures answer { written_answer result ≡ answer (handed_writing sender.settings work.told.handed (unit_before sender work store.now) (length output.old)) }
+    ensures memory { output.new ≡ after (handed_writing sender.settings work.told.handed (unit_before sender work store.now) (length output.old)) output.old }
+{
+    let told = work.told;
+    let handed = told.handed;
+    let count = told.confirmed.count;
+    let place = place_before(handed, count);
+    let lengths = sender.lengths;
+    let settings = sender.settings;
+    write_stored(settings, handed, place, lengths, store, output)
 }
 
 // Writes the frame that an AD request hands down: of the unit offered, or of an older unit that is marked.

@@ -23,11 +23,19 @@ fn units_staying(queues: Queues, count: u8) -> u16
 }
 
 // Removes the `count` oldest units from the store; the others of these queues move down.
-pub fn remove_confirmed(store: &mut [u8], lengths: &[u16], queues: Queues, count: u8)
+pub fn remove_oldest(store: &mut [u8], lengths: &[u16], queues: Queues, count: u8)
     ensures { store.new ≡ without lengths.now count (units_held queues.sent queues.waiting - count) store.old }
 {
     let staying = units_staying(queues, count);
     remove_units(store, lengths, count, staying);
+}
+
+// The same, the lengths passed by value.
+pub fn remove_confirmed(store: &mut [u8], lengths: [u16; PLACES], queues: Queues, count: u8)
+    ensures { store.new ≡ without lengths count (units_held queues.sent queues.waiting - count) store.old }
+{
+    let staying = units_staying(queues, count);
+    remove_units(store, &lengths, count, staying);
 }
 
 // The lengths where the `count` oldest units leave the store.
