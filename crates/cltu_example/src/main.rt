@@ -4,133 +4,150 @@
 use cltu::reader::CltuReading;
 use cltu::writer::CltuWritten;
 use codeblock::Mode;
+use std::io;
 
-fn main() {
+fn main(rt: HostRuntime) -> io::Result<()> {
     // Unlock, to spacecraft 1 on virtual channel 0, with its FECF.
     let frame: [u8; 8] = [0x30, 0x01, 0x00, 0x07, 0x00, 0x00, 0x0E, 0x5D];
-    octets(b"frame               ", &frame);
+    octets(&rt, "frame               ", &frame)?;
     let mut sent = [0u8; 26];
-    write(b"written             ", &frame, &mut sent);
-    octets(b"CLTU                ", &sent);
+    write(&rt, "written             ", &frame, &mut sent)?;
+    octets(&rt, "CLTU                ", &sent)?;
     let mut back = [0u8; 14];
-    read(b"read back           ", &sent, Mode::Detecting, &mut back);
-    octets(b"octets              ", &back);
-    damage(sent);
-    others(sent);
+    read(
+        &rt,
+        "read back           ",
+        &sent,
+        Mode::Detecting,
+        &mut back,
+    )?;
+    octets(&rt, "octets              ", &back)?;
+    damage(&rt, sent)?;
+    others(&rt, sent)
 }
 
 // The same CLTU with one bit of its first codeblock flipped, read in both modes, and with two.
-fn damage(sent: [u8; 26]) {
+fn damage(rt: &impl Print, sent: [u8; 26]) -> io::Result<()> {
     let mut back = [0u8; 14];
     let mut flipped = sent;
     flipped[2] ^= 0x01;
     read(
-        b"one bit flipped     ",
+        rt,
+        "one bit flipped     ",
         &flipped,
         Mode::Detecting,
         &mut back,
-    );
+    )?;
     read(
-        b"the same, corrected ",
+        rt,
+        "the same, corrected ",
         &flipped,
         Mode::Correcting,
         &mut back,
-    );
+    )?;
     flipped[3] ^= 0x01;
     read(
-        b"two bits, correcting",
+        rt,
+        "two bits, correcting",
         &flipped,
         Mode::Correcting,
         &mut back,
-    );
+    )
 }
 
 // Cut before its tail sequence, and with one and then two wrong bits in its start sequence; then whole, but read into too short an output.
-fn others(sent: [u8; 26]) {
+fn others(rt: &impl Print, sent: [u8; 26]) -> io::Result<()> {
     let mut back = [0u8; 14];
     read(
-        b"cut before the tail ",
+        rt,
+        "cut before the tail ",
         &sent[0..18],
         Mode::Detecting,
         &mut back,
-    );
+    )?;
     let mut wrong = sent;
     wrong[0] ^= 0x01;
-    read(b"start, 1 wrong bit  ", &wrong, Mode::Detecting, &mut back);
+    read(
+        rt,
+        "start, 1 wrong bit  ",
+        &wrong,
+        Mode::Detecting,
+        &mut back,
+    )?;
     wrong[1] ^= 0x01;
-    read(b"start, 2 wrong bits ", &wrong, Mode::Detecting, &mut back);
+    read(
+        rt,
+        "start, 2 wrong bits ",
+        &wrong,
+        Mode::Detecting,
+        &mut back,
+    )?;
     let mut short = [0u8; 13];
-    read(b"room for 13 octets  ", &sent, Mode::Detecting, &mut short);
+    read(
+        rt,
+        "room for 13 octets  ",
+        &sent,
+        Mode::Detecting,
+        &mut short,
+    )
 }
 
 // Writes the CLTU of the frame and prints the answer.
-fn write(label: &[u8], frame: &[u8], output: &mut [u8]) {
-    io::write_all(1, label);
-    let written = cltu::writer::write(frame, output);
-    match written {
-        CltuWritten::Done(count) => done(count),
-        CltuWritten::Length => refusal(10, b"length"),
-        CltuWritten::Room => refusal(11, b"room"),
+fn write(rt: &impl Print, label: &str, frame: &[u8], output: &mut [u8]) -> io::Result<()> {
+    print!(rt; "{label}")?;
+    match cltu::writer::write(frame, output) {
+        CltuWritten::Done(count) => done(rt, count)?,
+        CltuWritten::Length => refusal(rt, 10, "length")?,
+        CltuWritten::Room => refusal(rt, 11, "room")?,
     }
-    io::write_all(1, b"\n");
+    println!(rt;)
 }
 
 // Reads the first CLTU of the input and prints the answer.
-fn read(label: &[u8], input: &[u8], mode: Mode, output: &mut [u8]) {
-    io::write_all(1, label);
-    let found = cltu::reader::read(input, mode, output);
-    match found {
+fn read(
+    rt: &impl Print,
+    label: &str,
+    input: &[u8],
+    mode: Mode,
+    output: &mut [u8],
+) -> io::Result<()> {
+    print!(rt; "{label}")?;
+    match cltu::reader::read(input, mode, output) {
         CltuReading::Done {
             count,
             place,
             corrected,
         } => {
-            done(count);
-            io::write_all(1, b", bad codeblock (the tail) at ");
-            io::print_decimal(1, place as u64);
-            io::write_all(1, b", corrected ");
-            io::print_decimal(1, corrected as u64);
+            done(rt, count)?;
+            print!(rt; ", bad codeblock (the tail) at {place}, corrected {corrected}")?;
         }
-        CltuReading::NoStart(place) => refusal_at(1, b"no start", place),
-        CltuReading::NoBlock(place) => refusal_at(2, b"no block", place),
-        CltuReading::NoEnd(place) => refusal_at(3, b"no end", place),
-        CltuReading::Length => refusal(10, b"length"),
-        CltuReading::Room => refusal(11, b"room"),
+        CltuReading::NoStart(place) => refusal_at(rt, 1, "no start", place)?,
+        CltuReading::NoBlock(place) => refusal_at(rt, 2, "no block", place)?,
+        CltuReading::NoEnd(place) => refusal_at(rt, 3, "no end", place)?,
+        CltuReading::Length => refusal(rt, 10, "length")?,
+        CltuReading::Room => refusal(rt, 11, "room")?,
     }
-    io::write_all(1, b"\n");
+    println!(rt;)
 }
 
-fn done(count: usize) {
-    io::write_all(1, b" done: ");
-    io::print_decimal(1, count as u64);
-    io::write_all(1, b" octets");
+fn done(rt: &impl Print, count: usize) -> io::Result<()> {
+    print!(rt; " done: {count} octets")
 }
 
-fn refusal(number: u64, name: &[u8]) {
-    io::write_all(1, b" refusal ");
-    io::print_decimal(1, number);
-    io::write_all(1, b", ");
-    io::write_all(1, name);
+fn refusal(rt: &impl Print, number: u64, name: &str) -> io::Result<()> {
+    print!(rt; " refusal {number}, {name}")
 }
 
-fn refusal_at(number: u64, name: &[u8], place: usize) {
-    refusal(number, name);
-    io::write_all(1, b", at ");
-    io::print_decimal(1, place as u64);
+fn refusal_at(rt: &impl Print, number: u64, name: &str, place: usize) -> io::Result<()> {
+    refusal(rt, number, name)?;
+    print!(rt; ", at {place}")
 }
 
 // A line of octets in hexadecimal digits.
-fn octets(label: &[u8], s: &[u8]) {
-    io::write_all(1, label);
-    let mut i = 0;
-    while i < s.len() {
-        io::write_all(1, b" ");
-        io::print_hex(1, wide(s[i]), 2);
-        i += 1;
+fn octets(rt: &impl Print, label: &str, s: &[u8]) -> io::Result<()> {
+    print!(rt; "{label}")?;
+    for x in s {
+        print!(rt; " {x:02x}")?;
     }
-    io::write_all(1, b"\n");
-}
-
-fn wide(x: u8) -> u64 {
-    x as u64
+    println!(rt;)
 }

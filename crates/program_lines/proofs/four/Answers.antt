@@ -1,5 +1,4 @@
 -- No further tab, and SET.
-use borrow.Author.Rules.{rules}
 use Rattle.program_lines.proofs.Words.{fours}
 use Rattle.program_lines.proofs.four.Goals as goal
 

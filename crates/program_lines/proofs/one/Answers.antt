@@ -1,5 +1,4 @@
 -- The words of one field, one after the other.
-use borrow.Author.Rules.{rules}
 use Rattle.program_lines.proofs.Words.{ones}
 use Rattle.program_lines.proofs.one.Goals as goal
 

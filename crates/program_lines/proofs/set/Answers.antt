@@ -1,11 +1,7 @@
 -- Three numbers of an octet each, or one that is none.
-use borrow.Author.Rules.{rules}
 use native.Mathlib.Omega.{arith}
 use Rattle.program_lines.proofs.Words.{octet, sets}
 use Rattle.program_lines.proofs.set.Goals as goal
-
-abbrev entry : tie.After-known-told3 → tie.Start
-entry c = c.before.before.before.before.before.before.before.before.before.before.before.before.before.before.before
 
 pub returns-in_default : goal.returns-in_default
 returns-in_default c = search sets
@@ -19,17 +15,17 @@ returns-in_default-number-2 c = search sets
 pub overflow_cast-result : goal.overflow_cast-result
 overflow_cast-result c =
     let d = c.number in
-    omega (arith, octet d.result (entry c).args.window.now _ d.ensures c.in-Is.is)
+    omega (arith, octet d.result c.args.window.now _ d.ensures c.in-Is.is)
 
 pub overflow_cast-result-2 : goal.overflow_cast-result-2
 overflow_cast-result-2 c =
     let d = c.number-2 in
-    omega (arith, octet d.result (entry c).args.vr.now _ d.ensures c.in-Is-number.is)
+    omega (arith, octet d.result c.args.vr.now _ d.ensures c.in-Is-number.is)
 
 pub overflow_cast-result-3 : goal.overflow_cast-result-3
 overflow_cast-result-3 c =
     let d = c.number-3 in
-    omega (arith, octet d.result (entry c).args.buffers.now _ d.ensures c.in-Is-number-2.is)
+    omega (arith, octet d.result c.args.buffers.now _ d.ensures c.in-Is-number-2.is)
 
 pub returns : goal.returns
 returns c = search sets

@@ -1,5 +1,4 @@
 -- A number of an octet, or none.
-use borrow.Author.Rules.{rules}
 use native.Mathlib.Omega.{arith}
 use Rattle.program_lines.specs.Line.{set_vr_line}
 use Rattle.program_lines.proofs.Words.{octet, line_told}

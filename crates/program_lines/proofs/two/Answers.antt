@@ -1,5 +1,4 @@
 -- AD, SETVR, or neither.
-use borrow.Author.Rules.{rules}
 use Rattle.program_lines.proofs.Words.{twos}
 use Rattle.program_lines.proofs.two.Goals as goal
 

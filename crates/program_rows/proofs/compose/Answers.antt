@@ -1,5 +1,4 @@
 -- Nothing, REFUSED, or a row.
-use borrow.Author.Rules.{rules}
 use mathlib.Core.Path.{refl, sym}
 use mathlib.Core.List.{[]}
 use native.Mathlib.Omega.{arith}

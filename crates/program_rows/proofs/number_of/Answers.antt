@@ -1,5 +1,4 @@
 -- The event's number is the one in its name.
-use borrow.Author.Rules.{rules}
 use Rattle.program_rows.proofs.Told.{event_told}
 use Rattle.program_rows.proofs.number_of.Goals as goal
 

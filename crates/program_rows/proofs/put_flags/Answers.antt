@@ -1,5 +1,4 @@
 -- Three flags, and a tab.
-use borrow.Author.Rules.{rules}
 use native.Mathlib.Omega.{arith}
 use Rattle.program_rows.proofs.Told.{flags_told_lem}
 use Rattle.program_rows.proofs.put_flags.Goals as goal

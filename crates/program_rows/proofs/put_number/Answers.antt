@@ -1,58 +1,49 @@
 -- The digits fit, and the end stands behind them.
-use borrow.Author.Rules.{rules}
-use Prim.Native.Nat.{ℕ, ◌+◌, ◌-◌, ◌≤◌}
+use Prim.Native.Nat.{ℕ, ◌+◌, ◌-◌, ◌<◌, ◌≤◌}
 use mathlib.Core.Path.{◌≡◌, ap, ap₂, ◌∙◌}
 use mathlib.Core.List.{List, [], ◌∷◌}
 use native.Mathlib.Omega.{arith}
-use borrow.Rule.Slice.PartMut.{put_mid}
+use borrow.Rule.Slice.PartMut.{mid_of, put_mid}
 use lib.ListN.{length, set, length-append}
+use Rattle.base.specs.Outcome.{answer, after}
 use Rattle.memory.specs.Placed.{placed}
 use Rattle.text.specs.Decimal.{decimal}
+use Rattle.text.specs.Answers.{written, written_answer}
+use Rattle.text.specs.declared.NumberWritten.{NumberWritten}
+use Rattle.text.specs.declared.NumberWritten.TheVariants.{Done}
 use Rattle.text.proofs.Decimals.{length_octet}
 use Rattle.program_rows.proofs.Placing.{length_placed, placed_octet, placed_part, part_done, part_never}
 use Rattle.program_rows.proofs.put_number.Goals as goal
 
--- where the function began
-abbrev entry : tie.After-known-told → tie.Start
-entry c = c.before.before.before.before.before.before.before.before
-
 -- the digits fit, and are all written
-record Digits (c : tie.After-known-told) : Type 0 where
-  few : length (decimal (entry c).args.number) ≤ 3
-  count : c.before.n.given.0.0 ≡ length (decimal (entry c).args.number)
-  memory : put_mid (entry c).args.at (length (entry c).args.row.now - (entry c).args.at) (entry c).args.row.now c.before.before.before.before.before.write.new.1.0
-      ≡ placed (entry c).args.row.now (entry c).args.at (decimal (entry c).args.number)
+record Digits (row part : List ℕ) (at number n : ℕ) : Type 0 where
+  few : length (decimal number) ≤ 3
+  count : n ≡ length (decimal number)
+  memory : put_mid at (length row - at) row part ≡ placed row at (decimal number)
 
-digits : (c : tie.After-known-told) → Digits c
-digits c =
-    let a = (entry c).args in
-    let w = c.before.before.before.before.before.write in
-    let l = length_octet a.number (omega arith) in record {
+digits : (row part : List ℕ) (at number n : ℕ) (w : NumberWritten) → at + 4 ≤ length row → number < 256
+    → written_answer w ≡ answer (written (decimal number) (length (mid_of at (length row - at) row)))
+    → part ≡ after (written (decimal number) (length (mid_of at (length row - at) row))) (mid_of at (length row - at) row)
+    → w ≡ Done n → Digits row part at number n
+digits row part at number n w room octet told memory is =
+    let l = length_octet number octet in record {
       few = l;
-      count = part_done a.row.now a.at (decimal a.number) (omega arith) w.result w.ensures.0 _ c.before.n.given.1;
-      memory = placed_part a.row.now a.at (decimal a.number) (omega arith) w.new.1.0 w.ensures.1;
+      count = part_done row at (decimal number) (omega arith) w told n is;
+      memory = placed_part row at (decimal number) (omega arith) part memory;
     }
-
-pub overflow_add-e : goal.overflow_add-e
-overflow_add-e c =
-    let d = digits c in
-    omega (arith, d.few, d.count)
 
 pub bounds-row-e : goal.bounds-row-e
 bounds-row-e c =
-    let a = (entry c).args in
-    let d = digits c in
+    let a = c.args in
+    let w = c.write in
+    let d = digits a.row.now w.new.out a.at a.number c.in-Done.n w.result (omega arith) (omega arith) w.ensures.answer w.ensures.memory c.in-Done.is in
     omega (arith, d.few, d.count, ap length d.memory ∙ length_placed a.row.now a.at (decimal a.number) (omega (arith, d.few)))
-
-pub overflow_add-result : goal.overflow_add-result
-overflow_add-result c =
-    let d = digits c in
-    omega (arith, d.few, d.count)
 
 pub returns-in-Done : goal.returns-in-Done
 returns-in-Done c =
-    let a = (entry c).args in
-    let d = digits c in
+    let a = c.args in
+    let w = c.write in
+    let d = digits a.row.now w.new.out a.at a.number c.in-Done.n w.result (omega arith) (omega arith) w.ensures.answer w.ensures.memory c.in-Done.is in
     let q = length-append (decimal a.number) (a.end ∷ []) in (
       ap₂ (λ (m : List ℕ) (k : ℕ). set m (a.at + k) a.end) d.memory d.count
           ∙ placed_octet a.row.now a.at (decimal a.number) (omega (arith, d.few)) a.end (omega (arith, d.few)),

@@ -1,5 +1,4 @@
 -- Each state's name, and a tab.
-use borrow.Author.Rules.{rules}
 use native.Mathlib.Omega.{arith}
 use Rattle.program_rows.proofs.Told.{state_told}
 use Rattle.program_rows.proofs.put_state.Goals as goal

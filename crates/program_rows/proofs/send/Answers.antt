@@ -1,5 +1,4 @@
 -- Octets at the front, or a refusal.
-use borrow.Author.Rules.{rules}
 use mathlib.Core.Path.{◌∙◌}
 use native.Mathlib.Omega.{arith}
 use lib.ListN.{length}
