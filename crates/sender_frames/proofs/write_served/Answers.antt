@@ -7,4 +7,4 @@ pub returns : goal.returns
 returns c =
     let a = c.args in
     let p = unit_told_lem a.sender.settings a.work.told.handed c.write_stored.result _ a.output.now _ _
-    (stood_behind a.sender a.work a.store.now c.place_before-place.ensures) c.write_stored.ensures in record { answer = p.0; memory = p.1 }
+    (stood_behind a.sender a.work a.store.now c.place_before-place.ensures) (c.write_stored.ensures.answer, c.write_stored.ensures.memory) in record { answer = p.0; memory = p.1 }
