@@ -64,14 +64,14 @@ keys_le n S lo hi (w ∷ ws) h = omega (arith, h.2, keys_le n S (2 * h.0 + bit w
 pub keys_mono : (n S S' lo lo' hi hi' : ℕ) (ws : List Word) → S ≤ S' → lo' ≤ lo → hi ≤ hi' → Keys n S lo hi ws → Keys n S' lo' hi' ws
 keys_mono n S S' lo lo' hi hi' [] s l t h = omega arith
 keys_mono n S S' lo lo' hi hi' (w ∷ ws) s l t h =
-    (h.0, h.1, omega (arith, h.2), h.3, h.4, omega (arith, h.5), keys_mono n S S' _ _ hi hi' ws s (omega arith) t h.6)
+    (h.0, h.1, omega (arith, h.2), h.3, h.4, omega (arith, h.5), keys_mono n S S' (2 * h.0 + bit w.retransmit) (2 * h.0 + bit w.retransmit) hi hi' ws s (omega arith) t h.6)
 
 pub keys_add : (n S lo A : ℕ) (v : Variables) (ws : List Word) → v.vr ≡ advanced n A → v.lockout ≡ false → bit v.wait ≤ bit v.retransmit
     → A + bit v.retransmit ≤ S → Keys n S lo (2 * A + bit v.retransmit) ws
     → Keys n S lo (2 * A + bit v.retransmit) (ws ++ (report v ∷ []))
 unfolding report
 keys_add n S lo A v [] e l w r h = (A, e, h, l, w, r, omega arith)
-keys_add n S lo A v (x ∷ ws) e l w r h = (h.0, h.1, h.2, h.3, h.4, h.5, keys_add n S _ A v ws e l w r h.6)
+keys_add n S lo A v (x ∷ ws) e l w r h = (h.0, h.1, h.2, h.3, h.4, h.5, keys_add n S (2 * h.0 + bit x.retransmit) A v ws e l w r h.6)
 
 pub record Tidy (n : ℕ) (σ : Session) : Type 0 where
   pub keys : Keys n (length σ.sent) (floor (effective σ.fop) (length σ.confirmed)) (2 * length σ.accepted + bit σ.farm.retransmit) σ.words

@@ -42,7 +42,7 @@ use Rattle.session.proofs.Inv.{Inv, is_locked}
 use Rattle.session.proofs.Clear.{clears_all, clears_sends}
 use Rattle.session.proofs.Arrive.{accepts, free_is}
 use Rattle.session.proofs.Next.{history_of, Sent, Resent, offers, ready_again_lem, ready_new_lem, expires}
-use Rattle.session.proofs.Words.{word_made}
+use Rattle.session.proofs.Words.{word_made_lem}
 use Rattle.session.proofs.Link.{Rel, word_is, same_step, tables_tied, reads, fly_reads, Reads}
 use Rattle.session.proofs.Linked.{from_start, as_demanded, unrejected_demanded}
 use Rattle.session.proofs.Suspended.{admitted}
@@ -201,7 +201,7 @@ module _ (set : Settings) (vw : Within set) (m : Ends) (room held : Bool) (σ : 
                   (sends (word_in lent) refl _
                   (clears_sends set vw κ I a' w k.0 lent k.1 k.2 b c d f' o (rw R.history at p) (rw G.fop at x) (rw G.fop at y))),
             );
-        words = word_made set vw m σ κ R.history G.word I γ.receiver.farm.channel.variables G.farm;
+        words = word_made_lem set vw m σ κ R.history G.word I γ.receiver.farm.channel.variables G.farm;
       }
 
 -- ends that are tied, whose receiver has its buffers for itself

@@ -39,9 +39,9 @@ module _ (set : Settings) (vw : Within set) (m : Ends) (σ : Linked m) (κ : Ses
       word_back set.own vw.spacecraft vw.channel (report κ.farm) (omega (arith, I.receiver.counted)) (omega (arith, I.receiver.is_vr))
       ∙ rw (I.receiver.counted, I.receiver.is_vr)
 
-  pub word_made : (v : Variables) → v ≡ κ.farm → (lent : ℕ) → word_length ≤ lent
+  pub word_made_lem : (v : Variables) → v ≡ κ.farm → (lent : ℕ) → word_length ≤ lent
       → (s : List ℕ) × ((step set m (word_made lent) σ).words ≡ σ.words ++ (s ∷ [])) × (read_word set.own s ≡ valid (reported set v σ.history))
-  word_made v e lent h = (
+  word_made_lem v e lent h = (
     octets,
     under_way lent true (le-leb word_length lent h),
     reads_as ∙ ap (λ (x : Variables). valid (reported set x (history_of κ))) (sym e)
