@@ -1,7 +1,7 @@
 -- Lists of places, weighed. A weight of places adds up along a list, and counting a place, counting all and finding a response without a unit are weights:
 -- so one equation over all weights, between the places of the ledger and the requests of the list of events, says all that order 11 says of being one
 -- of rejected, accepted and waiting. Besides: units at places of a list that grows, and what is left of accepted units where the first ones are settled.
-use mathlib.Core.Path.{◌≡◌, refl, sym, ap, ap₂}
+use mathlib.Core.Path.{◌≡◌, refl, sym, ap, ap₂, ◌∙◌}
 use mathlib.Core.Bool.{Bool, true, false, ◌||◌, false≢true}
 use mathlib.Core.List.{List, [], ◌∷◌, ◌++◌, map, cons≢nil, head-eq_of_cons-eq, tail-eq_of_cons-eq}
 use mathlib.Core.Option.{Option, none, some}
@@ -86,10 +86,11 @@ pub offers_here : (n j : ℕ) (ts : List Turn) → offers (here (n + j)) n ts �
 offers_here n j [] = refl
 offers_here n zero (t ∷ ts) =
     let z : n + 0 ≡ n = omega arith in
-    rw (z, eq-eqb n n refl, offers_past n (suc n) ts (omega arith)) (omega arith)
+    rw (z, eq-eqb n n refl, offers_past (n + 0) (suc n) ts (omega arith)) (omega arith)
 offers_here n (suc j) (t ∷ ts) =
     let z : n + suc j ≡ suc n + j = omega arith in
-    rw (z, ne_eqb (suc n + j) n (omega arith), offers_here (suc n) j ts) (go (is_request t.event))
+    let e = ap (λ (m : ℕ). offers (here m) (suc n) ts) z ∙ offers_here (suc n) j ts in
+    rw (z, ne_eqb (suc n + j) n (omega arith), e) (go (is_request t.event))
   where
     go : (b : Bool) → pick b 0 0 + pick (is_offered ts j) 1 0 ≡ pick (is_offered ts j) 1 0
     go true = omega arith

@@ -15,7 +15,7 @@ use Rattle.fop.specs.Machine.{fdus}
 use Rattle.fop.specs.Events.{SenderEvent, work}
 use Rattle.fop.specs.Answers.{judged, answered, refused}
 use Rattle.fop.specs.Answers as answers
-use Rattle.ledger.specs.Ledger.{Turn, Accepted, Ledger, confirmed, denied, enter, places, accepted_now, number_down}
+use Rattle.ledger.specs.Ledger.{Turn, Accepted, Ledger, enter, places, accepted_now, number_down}
 use Rattle.ledger.specs.Accounted.{fdus_at}
 use Rattle.ledger.proofs.Flow.{Follows, Well, Flow}
 use Rattle.ledger.proofs.AccountsLists.{weight_append, offers_append, places_append, settled_append, places_now, fdus_append, fdus_stay}

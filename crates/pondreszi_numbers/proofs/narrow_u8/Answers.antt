@@ -1,5 +1,4 @@
 -- The test on the way decides the choice.
-use borrow.Author.Rules.{rules}
 use Rattle.base.proofs.Tests.{tests}
 use Rattle.pondreszi_numbers.proofs.narrow_u8.Goals as goal
 

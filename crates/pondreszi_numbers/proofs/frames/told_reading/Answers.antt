@@ -1,5 +1,4 @@
 -- Each arm of the match: the numbers that the reading stands for; the kind's by `kind_number` and `kind_value`.
-use borrow.Author.Rules.{rules}
 use mathlib.Core.Path.{refl}
 use Rattle.pondreszi_numbers.proofs.frames.told_reading.Goals as goal
 
