@@ -16,7 +16,7 @@ use Rattle.frame.specs.Answers.{reading_of, part_of}
 use Rattle.frame.specs.Frame.{refusal_of}
 use Rattle.frame.specs.declared.Fields.{Fields}
 use Rattle.frame.specs.declared.Kind.TheVariants as kind
-use Rattle.frame.specs.declared.FrameReading.TheVariants.{Frame, Refused}
+use Rattle.frame.specs.declared.FrameReading.TheVariants.{Frame}
 use Rattle.frame.proofs.Written.{octets_frame}
 use Rattle.frame.proofs.Back.{legal_fits}
 use Rattle.frame.proofs.Accepted.{accepted, reading_frame, reading_refused}

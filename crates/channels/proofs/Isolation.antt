@@ -2,7 +2,7 @@
 -- (`refusals`). By the cases of proofs/Turns: one record is changed for another of its number, and what the channel answers is a function of its record,
 -- the kind and the room.
 use mathlib.Core.Path.{◌≡◌, refl, sym, ap, ◌∙◌}
-use mathlib.Core.Bool.{Bool, true}
+use mathlib.Core.Bool.{Bool, true, false}
 use mathlib.Core.List.{List, []}
 use Prim.Native.Nat.{ℕ}
 use native.Mathlib.Omega.{arith}
@@ -19,7 +19,7 @@ use Rattle.receiver.specs.declared.ChannelAnswer.{ChannelAnswer}
 use Rattle.receiver.specs.Channel.{answered, arrived}
 use Rattle.receiver.specs.Receiver.{part_for}
 use Rattle.channels.specs.Table.{is_in, place_of, table_holds, has_room, no_channel, record_of, Turn, nothing, turned, records_after, addressed, frame_turn, unit_part, release_turn, word_writing}
-use Rattle.channels.specs.Isolation.{ours, Event, frame_arrives, release_buffer, report_word, named, channel_of, Told, turn, told_of, told, refusal, after, numbers, Isolated, Refusals}
+use Rattle.channels.specs.Isolation.{ours, Event, frame_arrives, release_buffer, report_word, named, channel_of, Told, turn, told_of, refusal, after, numbers, Isolated, Refusals}
 use Rattle.channels.proofs.RecordLaws.{others_set, numbers_set}
 use Rattle.channels.proofs.Addresses.{addressed_there, absent_seven, addressed_absent}
 use Rattle.channels.proofs.Turns.{nothing_after, given_back, FrameCase, ReleaseCase, frame_case, release_case}

@@ -13,7 +13,7 @@ use denote.Array.{Array}
 use denote.Laws.{Is}
 use denote.Struct.Declared.{row}
 use lib.Dec.{is_le, ltb, eqb}
-use lib.ListN.{length, take, drop, get_or, length-map}
+use lib.ListN.{length, take, drop, get_or}
 use lib.Seq.{slice-cons, slice_empty, length-slice}
 use mir.Val.{Val}
 use Rattle.base.specs.Choice.{pick, both}
@@ -32,7 +32,7 @@ eight cs vs p = good_length (e_struct the_type the_laws the_copy) largest_channe
 
 -- and of a receiver's, likewise
 pub eight_in : (s : Channels) (vs : List Val) → Is (row channels.the_type) s vs → length s.records ≡ largest_channels
-eight_in s vs p = sym (length-map s.records _) ∙ p.1.1.1.1.1.0.1.0.1
+eight_in s vs p = p.1.1.1.1.1.0.1.0.1
 
 -- what an array's element is past its end
 abbrev blank : Channel

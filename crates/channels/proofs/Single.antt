@@ -30,7 +30,7 @@ use Rattle.receiver.specs.declared.Receiver.{Receiver}
 use Rattle.receiver.specs.declared.Received.{Received}
 use Rattle.receiver.specs.declared.Released.{Released}
 use Rattle.receiver.specs.declared.Released.TheVariants.{Done, NoneTaken}
-use Rattle.receiver.specs.Channel.{answered, arrived, may_release}
+use Rattle.receiver.specs.Channel.{arrived, may_release}
 use Rattle.receiver.specs.Receiver as receiver
 use Rattle.receiver.specs.Receiver.{largest_buffers, told_by, part_for}
 use Rattle.receiver.specs.State.{flags_hold, well_formed}

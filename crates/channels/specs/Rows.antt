@@ -1,7 +1,7 @@
 -- Document 02, order 8: "each with its own window, V(R), flags and counter". An event that is done makes of its channel's record what its row of table 7-9 says, for
 -- every record of a table that is not 12, whatever the others hold: also of one that waits and holds none, or that holds more than a single receiver can. On any
 -- receiver of several channels, as specs/Isolation.
-use Rattle.std.specs.Prelude.{ℕ, ◌+◌, ◌-◌, ◌≡◌, true, List}
+use Rattle.std.specs.Prelude.{ℕ, ◌+◌, ◌-◌, ◌≡◌, true, false, List}
 use Rattle.base.specs.Octets.{Octets}
 use Rattle.clcw.specs.Clcw.{writing}
 use Rattle.farm.specs.Table.{event_number, step_of, unit_of}

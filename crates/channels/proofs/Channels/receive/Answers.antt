@@ -1,5 +1,4 @@
 -- What lent octets comes to, with the receiver after it.
-use borrow.Author.Rules.{rules}
 use mathlib.Core.Path.{ap, ◌∙◌}
 use Rattle.channels.specs.Table.{Turn}
 use Rattle.channels.specs.Channels.{told}

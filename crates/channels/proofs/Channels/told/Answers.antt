@@ -1,5 +1,4 @@
 -- The record is written at its place where that is one of the records', which are no more than eight.
-use borrow.Author.Rules.{rules}
 use native.Mathlib.Omega.{arith}
 use lib.ListN.{length-take}
 use Rattle.channels.proofs.Left.{eight_in}
@@ -14,7 +13,7 @@ returns-then-place-lt-LARGEST_CHANNELS c =
 pub returns-else-place-lt-LARGEST_CHANNELS : goal.returns-else-place-lt-LARGEST_CHANNELS
 returns-else-place-lt-LARGEST_CHANNELS c =
     let a = c.args in
-    let n = eight_in a.self _ c.well_formed_lem.0 in
+    let n = eight_in a.self _ c.well_formed.0 in
     told_kept a.turn a.self (simp length-take (omega (arith, c.if-place-lt-LARGEST_CHANNELS.false)))
 
 pub returns-else-place-self : goal.returns-else-place-self

@@ -1,5 +1,4 @@
 -- The unit that the answer names picks the part.
-use borrow.Author.Rules.{rules}
 use Rattle.channels.proofs.Judged.{part_told}
 use Rattle.channels.proofs.Channels.unit.Goals as goal
 

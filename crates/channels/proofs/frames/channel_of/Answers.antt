@@ -1,5 +1,4 @@
 -- The field by the octet that holds it; where that octet is missing, so are the field's bits.
-use borrow.Author.Rules.{rules}
 use mathlib.Core.Path.{◌≡◌, refl, sym, ap, ◌∙◌}
 use mathlib.Core.List.{List}
 use Prim.Native.Nat.{ℕ, ◌<◌}

@@ -1,13 +1,8 @@
 -- The loop's invariant: the test of the records from the place i on is the test of all.
-use borrow.Author.Rules.{rules}
-use borrow.Author.Tests.{not-true, not-false}
-use mathlib.Core.Path.{◌≡◌, sym, ap, ◌∙◌}
-use mathlib.Core.Bool.{true, false}
+use mathlib.Core.Path.{◌≡◌}
 use Prim.Native.Nat.{◌-◌, ◌≤◌}
-use native.Mathlib.Omega.{arith}
 use lib.ListN.{take, drop}
 use Rattle.channels.specs.Table.{all_hold}
-use Rattle.channels.proofs.Left.{eight, holds_left, none_left}
 use Rattle.channels.proofs.records.all_hold.Given as goal
 
 abbrev pub invariant-loop-i : goal.invariant-loop-i

@@ -1,12 +1,8 @@
 -- The loop's invariant: the test of the records from the place i on is the test of all. A record's channel is looked for behind it.
-use borrow.Author.Rules.{rules}
-use mathlib.Core.Path.{◌≡◌, sym, ap, ◌∙◌}
-use mathlib.Core.Bool.{true, false}
-use Prim.Native.Nat.{◌+◌, ◌-◌, ◌≤◌}
-use native.Mathlib.Omega.{arith}
+use mathlib.Core.Path.{◌≡◌}
+use Prim.Native.Nat.{◌-◌, ◌≤◌}
 use lib.ListN.{take, drop}
 use Rattle.channels.specs.Table.{distinct}
-use Rattle.channels.proofs.Left.{eight, at, distinct_left, none_left, is_in_lem, is_not_in}
 use Rattle.channels.proofs.records.are_distinct.Given as goal
 
 abbrev pub invariant-loop-i : goal.invariant-loop-i

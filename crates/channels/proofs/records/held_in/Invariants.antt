@@ -1,11 +1,8 @@
 -- The loop's invariant: the sum so far, with what is held from the place i on, is the whole; each record adds an octet.
-use borrow.Author.Rules.{rules}
-use mathlib.Core.Path.{◌≡◌, ap}
+use mathlib.Core.Path.{◌≡◌}
 use Prim.Native.Nat.{◌+◌, ◌*◌, ◌-◌, ◌≤◌}
-use native.Mathlib.Omega.{arith}
 use lib.ListN.{take, drop}
 use Rattle.channels.specs.Table.{held_in}
-use Rattle.channels.proofs.Left.{eight, held_left, none_left}
 use Rattle.channels.proofs.records.held_in.Given as goal
 
 abbrev pub invariant-loop-i : goal.invariant-loop-i

@@ -1,11 +1,8 @@
 -- The loop's invariant: what is found from the place i on is what is found from the first place on.
-use borrow.Author.Rules.{rules}
-use mathlib.Core.Path.{◌≡◌, sym, ◌∙◌}
+use mathlib.Core.Path.{◌≡◌}
 use Prim.Native.Nat.{◌+◌, ◌-◌, ◌≤◌}
-use native.Mathlib.Omega.{arith}
 use lib.ListN.{take, drop}
 use Rattle.channels.specs.Table.{place_of}
-use Rattle.channels.proofs.Left.{eight, place_here, place_behind, place_none}
 use Rattle.channels.proofs.records.place_from.Given as goal
 
 abbrev pub invariant-loop-i : goal.invariant-loop-i

@@ -1,5 +1,4 @@
 -- The event's number.
-use borrow.Author.Rules.{rules}
 use mathlib.Core.Path.{ap}
 use Prim.Native.Nat.{ℕ}
 use Rattle.channels.proofs.table.changed.Goals as goal

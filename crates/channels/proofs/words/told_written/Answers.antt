@@ -1,5 +1,4 @@
 -- Each case has its number.
-use borrow.Author.Rules.{rules}
 use mathlib.Core.Path.{sym, ap}
 use Rattle.clcw.specs.Answers.{written_answer}
 use Rattle.channels.proofs.words.told_written.Goals as goal
