@@ -1,0 +1,13 @@
+-- The state is judged, then taken as it stands.
+use borrow.Author.Rules.{rules}
+use borrow.Author.Tests.{not-true, not-false}
+use Rattle.sender.proofs.Starts.{restored, restored_not}
+use Rattle.sender.proofs.Sender.restore.Goals as goal
+
+pub returns-then-not-well_formed : goal.returns-then-not-well_formed
+returns-then-not-well_formed c =
+    restored_not c.args.state c.well-formed-2.result c.well-formed-2.ensures c.refused_start.result
+    (c.if-not-well_formed.true) c.refused_start.ensures
+
+pub returns : goal.returns
+returns c = restored c.args.state c.well-formed-2.result c.well-formed-2.ensures (c.if-not-well_formed.false)

@@ -1,0 +1,8 @@
+-- The answer, field by field: the next sender and the kind of the frame are what their functions give.
+use borrow.Author.Rules.{rules}
+use Rattle.sender.specs.Answers.{answered}
+use Rattle.sender.proofs.answers.answered.Goals as goal
+
+pub returns : goal.returns
+unfolding answered
+returns c = rw (c.kind_handed-kind.ensures, c.sender_of.ensures)
