@@ -16,19 +16,19 @@ counted c =
     part_done a.out.now a.at (text_of a.output) (omega (arith, w.ensures.1.1)) w.result w.ensures.0 _ c.before.n.given.1
 
 pub overflow_add-result : goal.overflow_add-result
-overflow_add-result c = omega (arith, counted c, c.write.ensures.memory.1)
+overflow_add-result c = omega (arith, counted c, c.write.ensures.most)
 
 pub returns-in-Done : goal.returns-in-Done
 returns-in-Done c =
     let a = c.args in
     let w = c.write in (
-      placed_part a.out.now a.at (text_of a.output) (omega (arith, w.ensures.memory.1)) w.new.1.0 w.ensures.memory.0,
+      placed_part a.out.now a.at (text_of a.output) (omega (arith, w.ensures.most)) w.new.1.0 w.ensures.memory,
       ap (λ (k : ℕ). a.at + k) (counted c),
-      omega (arith, counted c, w.ensures.memory.1),
+      omega (arith, counted c, w.ensures.most),
     )
 
 pub returns-in-Room : goal.returns-in-Room
 returns-in-Room c =
     let a = c.args in
     let w = c.write in
-    absurd (part_never a.out.now a.at (text_of a.output) (omega (arith, w.ensures.memory.1)) w.result w.ensures.answer c.in-Room.is)
+    absurd (part_never a.out.now a.at (text_of a.output) (omega (arith, w.ensures.most)) w.result w.ensures.answer c.in-Room.is)

@@ -12,16 +12,16 @@ returns-then-adds c =
     let a = c.args in
     let p = offered_added a.event a.sender a.work a.unit.now a.store.now a.output.now c.write_offered-written.result
     (c.write_offered-written.ensures.answer, c.write_offered-written.ensures.memory) c.lengths_offered-lengths.ensures c.conclude-answer.ensures
-    c.if-answer-eq0.true c.adds.ensures c.if-adds.true c.put_unit.ensures in record { answer = p.0; store = p.1; output = p.2 }
+    c.if-answer-eq0.true c.adds.ensures c.if-adds.true c.put_unit.ensures in record { answer = p.0; store = p.1.0; output = p.1.1 }
 
 pub returns-else-adds : goal.returns-else-adds
 returns-else-adds c =
     let a = c.args in
     let p = offered_not_added a.event a.sender a.work a.unit.now a.store.now a.output.now c.write_offered-written.result
-    (c.write_offered-written.ensures.answer, c.write_offered-written.ensures.memory) c.lengths_offered-lengths.ensures c.conclude-answer.ensures c.if-answer-eq0.true c.adds.ensures c.if-adds.false in record { answer = p.0; store = p.1; output = p.2 }
+    (c.write_offered-written.ensures.answer, c.write_offered-written.ensures.memory) c.lengths_offered-lengths.ensures c.conclude-answer.ensures c.if-answer-eq0.true c.adds.ensures c.if-adds.false in record { answer = p.0; store = p.1.0; output = p.1.1 }
 
 pub returns-else-answer-eq0 : goal.returns-else-answer-eq0
 returns-else-answer-eq0 c =
     let a = c.args in
     let p = offered_refused a.event a.sender a.work a.unit.now a.store.now a.output.now c.write_offered-written.result
-    (c.write_offered-written.ensures.answer, c.write_offered-written.ensures.memory) c.lengths_offered-lengths.ensures c.conclude-answer.ensures c.if-answer-eq0.false in record { answer = p.0; store = p.1; output = p.2 }
+    (c.write_offered-written.ensures.answer, c.write_offered-written.ensures.memory) c.lengths_offered-lengths.ensures c.conclude-answer.ensures c.if-answer-eq0.false in record { answer = p.0; store = p.1.0; output = p.1.1 }

@@ -7,11 +7,11 @@ use Rattle.sender.proofs.serve_work.Goals as goal
 pub returns-then-number_written-eq0 : goal.returns-then-number_written-eq0
 returns-then-number_written-eq0 c =
     let a = c.args in
-    let e = c.write-served.ensures in
-    record { answer = e.0; store = c.remove-confirmed.ensures ∙ store_changed c.write-served.result _ a.store.now e.0 c.number_written.ensures c.if-number_written-eq0.true; output = e.1 }
+    let e = c.write_unit_before-written.ensures in
+    record { answer = e.answer; store = c.remove_oldest.ensures ∙ store_changed c.write_unit_before-written.result _ a.store.now e.answer c.number_written.ensures c.if-number_written-eq0.true; output = e.memory }
 
 pub returns-else-number_written-eq0 : goal.returns-else-number_written-eq0
 returns-else-number_written-eq0 c =
     let a = c.args in
-    let e = c.write-served.ensures in
-    record { answer = e.0; store = store_same c.write-served.result _ a.store.now e.0 c.number_written.ensures c.if-number_written-eq0.false; output = e.1 }
+    let e = c.write_unit_before-written.ensures in
+    record { answer = e.answer; store = store_same c.write_unit_before-written.result _ a.store.now e.answer c.number_written.ensures c.if-number_written-eq0.false; output = e.memory }

@@ -31,4 +31,4 @@ returns c =
     let n : length p.line ≡ 0 → ⊥ = λ z. omega (arith, length-take a.self.len a.self.kept) in
     let e : text_of c.end-turn.result.output ≡ last_text p = ap (λ (t : Turn). text_of t.output) c.end-turn.ensures ∙ sym (last_some p n) in
     let w = c.write in
-    record { answer = w.ensures.answer ∙ ap (λ (t : List ℕ). answer (written t (length a.out.now))) e; memory = w.ensures.memory.0 ∙ ap (λ (t : List ℕ). after (written t (length a.out.now)) a.out.now) e; most = omega (arith, w.ensures.memory.1, ap length e) }
+    record { answer = w.ensures.answer ∙ ap (λ (t : List ℕ). answer (written t (length a.out.now))) e; memory = w.ensures.memory ∙ ap (λ (t : List ℕ). after (written t (length a.out.now)) a.out.now) e; most = omega (arith, w.ensures.most, ap length e) }

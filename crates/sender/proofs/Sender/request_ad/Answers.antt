@@ -9,7 +9,7 @@ unfolding request_ad_of
 returns-then-number-ne0 c =
     let a = c.args in
     let p = request_refused ad_step a.self.fop a.unit.now a.store.now a.output.now
-    c.request_refusal-number.ensures.number c.if-number-ne0.true c.refused.ensures in record { answer = p.0; store = p.1; output = p.2 }
+    c.request_refusal-number.ensures.number c.if-number-ne0.true c.refused.ensures in record { answer = p.0; store = p.1.0; output = p.1.1 }
 
 pub offer_work-requires : goal.offer_work-requires
 offer_work-requires c = c.request_refusal-number.ensures.fits c.if-number-ne0.false
@@ -20,4 +20,4 @@ returns c =
     let a = c.args in
     let p = request_taken ad_step a.self.fop a.unit.now a.store.now a.output.now c.request_refusal-number.ensures.number c.if-number-ne0.false
     (ad_row a.self.fop a.unit.now a.store.now a.output.now
-    c.ad_event-event.ensures c.begin.ensures c.row-work.ensures (c.offer_work.ensures.answer, c.offer_work.ensures.store, c.offer_work.ensures.output)) in record { answer = p.0; store = p.1; output = p.2 }
+    c.ad_event-event.ensures c.begin.ensures c.row-work.ensures (c.offer_work.ensures.answer, (c.offer_work.ensures.store, c.offer_work.ensures.output))) in record { answer = p.0; store = p.1.0; output = p.1.1 }

@@ -9,7 +9,7 @@ unfolding request_bd_of
 returns-then-number-ne0 c =
     let a = c.args in
     let p = request_refused bd_step a.self.fop a.unit.now a.store.now a.output.now
-    c.request_refusal-number.ensures.number c.if-number-ne0.true c.refused.ensures in record { answer = p.0; store = p.1; output = p.2 }
+    c.request_refusal-number.ensures.number c.if-number-ne0.true c.refused.ensures in record { answer = p.0; store = p.1.0; output = p.1.1 }
 
 pub returns : goal.returns
 unfolding request_bd_of
@@ -17,4 +17,4 @@ returns c =
     let a = c.args in
     let p = request_taken bd_step a.self.fop a.unit.now a.store.now a.output.now c.request_refusal-number.ensures.number c.if-number-ne0.false
     (bd_row a.self.fop a.unit.now a.store.now a.output.now
-    c.bd_event-event.ensures c.begin.ensures c.row-work.ensures (c.bypass_work.ensures.answer, c.bypass_work.ensures.output)) in record { answer = p.0; store = p.1; output = p.2 }
+    c.bd_event-event.ensures c.begin.ensures c.row-work.ensures (c.bypass_work.ensures.answer, c.bypass_work.ensures.output)) in record { answer = p.0; store = p.1.0; output = p.1.1 }

@@ -6,8 +6,8 @@ use Rattle.sender.proofs.Sender.restore.Goals as goal
 
 pub returns-then-not-well_formed : goal.returns-then-not-well_formed
 returns-then-not-well_formed c =
-    restored_not c.args.state c.well-formed-2.result c.well-formed-2.ensures c.refused_start.result
+    restored_not c.args.state c.well_formed-2.result c.well_formed-2.ensures c.refused_start.result
     (c.if-not-well_formed.true) c.refused_start.ensures
 
 pub returns : goal.returns
-returns c = restored c.args.state c.well-formed-2.result c.well-formed-2.ensures (c.if-not-well_formed.false)
+returns c = restored c.args.state c.well_formed-2.result c.well_formed-2.ensures (c.if-not-well_formed.false)
