@@ -14,4 +14,5 @@ returns-in_default c =
 pub returns : goal.returns
 returns c =
     let a = c.args in
-    rw (word_met a.state.now c.receiver_in-start.ensures.value c.in-Ready.is (length a.output.now)) (told_by_lem (c.word-written.ensures.answer, c.word-written.ensures.memory) (c.told_written.ensures.number, c.told_written.ensures.counted))
+    let p = told_by_lem (c.word-written.ensures.answer, c.word-written.ensures.memory) (c.told_written.ensures.number, c.told_written.ensures.counted) in
+    rw (word_met a.state.now c.receiver_in-start.ensures.value c.in-Ready.is (length a.output.now)) record { number = p.0; memory = p.1.0; counted = p.1.1 }

@@ -29,7 +29,7 @@ loop-i-preserved c =
     let t = c.step-place in (
       omega arith,
       run_on (progress_of a.self) a.chunk.now a.out.now (omega arith) l.i (progress_of l.place.console) l.out l.place.at (omega arith) l.invariant.1
-          (progress_of t.result.console) t.new.1.1.0 t.result.at t.ensures,
+          (progress_of t.result.console) t.new.out t.result.at t.ensures,
     )
 
 pub shape_of-out : goal.shape_of-out

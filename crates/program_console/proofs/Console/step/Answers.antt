@@ -15,4 +15,4 @@ returns c =
     let a = c.args in
     let w = c.put-behind in
     step_end (progress_of a.self) a.octet a.out.now a.at (omega arith) c.if-octet-ne-NEWLINE.false c.end-turn.result c.end-turn.ensures
-    w.new.1.0 w.result w.ensures.0 w.ensures.1 w.ensures.2
+    w.new.out w.result w.ensures.0 w.ensures.1 w.ensures.2
