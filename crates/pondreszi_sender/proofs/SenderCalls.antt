@@ -94,8 +94,8 @@ module _ (state answer : List ℕ) {taken : Start} (kept : taken ≡ sender_in s
   pub no_room : taken.refusal ≡ 0 → length answer < answer_octets → Reaches (record { refusal = 11; sender = taken.sender }) state answer
   no_room h l = reaches_with 11 (holds _ _ _ (is_state_lem h) ∙ fails _ _ _ (lt-leb answer_octets (length answer) l))
 
-  pub has_room : taken.refusal ≡ 0 → answer_octets ≤ length answer → Reaches taken state answer
-  has_room h l =
+  pub has_room_lem : taken.refusal ≡ 0 → answer_octets ≤ length answer → Reaches taken state answer
+  has_room_lem h l =
       (h ∙ sym (holds _ _ _ (is_state_lem h) ∙ holds _ _ _ (le-leb answer_octets (length answer) l)), ap (λ (s : Start). s.sender) kept)
 
 -- a call by the sender that it reached: none, or one whose event is done and told

@@ -20,4 +20,4 @@ returns c =
     let a = c.args in
     let is = sym c.is_table.ensures ∙ c.if-not-is_table.false in
     let f = ap₂ (λ (x : Channels) (y : ℕ). word_of x y (length a.output.now)) c.taken-receiver.ensures c.narrow_u8-number.ensures in
-    let p = told_as a.output.now (f ∙ word_met a.spacecraft a.pool a.table.now is a.channel (length a.output.now)) c.word-written.ensures (c.told_word.ensures.number, c.told_word.ensures.counted) in record { number = p.0; memory = p.1.0; counted = p.1.1 }
+    let p = told_as a.output.now (f ∙ word_met a.spacecraft a.pool a.table.now is a.channel (length a.output.now)) (c.word-written.ensures.answer, c.word-written.ensures.memory) (c.told_word.ensures.number, c.told_word.ensures.counted) in record { number = p.0; memory = p.1.0; counted = p.1.1 }

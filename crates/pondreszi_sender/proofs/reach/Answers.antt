@@ -1,7 +1,7 @@
 -- The octets are no state, the answer does not fit, or the sender is reached.
 use borrow.Author.Rules.{rules}
 use native.Mathlib.Omega.{arith}
-use Rattle.pondreszi_sender.proofs.SenderCalls.{no_state, no_room, has_room}
+use Rattle.pondreszi_sender.proofs.SenderCalls.{no_state, no_room, has_room_lem}
 use Rattle.pondreszi_sender.proofs.reach.Goals as goal
 
 pub returns-then-reached-ne0 : goal.returns-then-reached-ne0
@@ -17,4 +17,4 @@ returns-then-answer-lt-ANSWER_OCTETS c =
 pub returns : goal.returns
 returns c =
     let a = c.args in
-    let p = has_room a.state.now a.answer.now c.sender_in-reached.ensures c.if-reached-ne0.false (omega (arith, c.if-answer-lt-ANSWER_OCTETS.false)) in record { number = p.0; sender = p.1 }
+    let p = has_room_lem a.state.now a.answer.now c.sender_in-reached.ensures c.if-reached-ne0.false (omega (arith, c.if-answer-lt-ANSWER_OCTETS.false)) in record { number = p.0; sender = p.1 }
