@@ -14,14 +14,11 @@ use Rattle.channels.specs.Limits.{largest_channels, largest_pool}
 use Rattle.channels.specs.Table.{table_holds, frame_turn, release_turn, unit_part, word_writing}
 use Rattle.channels.specs.Channels as by_value
 use Rattle.channels.specs.Channels.{records_in, frame_turn_of, release_turn_of, word_of}
-use Rattle.channel_table.specs.Taken.{few_of, no_records, taken_of}
+use Rattle.channel_table.specs.Taken.{no_records, taken_of}
 
 -- up to eight records are all taken
 records_taken : (spacecraft pool : ℕ) (cs : List Channel) → leb (length cs) largest_channels ≡ true → records_in (taken_of spacecraft pool cs) ≡ cs
-records_taken spacecraft pool cs e =
-    let all : few_of (length cs) ≡ length cs = rw e in
-    ap (λ (n : ℕ). take (length cs) (take n cs ++ drop n no_records)) all
-    ∙ ap (λ (ds : List Channel). take (length cs) (ds ++ drop (length cs) no_records)) (take-length cs) ∙ take-append_seam cs (drop (length cs) no_records)
+records_taken spacecraft pool cs e = rw e (ap (λ (ds : List Channel). take (length cs) (ds ++ drop (length cs) no_records)) (take-length cs) ∙ take-append_seam cs (drop (length cs) no_records))
 
 -- "Over eight records .. are 12"
 over_eight : (spacecraft pool : ℕ) (cs : List Channel) → leb (length cs) largest_channels ≡ false → table_holds spacecraft pool cs ≡ false
