@@ -1,0 +1,12 @@
+-- What `write_unlock` answered to the address narrowed, told by `told_written`.
+use borrow.Author.Rules.{rules}
+use Rattle.frame.specs.Frame.{unlock_command}
+use Rattle.pondreszi_numbers.proofs.Told.{told_as}
+use Rattle.pondreszi.proofs.Narrowed.{frame_narrowed}
+use Rattle.pondreszi.proofs.frames.pondreszi_frame_write_unlock.Goals as goal
+
+pub returns : goal.returns
+returns c =
+    let a = c.args in
+    let p = told_as a.output.now (frame_narrowed 1 1 0 unlock_command _ a.spacecraft a.channel c.narrow_u16-own_spacecraft.ensures c.narrow_u8-own_channel.ensures)
+    (c.write_unlock-written.ensures.answer, c.write_unlock-written.ensures.memory) (c.told_written.ensures.number, c.told_written.ensures.counted) in record { number = p.0; memory = p.1.0; counted = p.1.1 }
