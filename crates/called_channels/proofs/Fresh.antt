@@ -25,9 +25,9 @@ start_holds : (s : Start) → StartWithin s → record_holds (start_of s) ≡ tr
 start_holds s h =
     rw (le-leb s.channel largest_channel h.channel, eq-eqb (s.window % 2) 0 h.even, le-leb 2 s.window h.least, le-leb s.window largest_window h.most)
 
-all_hold : (ss : List Start) → AllWithin ss → all_hold (map start_of ss) ≡ true
-all_hold [] h = refl
-all_hold (s ∷ ss) h = rw (start_holds s h.0, all_hold ss h.1)
+all_hold_lem : (ss : List Start) → AllWithin ss → all_hold (map start_of ss) ≡ true
+all_hold_lem [] h = refl
+all_hold_lem (s ∷ ss) h = rw (start_holds s h.0, all_hold_lem ss h.1)
 
 new_done : (s : Start) (o : List ℕ) → StartWithin s → record_octets ≤ length o
     → new_record s o ≡ record { number = 0; state = octets_of (start_of s) ++ drop record_octets o }
@@ -70,7 +70,7 @@ starts_hold set size ss o b =
       le-leb 1 size b.least,
       le-leb size largest_pool b.most,
       le-leb (length (map start_of ss)) largest_channels few,
-      all_hold ss b.within,
+      all_hold_lem ss b.within,
       b.apart,
       le-leb (held_in (map start_of ss)) size held,
     )

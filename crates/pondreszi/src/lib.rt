@@ -3,7 +3,7 @@
 // channel coding (clause 8); the modules: frames and control words (clause 6), receiver, receiver of several channels and sender (clause 7).
 #![tactic(auto)]
 
-pub mod channels;
+pub mod channel_calls;
 pub mod frames;
 pub mod receivers;
 pub mod senders;

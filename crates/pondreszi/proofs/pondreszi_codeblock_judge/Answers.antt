@@ -24,7 +24,7 @@ returns c =
     let y = a.information.now in
     let e : codeblock_judging a.mode x (length y) ≡ information_put c.judge-judged.result (length y) =
     judging_mode a.mode x (length y) (search rules) (search rules)
-    ∙ ap (λ k. information_put (judged k x) (length y)) (sym c.Mode-of.ensures)
+    ∙ ap (λ k. information_put (judged k x) (length y)) (sym c.mode_of-chosen.ensures)
     ∙ ap (λ b. information_put b (length y)) (sym c.judge-judged.ensures) in
     let t = c.told_judged.ensures in
     let o = told_block e y in
