@@ -37,7 +37,7 @@
  * This header is C89 but for <stdint.h>. pondreszi_inline.h has, for C99 and C++, structs that carry what a call is lent, fields by name and
  * texts.
  *
- * Platforms: `rt staticlib` builds the library for x86-64 with Linux, and that build is what is compared and tested. tools/cross builds it for
+ * Platforms: tools/library builds the library for x86-64 with Linux, and that build is what is compared and tested. tools/cross builds it for
  * aarch64, riscv64 and Cortex-M4 from the same module; what these builds are not covered by: docs/AUDIT.md, 1.3. The library needs no
  * operating system, keeps no variables, and calls memcpy and memset of its host.
  */

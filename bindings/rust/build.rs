@@ -13,7 +13,7 @@ pub fn main() {
     };
     let library = folder.join("libpondreszi.a");
     if !library.is_file() {
-        println!("cargo::error=There is no {}: run `rt staticlib pondreszi` in the repository, which builds target/staticlib/libpondreszi.a, or set PONDRESZI_LIB to the absolute path of the folder that has it.", library.display());
+        println!("cargo::error=There is no {}: run `tools/library` in the repository, which builds target/staticlib/libpondreszi.a, or set PONDRESZI_LIB to the absolute path of the folder that has it.", library.display());
         return;
     }
     println!("cargo::rustc-link-search=native={}", folder.display());

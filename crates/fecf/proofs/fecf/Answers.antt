@@ -1,5 +1,4 @@
 -- The constant keeps the table's rule: the checker computes the test over all its entries. The answer is then what the loop over octets promises.
-use borrow.Author.Rules.{rules}
 use mathlib.Core.Path.{refl}
 use Rattle.base.specs.Register.{shift_bit, shift_bits, register}
 use Rattle.fecf.specs.Table.{entry_of}

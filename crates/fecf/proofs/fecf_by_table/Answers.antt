@@ -1,9 +1,7 @@
 use borrow.Author.Rules.{rules}
 use mathlib.Core.Path.{refl}
-use Prim.Native.Nat.{◌-◌}
-use lib.ListN.{length}
-use Rattle.base.proofs.Register.{OctetsLeft, octet_shifted, octets_shifted}
-use Rattle.fecf.specs.Fecf.{generator, preset, fecf_of}
+use Rattle.base.proofs.Register.{octet_shifted, octets_shifted}
+use Rattle.fecf.specs.Fecf.{fecf_of}
 use Rattle.fecf.proofs.fecf_by_table.Goals as goal
 
 pub loop-i-init : goal.loop-i-init

@@ -1,10 +1,8 @@
 -- The loop's invariant: the octets that are left, shifted into the register so far, give what all give.
-use borrow.Author.Rules.{rules}
-use mathlib.Core.Path.{refl}
 use Prim.Native.Nat.{◌-◌}
 use lib.ListN.{length}
-use Rattle.base.proofs.Register.{OctetsLeft, octet_shifted, octets_shifted}
-use Rattle.fecf.specs.Fecf.{generator, preset, fecf_of}
+use Rattle.base.proofs.Register.{OctetsLeft}
+use Rattle.fecf.specs.Fecf.{generator, preset}
 use Rattle.fecf.proofs.fecf_by_table.Given as goal
 
 abbrev pub invariant-loop-i : goal.invariant-loop-i

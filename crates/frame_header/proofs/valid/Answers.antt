@@ -1,10 +1,7 @@
 -- Each return is one of the tests, in their order.
 use borrow.Author.Rules.{rules}
-use mathlib.Core.Path.{◌≡◌}
-use mathlib.Core.Bool.{Bool}
 use Rattle.base.proofs.Tests.{tests}
-use Rattle.frame_header.specs.Header.{valid_header}
-use Rattle.frame_header.proofs.Laws.{tested, valid_short, valid_by_octets}
+use Rattle.frame_header.proofs.Laws.{valid_short, valid_by_octets}
 use Rattle.frame_header.proofs.valid.Goals as goal
 
 pub returns-then-octets-lt-HEADER_LENGTH : goal.returns-then-octets-lt-HEADER_LENGTH

@@ -1,5 +1,4 @@
 -- Where the octets do not fit, nothing is placed; else they are copied.
-use borrow.Author.Rules.{rules}
 use mathlib.Core.Path.{sym}
 use native.Mathlib.Omega.{arith}
 use Rattle.memory.proofs.Laws.{placed_not}

@@ -1,5 +1,4 @@
 -- The constant is the sequence: the checker computes the test over all its octets.
-use borrow.Author.Rules.{rules}
 use mathlib.Core.Path.{refl}
 use Rattle.randomizer.specs.Randomizer.{next_bit, later}
 use Rattle.randomizer.proofs.Rule.{sequence_by_test}

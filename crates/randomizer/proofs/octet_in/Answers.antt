@@ -1,5 +1,4 @@
 -- The sequence repeats after 255 octets, so its first 255 tell every octet.
-use borrow.Author.Rules.{rules}
 use mathlib.Core.Path.{ap, ◌∙◌}
 use mathlib.Core.List.{List}
 use Prim.Native.Nat.{ℕ, ◌%◌}

@@ -1,14 +1,9 @@
 -- The loop's invariant: the output is the derandomized run up to i, and as it was from there.
-use borrow.Author.Rules.{rules}
-use mathlib.Core.Path.{◌≡◌, refl, sym, ap, ◌∙◌}
-use mathlib.Core.List.{List, ◌++◌, append-nil}
-use Prim.Native.Nat.{ℕ, ◌+◌, ◌-◌, ◌≤◌}
-use native.Mathlib.Omega.{arith}
-use lib.Bits.{bit_xor}
-use lib.ListN.{length, take, drop, get_or, length-set, drop_of_length-le}
-use Rattle.base.proofs.Lists.{store_by, stored}
-use Rattle.randomizer.specs.Randomizer.{octet, randomized}
-use Rattle.randomizer.proofs.Randomized.{randomized_at, length_randomized, sequence_at}
+use mathlib.Core.Path.{◌≡◌}
+use mathlib.Core.List.{◌++◌}
+use Prim.Native.Nat.{◌-◌, ◌≤◌}
+use lib.ListN.{length, take, drop}
+use Rattle.randomizer.specs.Randomizer.{randomized}
 use Rattle.randomizer.proofs.randomize_run.Given as goal
 
 abbrev pub invariant-loop-i : goal.invariant-loop-i

@@ -1,15 +1,9 @@
 -- The loop's invariant: the output is the derandomized information up to a multiple of 255, and as it was from there.
-use borrow.Author.Rules.{rules}
-use mathlib.Core.Path.{◌≡◌, refl, sym, ◌∙◌}
+use mathlib.Core.Path.{◌≡◌}
 use mathlib.Core.List.{◌++◌}
-use Prim.Native.Nat.{◌+◌, ◌-◌, ◌%◌, ◌≤◌}
-use native.Mathlib.Omega.{arith}
+use Prim.Native.Nat.{◌-◌, ◌%◌, ◌≤◌}
 use lib.ListN.{length, take, drop}
-use Rattle.base.proofs.Lists.{stored}
 use Rattle.randomizer.specs.Randomizer.{randomized}
-use Rattle.randomizer.proofs.Randomized.{length_randomized}
-use Rattle.memory.proofs.Laws.{placed_front}
-use Rattle.randomizer.proofs.Runs.{store_run}
 use Rattle.randomizer.proofs.randomize_runs.Given as goal
 
 abbrev pub invariant-loop-at : goal.invariant-loop-at

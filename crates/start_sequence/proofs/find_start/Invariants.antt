@@ -1,12 +1,8 @@
 -- The loop's invariant: the search of the whole is that of the octets left, behind those that are not.
-use borrow.Author.Rules.{rules}
-use mathlib.Core.Path.{◌≡◌, sym, ap, ◌∙◌}
-use native.Mathlib.Omega.{arith}
-use Prim.Native.Nat.{ℕ, ◌+◌, ◌-◌, ◌≤◌}
-use native.Mathlib.Nat.{zero-add}
-use lib.ListN.{length, drop, drop_of_length-le}
+use mathlib.Core.Path.{◌≡◌}
+use Prim.Native.Nat.{◌+◌, ◌-◌, ◌≤◌}
+use lib.ListN.{length, drop}
 use Rattle.start_sequence.specs.StartSequence.{start_of}
-use Rattle.start_sequence.proofs.Search.{search_on, search_found}
 use Rattle.start_sequence.proofs.find_start.Given as goal
 
 abbrev pub invariant-loop-left : goal.invariant-loop-left

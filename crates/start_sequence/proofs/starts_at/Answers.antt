@@ -2,8 +2,7 @@
 use borrow.Author.Rules.{rules}
 use mathlib.Core.Path.{sym}
 use native.Mathlib.Omega.{arith}
-use Prim.Native.Nat.{ℕ, ◌+◌, ◌<◌}
-use lib.ListN.{get_or}
+use Prim.Native.Nat.{◌+◌}
 use Rattle.start_sequence.proofs.Starts.{starts_by, starts_last}
 use Rattle.start_sequence.proofs.starts_at.Goals as goal
 

@@ -1,9 +1,5 @@
 use borrow.Author.Rules.{rules}
-use Prim.Native.Nat.{◌+◌, ◌-◌, ◌≤◌}
-use mathlib.Core.Path.{◌≡◌}
 use native.Mathlib.Omega.{arith}
-use lib.ListN.{length, drop}
-use Rattle.text.specs.Cut.{cut_of}
 use Rattle.text.proofs.Scans.{cut_here, cut_on, cut_end}
 use Rattle.text.proofs.cut.Goals as goal
 

@@ -1,11 +1,8 @@
 -- The first tab of the text is i places before the first tab of what is left from i on.
-use borrow.Author.Rules.{rules}
 use Prim.Native.Nat.{◌+◌, ◌-◌, ◌≤◌}
 use mathlib.Core.Path.{◌≡◌}
-use native.Mathlib.Omega.{arith}
 use lib.ListN.{length, drop}
 use Rattle.text.specs.Cut.{cut_of}
-use Rattle.text.proofs.Scans.{cut_here, cut_on, cut_end}
 use Rattle.text.proofs.cut.Given as goal
 
 abbrev pub invariant-loop-i : goal.invariant-loop-i

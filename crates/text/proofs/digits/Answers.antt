@@ -1,9 +1,5 @@
 use borrow.Author.Rules.{rules}
-use Prim.Native.Nat.{◌+◌, ◌≤◌}
-use mathlib.Core.Path.{◌≡◌}
 use native.Mathlib.Omega.{arith}
-use lib.ListN.{length}
-use Rattle.text.specs.Decimal.{decimal}
 use Rattle.text.proofs.Decimals.{most_digits, length_one, length_more}
 use Rattle.text.proofs.digits.Goals as goal
 

@@ -1,11 +1,8 @@
 -- Each turn takes the last digit away, and counts it.
-use borrow.Author.Rules.{rules}
 use Prim.Native.Nat.{◌+◌, ◌≤◌}
 use mathlib.Core.Path.{◌≡◌}
-use native.Mathlib.Omega.{arith}
 use lib.ListN.{length}
 use Rattle.text.specs.Decimal.{decimal}
-use Rattle.text.proofs.Decimals.{most_digits, length_one, length_more}
 use Rattle.text.proofs.digits.Given as goal
 
 abbrev pub invariant-loop-rest : goal.invariant-loop-rest

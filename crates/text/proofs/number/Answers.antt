@@ -1,5 +1,4 @@
 -- Empty, one digit, a leading zero, or digits.
-use borrow.Author.Rules.{rules}
 use mathlib.Core.Path.{sym, ◌∙◌}
 use native.Mathlib.Omega.{arith}
 use Rattle.text.proofs.Canonical.{number_value, number_empty, number_zero}

@@ -1,9 +1,6 @@
 use borrow.Author.Rules.{rules}
-use Prim.Native.Nat.{◌-◌, ◌≤◌}
-use mathlib.Core.Path.{◌≡◌, refl, sym, ◌∙◌}
+use mathlib.Core.Path.{refl, sym, ◌∙◌}
 use native.Mathlib.Omega.{arith}
-use lib.ListN.{length, drop}
-use Rattle.base.specs.Octets.{same}
 use Rattle.base.proofs.Lists.{same_length_not}
 use Rattle.text.proofs.Scans.{same_on, same_differ, same_end}
 use Rattle.text.proofs.same.Goals as goal

@@ -1,12 +1,8 @@
 -- What is left of the two texts from i on is the same where the whole texts are.
-use borrow.Author.Rules.{rules}
 use Prim.Native.Nat.{◌-◌, ◌≤◌}
-use mathlib.Core.Path.{◌≡◌, refl, sym, ◌∙◌}
-use native.Mathlib.Omega.{arith}
+use mathlib.Core.Path.{◌≡◌}
 use lib.ListN.{length, drop}
 use Rattle.base.specs.Octets.{same}
-use Rattle.base.proofs.Lists.{same_length_not}
-use Rattle.text.proofs.Scans.{same_on, same_differ, same_end}
 use Rattle.text.proofs.same.Given as goal
 
 abbrev pub invariant-loop-i : goal.invariant-loop-i

@@ -1,9 +1,8 @@
-use borrow.Author.Rules.{rules}
 use Prim.Native.Nat.{◌-◌, ◌/◌}
 use native.Mathlib.Omega.{arith}
 use lib.ListN.{length-set}
 use Rattle.text.proofs.Decimals.{some_digits, length_more}
-use Rattle.text.proofs.Spelling.{Spelled, start, on, finished}
+use Rattle.text.proofs.Spelling.{start, on, finished}
 use Rattle.text.proofs.spell.Goals as goal
 
 pub overflow_sub-place : goal.overflow_sub-place

@@ -1,10 +1,5 @@
 -- The digits behind a place stand (proofs/Spelling).
-use borrow.Author.Rules.{rules}
-use Prim.Native.Nat.{◌-◌, ◌/◌}
-use native.Mathlib.Omega.{arith}
-use lib.ListN.{length-set}
-use Rattle.text.proofs.Decimals.{some_digits, length_more}
-use Rattle.text.proofs.Spelling.{Spelled, start, on, finished}
+use Rattle.text.proofs.Spelling.{Spelled}
 use Rattle.text.proofs.spell.Given as goal
 
 abbrev pub invariant-loop-rest : goal.invariant-loop-rest

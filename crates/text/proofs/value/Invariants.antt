@@ -1,11 +1,8 @@
 -- The digits left, behind the value so far, give the value of all.
-use borrow.Author.Rules.{rules}
 use Prim.Native.Nat.{◌-◌, ◌≤◌}
-use mathlib.Core.Path.{◌≡◌, refl, sym, ◌∙◌}
-use native.Mathlib.Omega.{arith}
+use mathlib.Core.Path.{◌≡◌}
 use lib.ListN.{length, drop}
 use Rattle.text.specs.Decimal.{value_within}
-use Rattle.text.proofs.Scans.{value_low, value_high, value_big, value_on, value_end}
 use Rattle.text.proofs.value.Given as goal
 
 abbrev pub invariant-loop-i : goal.invariant-loop-i
