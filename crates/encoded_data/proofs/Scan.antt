@@ -14,7 +14,7 @@ use Rattle.base.specs.Choice.{pick}
 use Rattle.codeblock.specs.Codeblock.{is_good}
 use Rattle.codeblock.specs.declared.Judged.{Judged}
 use Rattle.memory.specs.Placed.{placed}
-use Rattle.memory.proofs.Laws.{placed_fits, placed_behind}
+use Rattle.memory.proofs.Laws.{placed_behind}
 use Rattle.encoded_data.specs.EncodedData.{good_run, information_in, corrected_in, whole_in}
 
 module _ (judge : List ℕ → Judged) where

@@ -123,13 +123,9 @@ pub fn write_served(
     ensures answer { written_answer result ≡ answer (handed_writing sender.settings work.told.handed (unit_before sender work store.now) (length output.old)) }
     ensures memory { output.new ≡ after (handed_writing sender.settings work.told.handed (unit_before sender work store.now) (length output.old)) output.old }
 {
-    let told = work.told;
-    let handed = told.handed;
-    let count = told.confirmed.count;
-    let place = place_before(handed, count);
-    let lengths = sender.lengths;
     let settings = sender.settings;
-    write_stored(settings, handed, place, lengths, store, output)
+    let lengths = sender.lengths;
+    write_unit_before(settings, &lengths, work, store, output)
 }
 
 // Writes the frame that an AD request hands down: of the unit offered, or of an older unit that is marked.

@@ -4,8 +4,6 @@ use mathlib.Core.Path.{◌≡◌, refl, sym, ap, ◌∙◌}
 use mathlib.Core.List.{List, [], ◌∷◌}
 use Prim.Native.Nat.{ℕ, suc, ◌+◌, ◌≤◌}
 use native.Mathlib.Omega.{arith}
-use mir.Syntax.{w8}
-use borrow.Kind.Array.{e_int, good_length}
 use lib.ListN.{length, get_or, set, length-set}
 use lib.Seq.{sets-eq, take_all}
 use Rattle.codeblock.proofs.Codeblock.{first_seven}

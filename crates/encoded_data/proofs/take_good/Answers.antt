@@ -1,5 +1,4 @@
 -- The constants keep their rules, by computed tests over all entries (codeblock/proofs/ByTable).
-use borrow.Author.Rules.{rules}
 use mathlib.Core.Path.{refl}
 use Rattle.base.specs.Register.{shift_bit, shift_bits, register}
 use Rattle.codeblock.specs.Codeblock.{parity}

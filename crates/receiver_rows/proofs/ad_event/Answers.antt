@@ -1,5 +1,5 @@
 -- Each return is one case of the window, by the tests on the way.
-use Rattle.std.proofs.Common.{◌+◌, ◌/◌, sym, refl, ◌∙◌, arith, rules, le-ltb, lt-ltb, eq-eqb, ne_eqb, le-leb}
+use Rattle.std.proofs.Common.{◌+◌, ◌/◌, sym, refl, ◌∙◌, arith, le-ltb, lt-ltb, eq-eqb, ne_eqb, le-leb}
 use borrow.Author.Tests.{lt-leb}
 use Rattle.farm.specs.Window.{ad_event}
 use Rattle.receiver_rows.proofs.ad_event.Goals as goal

@@ -1,5 +1,5 @@
 -- Each arm is the cell of row E1 in its state.
-use Rattle.std.proofs.Common.{refl, rules}
+use Rattle.std.proofs.Common.{refl}
 use Rattle.farm.specs.declared.State.TheVariants.{Open}
 use Rattle.farm.specs.declared.Event.TheVariants.{E1}
 use Rattle.farm.specs.Table.{table, perform, perform_all, step_of}

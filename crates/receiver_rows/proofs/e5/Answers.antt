@@ -1,5 +1,4 @@
 -- Each arm is the cell of row E5 in its state.
-use Rattle.std.proofs.Common.{rules}
 use Rattle.farm.specs.Table.{table, perform, perform_all, step_of}
 use Rattle.farm.proofs.Cells.{cells}
 use Rattle.receiver_rows.proofs.e5.Goals as goal

@@ -1,5 +1,4 @@
 -- Each arm is the cell of row E8 in its state.
-use Rattle.std.proofs.Common.{rules}
 use Rattle.farm.specs.declared.State.TheVariants.{Lockout}
 use Rattle.farm.specs.declared.Event.TheVariants.{E8}
 use Rattle.farm.specs.Table.{Action.IncrementFarmBCounter, table, perform, perform_all, step_of}

@@ -1,5 +1,5 @@
 -- The state that each arm was told decides the second test.
-use Rattle.std.proofs.Common.{false, sym, rules}
+use Rattle.std.proofs.Common.{false, sym}
 use Rattle.base.specs.Choice.{both}
 use Rattle.base.proofs.Tests.{both_true, both_false}
 use Rattle.farm.specs.declared.State.TheVariants.{Open, Wait, Lockout}

@@ -1,5 +1,4 @@
 -- Each arm is the row of its event.
-use Rattle.std.proofs.Common.{rules}
 use Rattle.farm.specs.Table.{table, perform, perform_all, step_of}
 use Rattle.farm.proofs.Cells.{e4_keeps, e9_keeps, e11_keeps, of_event, row}
 use Rattle.receiver_rows.proofs.step.Goals as goal

@@ -1,5 +1,5 @@
 -- Each arm is the unit that its event accepts; E1 by the state too.
-use Rattle.std.proofs.Common.{refl, rules}
+use Rattle.std.proofs.Common.{refl}
 use Rattle.farm.specs.Table.{table, accepts}
 use Rattle.farm.proofs.Units.{unit_told_lem, units}
 use Rattle.receiver_rows.proofs.unit_of.Goals as goal

@@ -1,13 +1,12 @@
 use borrow.Author.Rules.{rules}
 use mathlib.Core.Path.{◌≡◌, refl, sym, ap, ◌∙◌}
-use Prim.Native.Nat.{ℕ, ◌-◌, ◌*◌, ◌/◌, ◌%◌}
+use Prim.Native.Nat.{ℕ, ◌*◌}
 use native.Mathlib.Nat.{add-zero}
 use native.Mathlib.Omega.{arith}
 use lib.Bits.{bit_xor}
-use lib.ListN.{length}
-use Rattle.base.proofs.Register.{OctetsLeft, octet_shifted, octets_shifted}
+use Rattle.base.proofs.Register.{octet_shifted, octets_shifted}
 use Rattle.base.proofs.Xor.{double}
-use Rattle.codeblock.specs.Codeblock.{generator, parity, error_control}
+use Rattle.codeblock.specs.Codeblock.{parity, error_control}
 use Rattle.encoded_data.proofs.block.control_by.Goals as goal
 
 pub loop-i-init : goal.loop-i-init

@@ -1,5 +1,4 @@
 -- A bit behind the octets changes nothing; any other is inverted by its weight.
-use borrow.Author.Rules.{rules}
 use mathlib.Core.Path.{sym, ap, ◌∙◌}
 use Prim.Native.Nat.{ℕ, ◌-◌, ◌/◌, ◌%◌, ◌^◌}
 use native.Mathlib.Nat.{zero-add}
