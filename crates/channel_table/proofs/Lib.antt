@@ -1,2 +1,6 @@
 pub mod ByValue
+pub mod Called
+pub mod Events
 pub mod Lists
+pub mod Rows
+pub mod Values
