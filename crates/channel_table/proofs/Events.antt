@@ -143,16 +143,16 @@ put_back = seq (assign (place 10 []) (addr_of (place 1 (field 0 ∷ deref ty ∷
 abbrev asked : Callee → Body
 asked g = seq (call g (copy (place 5 []) ∷ copy (place 4 []) ∷ []) (place 6 [])) put_back
 
-abbrev body : Callee → Body
+abbrev pub body : Callee → Body
 body g = lent_as_shared (seq (call #channel_table-taken (copy (place 8 []) ∷ copy (place 2 []) ∷ copy (place 3 []) ∷ []) (place 5 [])) (asked g))
 
-abbrev ref : Ty
+abbrev pub ref : Ty
 ref = ty_ref erased imm (pointee R.written)
 
-abbrev ref_mut : Ty
+abbrev pub ref_mut : Ty
 ref_mut = ty_ref erased mut (pointee R.written)
 
-abbrev slice : Ty
+abbrev pub slice : Ty
 slice = slice_ty (ty_ref (named 0) mut (pointee R.written))
 
 module _ {M : Type 1} {𝓤 : Ura M} (𝓛 : Logic 𝓤) (mem : Memory → SProp 𝓤) (run : Routine → Fun 𝓤) (κ : Lft) (q : Share)
@@ -161,7 +161,7 @@ module _ {M : Type 1} {𝓤 : Ura M} (𝓛 : Logic 𝓤) (mem : Memory → SProp
     (τ : Ty) (v : Val) (Δ : List (Item 𝓤)) (l₀ l₁ l₂ l₃ l₄ l₅ l₆ l₇ l₈ l₉ l₁₀ l₁₁ l₁₂ : ℕ) where
   open 𝓛 use {H}
 
-  abbrev En : Env 𝓤 H
+  abbrev pub En : Env 𝓤 H
   En = (turn_ty, l₀) ∷ (slice, l₁) ∷ (ty_int w16, l₂) ∷ (ty_int w8, l₃) ∷ (τ, l₄) ∷ (channels_ty, l₅) ∷ (turn_ty, l₆) ∷ (ref, l₇) ∷ (slice_ty ref, l₈)
       ∷ (ty_unit, l₉) ∷ (ref_mut, l₁₀) ∷ (slice_ty ref_mut, l₁₁) ∷ (ty, l₁₂) ∷ []
 
