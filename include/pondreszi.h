@@ -39,7 +39,7 @@
  *
  * Platforms: tools/library builds the library for x86-64 with Linux, and that build is what is compared and tested. tools/cross builds it for
  * aarch64, riscv64 and Cortex-M4 from the same module; what these builds are not covered by: docs/AUDIT.md, 1.3. The library needs no
- * operating system, keeps no variables, and calls memcpy and memset of its host.
+ * operating system, keeps no variables, and calls memcpy, memmove and memset of its host.
  */
 #ifndef PONDRESZI_H
 #define PONDRESZI_H
