@@ -3,7 +3,7 @@
 use Rattle.std.specs.Prelude.{ℕ, ◌*◌, ◌%◌, ◌≤◌, ◌≡◌, true, false, List, [], ◌∷◌, eqb, length, take, drop}
 use Rattle.base.specs.Choice.{pick}
 use Rattle.base.specs.Limits.{largest_channel}
-use Rattle.base.specs.Outcome.{Outcome, Outcome.refused, answer, number_of}
+use Rattle.base.specs.Outcome.{Outcome, answer, number_of}
 use Rattle.fop.specs.Limits.{largest_number}
 use Rattle.farm.specs.declared.AcceptedUnit.{AcceptedUnit}
 use Rattle.farm.specs.declared.AcceptedUnit.TheVariants.{None, AdUnit, BdUnit}

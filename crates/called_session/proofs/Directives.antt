@@ -13,7 +13,6 @@ use Rattle.base.proofs.Tests.{yes}
 use Rattle.fop.specs.Limits.{largest_k, largest_timer, largest_transmission_limit, largest_number, largest_timeout_type}
 use Rattle.fop.specs.declared.State.{State}
 use Rattle.fop.specs.declared.State.TheVariants as state
-use Rattle.fop.specs.Table as table
 use Rattle.fop.specs.Table.{table78, cell78, FopEvent, E23, E24, E25, E26, E29, E30, E31, E32, E33, E34}
 use Rattle.fop.specs.Events.{valid_directive, directive_event}
 use Rattle.sender_values.specs.declared.SenderState.{SenderState}

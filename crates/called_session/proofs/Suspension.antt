@@ -1,7 +1,7 @@
 -- The suspension law of the functions that C and Rust call: each call is the table machine's with the store lent (Sender, `next_any`, `answers_any`), so
 -- crate suspension's law holds of them.
 use Prim.Native.Nat.{ℕ}
-use mathlib.Core.Path.{◌≡◌, ap, ◌∙◌}
+use mathlib.Core.Path.{ap, ◌∙◌}
 use lib.ListN.{length, length-replicate}
 use Rattle.fop.specs.Units.{Own}
 use Rattle.fop.specs.Store.{lent_next, lent_answer}
@@ -10,7 +10,7 @@ use Rattle.suspension.proofs.Law.{suspension_law}
 use Rattle.our_session.specs.Ours.{lent_output, reads}
 use Rattle.called_session.specs.Called.{held_in}
 use Rattle.called_session.specs.Suspension.{called_sender, SuspensionCalled}
-use Rattle.called_session.proofs.Sender.{WellKept, keeps_well, next_any, answers_any}
+use Rattle.called_session.proofs.Sender.{keeps_well, next_any, answers_any}
 
 by_table_lem : (own : Own) → ByTable own (called_sender own)
 by_table_lem own = record {

@@ -17,7 +17,7 @@ use Rattle.receiver.specs.declared.Start.{Start as FarmStart}
 use Rattle.receiver.specs.declared.Start.TheVariants.{Setting as FarmSetting}
 use Rattle.receiver_octets.proofs.Restored.{receiver_back}
 use Rattle.session.specs.Ends.{Settings, Within, Tied, start_receiver}
-use Rattle.session.specs.Signed.{Demanded, DemandedAlerting}
+use Rattle.session.specs.Signed.{Demanded}
 use Rattle.session.specs.Beyond.{Beyond}
 use Rattle.session.proofs.Theorem.{demand3}
 use Rattle.session.proofs.Alerting.{demand3_alerting, beyond_alerting}

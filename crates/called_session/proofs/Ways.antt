@@ -25,7 +25,6 @@ use Rattle.sender_values.specs.Start.{begun}
 use Rattle.sender_table.specs.Rows.{row_numbered}
 use Rattle.fop.specs.declared.Lower.{Lower}
 use Rattle.sender_events.specs.Events.{word_number, directive_number, window_of, ad_number, bd_number, lower_number}
-use Rattle.sender.specs.declared.Answer.{Answer}
 use Rattle.sender.specs.Answers.{no_responses, answered, refusing, concluded, Step, step_by, refused_step}
 use Rattle.fop.specs.Store.{store_need}
 use Rattle.sender_frames.specs.Limits.{need_of}

@@ -11,7 +11,8 @@ use Rattle.fop.specs.Answers.{Answer}
 use Rattle.sender_view.specs.View.{responses_of}
 use Rattle.sender_table.specs.Rows.{event_of}
 use Rattle.receiver_octets.specs.Kept.{octets_of as receiver_octets}
-use Rattle.session.specs.Receiver.{ReceiverEvent, frame_arrives, release_buffer, ReceiverAnswer, WordAnswer, event_numbered}
+use Rattle.session.specs.Receiver.{ReceiverEvent, frame_arrives, release_buffer, ReceiverAnswer, WordAnswer}
+pub use Rattle.session.specs.Receiver.{event_numbered}
 use Rattle.session.specs.Ends.{Settings, Ends, start_receiver}
 use Rattle.sender.specs.Answers.{refused_step}
 use Rattle.sender_octets.specs.Kept.{is_state, state_in}

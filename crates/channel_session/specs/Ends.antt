@@ -5,7 +5,8 @@ use Rattle.fop.specs.Variables.{Fop}
 use Rattle.fop.specs.Events.{SenderEvent}
 use Rattle.fop.specs.Answers.{Answer, sender_next, sender_answer}
 use Rattle.receiver.specs.declared.Channel.{Channel}
-use Rattle.session.specs.Receiver.{ReceiverEvent, frame_arrives, release_buffer, ReceiverAnswer, WordAnswer, event_numbered, handed_out, word_told}
+use Rattle.session.specs.Receiver.{ReceiverEvent, frame_arrives, release_buffer, ReceiverAnswer, WordAnswer, handed_out, word_told}
+pub use Rattle.session.specs.Receiver.{event_numbered}
 use Rattle.session.specs.Ends.{Settings, Ends, Brought, start_sender, start_receiver}
 use Rattle.channels.specs.declared.Turn.{Turn}
 use Rattle.channels.specs.Table.{is_in, held_in, table_holds, record_of, records_after, frame_turn, unit_part, release_turn, word_writing}

@@ -2,7 +2,7 @@
 -- before the units confirmed left it, where the sender reads it.
 use Prim.Native.Nat.{ℕ, ◌+◌, ◌-◌, ◌≤◌, ◌<◌}
 use mathlib.Core.Path.{◌≡◌, refl, sym, ap, subst, ◌∙◌}
-use mathlib.Core.Bool.{true, false, true≢false}
+use mathlib.Core.Bool.{false, true≢false}
 use mathlib.Core.List.{List, []}
 use native.Mathlib.Omega.{arith}
 use lib.Dec.{eqb}
@@ -12,7 +12,7 @@ use Rattle.store.specs.Places.{unit_at, without}
 use Rattle.store.specs.Slid.{slid}
 use Rattle.store.proofs.Laws.{without_unit}
 use Rattle.store.proofs.Need.{larger_second}
-use Rattle.fop.specs.Units.{Own, Unlock}
+use Rattle.fop.specs.Units.{Own}
 use Rattle.fop.specs.Table.{FopEvent}
 use Rattle.fop.specs.Variables as machine
 use Rattle.fop.specs.Machine.{fop_do}

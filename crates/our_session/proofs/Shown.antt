@@ -13,7 +13,7 @@ use Rattle.frame.specs.Frame.{bypass_of, control_of, number_of, data_of, frame_o
 use Rattle.frame.proofs.Lengths.{length_frame}
 use Rattle.frame.specs.declared.Kind.{Kind}
 use Rattle.frame.specs.declared.Kind.TheVariants as kind
-use Rattle.fop.specs.Units.{Own, Frame, Unlock, written}
+use Rattle.fop.specs.Units.{Own, Frame, written}
 use Rattle.fop.specs.Table.{FopEvent}
 use Rattle.fop.specs.Variables as machine
 use Rattle.fop.specs.Answers.{octets_down}

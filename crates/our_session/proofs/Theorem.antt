@@ -29,7 +29,7 @@ use Rattle.sender_rows_view.specs.State.{Good}
 use Rattle.receiver.specs.Receiver as farm
 use Rattle.receiver.specs.declared.Start.TheVariants.{Ready}
 use Rattle.session.specs.Ends.{Settings, Within, Brought, Tied, start_sender, start_receiver}
-use Rattle.session.specs.Signed.{Demanded, DemandedAlerting}
+use Rattle.session.specs.Signed.{Demanded}
 use Rattle.session.specs.Beyond.{Beyond}
 use Rattle.session.proofs.Theorem.{demand3}
 use Rattle.session.proofs.Alerting.{demand3_alerting, beyond_alerting}

@@ -2,16 +2,16 @@
 -- handed on in fewer bits answer as those given (crate pondreszi_numbers); and the record that is put at its place leaves the table of the records after
 -- the event.
 use mathlib.Core.Path.{◌≡◌, refl, sym, ap, ap₂, ◌∙◌}
-use mathlib.Core.Bool.{Bool, true, false, ◌||◌}
-use mathlib.Core.List.{List, [], ◌∷◌, ◌++◌}
+use mathlib.Core.Bool.{Bool, true, false}
+use mathlib.Core.List.{List, [], ◌∷◌}
 use Prim.Native.Nat.{ℕ, suc, ◌*◌, ◌%◌, ◌≤◌, ◌<◌}
 use native.Mathlib.Omega.{arith}
 use borrow.Author.Tests.{le-leb, lt-leb, leb-true, ne_eqb, eqb-true, eqb-false}
 use lib.Dec.{leb, eqb}
-use lib.ListN.{length, drop, set}
-use Rattle.base.specs.Choice.{pick, must, both}
+use lib.ListN.{length}
+use Rattle.base.specs.Choice.{pick, must}
 use Rattle.base.specs.Limits.{largest_spacecraft, largest_channel}
-use Rattle.base.specs.Outcome.{Outcome, Outcome.refused}
+use Rattle.base.specs.Outcome.{Outcome.refused}
 use Rattle.base.proofs.Tests.{both_false, both_left, both_right}
 use Rattle.memory.specs.Placed.{placed}
 use Rattle.memory.proofs.Laws.{placed_front}
@@ -33,13 +33,13 @@ use Rattle.channels.specs.Channels.{frame_turn_of, release_turn_of, word_of}
 use Rattle.channels.proofs.Kept.{within}
 use Rattle.channel_table.specs.Taken.{taken_of}
 use Rattle.channel_table.proofs.ByValue.{frame_taken, release_taken, word_taken}
-use Rattle.channel_octets.specs.Kept.{record_octets, octets_of, table_octets, records_in, is_table}
+use Rattle.channel_octets.specs.Kept.{record_octets, octets_of, records_in, is_table}
 use Rattle.channel_octets.proofs.Put.{put_record}
 use Rattle.pondreszi_numbers.specs.Numbers.{largest_octet, largest_pair, narrow}
 use Rattle.pondreszi_numbers.proofs.Narrowed.{Alike, beyond, checked}
-use Rattle.pondreszi_receiver.specs.Receivers.{Called, Release, unit_count}
+use Rattle.pondreszi_receiver.specs.Receivers.{unit_count}
 use Rattle.pondreszi_receiver.proofs.Counted.{unit_counted}
-use Rattle.pondreszi_channels.specs.Channels.{at_start, new_call, Frame, received, table_after, frame_call, released_by, release_call, word_call}
+use Rattle.pondreszi_channels.specs.Channels.{at_start, new_call, received, table_after, frame_call, released_by, release_call, word_call}
 
 -- Numbers beyond a limit.
 

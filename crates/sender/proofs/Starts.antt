@@ -1,7 +1,7 @@
 -- Each way through the start of a sender, and through one from a state that was kept.
 use mathlib.Core.Path.{◌≡◌, sym, ap, ◌∙◌}
 use mathlib.Core.Bool.{Bool, true, false}
-use Prim.Native.Nat.{ℕ, ◌≤◌, ◌<◌}
+use Prim.Native.Nat.{ℕ}
 use lib.Dec.{leb}
 use Rattle.base.proofs.Tests.{yes, no}
 use Rattle.sender_values.specs.declared.Settings.{Settings}

@@ -1,5 +1,5 @@
 -- The refusal of a request whose unit has a legal length: by the lent store alone.
-use mathlib.Core.Path.{◌≡◌, sym, ◌∙◌}
+use mathlib.Core.Path.{◌≡◌}
 use mathlib.Core.Bool.{Bool, true, false}
 use mathlib.Core.List.{List}
 use Prim.Native.Nat.{ℕ, ◌≤◌}
@@ -10,7 +10,7 @@ use Rattle.base.specs.Choice.{must}
 use Rattle.base.specs.Limits.{largest_unit}
 use Rattle.sender_values.specs.declared.SenderState.{SenderState}
 use Rattle.sender_frames.specs.Limits.{need_of}
-use Rattle.sender_frames.specs.Frames.{must_be_unit, request_refusal}
+use Rattle.sender_frames.specs.Frames.{request_refusal}
 
 module _ (s : SenderState) (o store : List ℕ) (least : 1 ≤ length o) (most : length o ≤ largest_unit) {b : Bool} (is : b ≡ leb (need_of s) (length store)) where
   by_store : must b 11 0 ≡ request_refusal s o store

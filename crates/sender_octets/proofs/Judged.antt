@@ -16,7 +16,7 @@ use Rattle.sender_values.specs.declared.SenderState.{SenderState}
 use Rattle.sender_state.specs.State.{well_formed}
 use Rattle.sender.specs.Start.{restored_of, refused_start}
 use Rattle.sender.specs.declared.Start.{Start}
-use Rattle.sender_octets.specs.Kept.{number_octets, state_octets, octets_of, state_in, is_state, sender_in, pairs, pairs_from}
+use Rattle.sender_octets.specs.Kept.{number_octets, state_octets, octets_of, state_in, is_state, sender_in, pairs}
 use Rattle.sender_octets.proofs.Pairs.{length_pairs, length_from, pairs_from_lem}
 
 pub length_octets : (s : SenderState) → length s.lengths ≡ places → length (octets_of s) ≡ state_octets

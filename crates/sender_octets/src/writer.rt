@@ -1,5 +1,5 @@
 // A state as octets: numbers and flags, then two for each length, the most significant first.
-ghost use Rattle.std.specs.Prelude.{◌≡◌, ◌++◌, ◌≤◌, ◌/◌, ◌%◌, length};
+ghost use Rattle.std.specs.Prelude.{◌≡◌, ◌++◌, ◌*◌, ◌<◌, ◌≤◌, ◌/◌, ◌%◌, length, get_or};
 ghost use Rattle.base.specs.Flags.{bit_of};
 ghost use Rattle.memory.specs.Placed.{placed};
 ghost use Rattle.store.specs.Places.{places};
@@ -160,4 +160,41 @@ pub fn put_state(octets: &mut [u8], state: SenderState)
     let numbers = numbers_of(state);
     let lengths = state.lengths;
     put_parts(octets, &numbers, &lengths);
+}
+
+// The octet at a place of the lengths as octets.
+fn length_octet(lengths: &[u16; PLACES], place: usize) -> u8
+    requires { place < 2 * places }
+    ensures { result ≡ get_or (pairs lengths.now) place 0 }
+{
+    let length = lengths[place / 2];
+    if place % 2 == 0 {
+        return high(length);
+    }
+    low(length)
+}
+
+// The octet at a place of a state.
+fn octet_at(numbers: &[u8; NUMBER_OCTETS], lengths: &[u16; PLACES], place: usize) -> u8
+    requires { (place < state_octets) × (length numbers.now ≡ number_octets) }
+    ensures { result ≡ get_or (numbers.now ++ pairs lengths.now) place 0 }
+{
+    if place < NUMBER_OCTETS {
+        return numbers[place];
+    }
+    length_octet(lengths, place - NUMBER_OCTETS)
+}
+
+// The numbers and flags, then the lengths.
+pub fn join(numbers: [u8; NUMBER_OCTETS], lengths: [u16; PLACES]) -> [u8; STATE_OCTETS]
+    ensures { result ≡ numbers ++ pairs lengths }
+{
+    let mut octets = [0u8; STATE_OCTETS];
+    let mut i = 0;
+    while i < STATE_OCTETS {
+        let octet = octet_at(&numbers, &lengths, i);
+        octets[i] = octet;
+        i += 1;
+    }
+    octets
 }

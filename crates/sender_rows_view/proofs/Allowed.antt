@@ -1,7 +1,7 @@
 -- Every cell of table 7-8 is allowed, in each state and at each Suspend_State that a sender can have: the mode in which its event begins leads
 -- through its actions to one that its next state asks.
 use Prim.Native.Nat.{ℕ, zero, suc, ◌≤◌}
-use mathlib.Core.Path.{◌≡◌, refl, sym, ap, subst, ◌∙◌}
+use mathlib.Core.Path.{◌≡◌, refl, sym, subst}
 use mathlib.Core.Bool.{Bool, true, false}
 use mathlib.Core.List.{List}
 use native.Mathlib.Omega.{arith}

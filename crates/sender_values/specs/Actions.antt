@@ -1,6 +1,6 @@
 -- The actions of clause 7.9.2 and of table 7-8, on the work by value.
 -- They follow the struct's layout. The standard's own rendering is crate fop, specs/Machine; crate sender_view ties each of these to it.
-use Rattle.std.specs.Prelude.{ℕ, suc, ◌+◌, Bool, true, false, set, ◌==◌, nat_lt, slice_set}
+use Rattle.std.specs.Prelude.{ℕ, suc, ◌+◌, Bool, true, false, ◌==◌, nat_lt, slice_set}
 use Rattle.base.specs.Choice.{pick}
 use Rattle.base.specs.Modulo.{advanced, offset}
 use Rattle.fop.specs.declared.State.{State}

@@ -29,7 +29,6 @@ use Rattle.session.proofs.Alerts.{Allowed, own_alert, ad_alerts, bd_alerts, tick
 use Rattle.session.proofs.Inv.{in_mode, Inv, goes_is, word_read, fine}
 use Rattle.session.proofs.Core.{Session, goes, used, is_held}
 use Rattle.session.proofs.Chan.{Wds}
-use Rattle.session.proofs.Receiver.{at}
 use Rattle.session.proofs.Link.{Rel, tables_tied, fly_reads, Reads}
 use Rattle.session.proofs.Keys.{Tidy}
 use Rattle.session.proofs.WordAlerts.{word_alerts}

@@ -16,7 +16,7 @@ use Rattle.base.specs.Modulo.{advanced, offset}
 use Rattle.fop.specs.Units.{Fdu}
 use Rattle.fop.specs.declared.State.TheVariants.{S6}
 use Rattle.fop.specs.Effective.{effective}
-use Rattle.session.specs.Ends.{Settings, Within}
+use Rattle.session.specs.Ends.{Settings}
 use Rattle.session.specs.Session.{no_unit}
 use Rattle.session.specs.Claims.{member}
 use Rattle.session.specs.Beyond.{OnBoard, Before}

@@ -22,7 +22,7 @@ use Rattle.session.specs.Receiver.{frame_arrives, release_buffer, ReceiverAnswer
 use Rattle.session.specs.Ends.{Settings, Within, Ends, Tied}
 use Rattle.session.specs.Session.{Linked, History, frame_in}
 use Rattle.session.specs.Session as ses
-use Rattle.session.specs.Channels.{frame_stays, frame_filled, is_fill, link_step}
+use Rattle.session.specs.Channels.{frame_stays, frame_filled, is_fill}
 use Rattle.session.specs.Beyond.{HandsOut, FilledAlike}
 use Rattle.session.proofs.Core.{Session, taken, is_handed, frame_event, free, frame_come, receiver, step_with, step}
 use Rattle.session.proofs.Inv.{Inv}

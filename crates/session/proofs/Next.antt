@@ -25,7 +25,7 @@ use Rattle.fop.specs.Events.{fop_ad, fop_lower, fop_tick, fop_expiry, SenderEven
 use Rattle.fop.specs.Events.{lower, word_arrives, work, fop_word}
 use Rattle.fop.specs.Answers.{judged, needed}
 use Rattle.session.specs.Ends.{Settings, Within}
-use Rattle.session.specs.Session.{History, ad_request, ticks, lower_says, word_in, no_unit, places}
+use Rattle.session.specs.Session.{History, ad_request, ticks, lower_says, word_in, no_unit}
 use Rattle.session.specs.Claims.{IsOutstanding, outstanding, remaining, member, next_unit, serves, Marked}
 use Rattle.session.specs.Stronger.{in_service}
 use Rattle.fop.specs.Events as fop

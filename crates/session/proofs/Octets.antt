@@ -15,7 +15,7 @@ use Rattle.base.specs.Outcome.{Outcome.done, Outcome.refused}
 use Rattle.base.specs.Octets.{Octets}
 use Rattle.base.specs.Flags.{bit_of}
 use Rattle.base.proofs.Tests.{bit_le}
-use Rattle.fop.specs.Units.{Fdu, Frame, AD, BD, Word, valid, Own, are_octets, legal, written, word_octets, read_word, word_received}
+use Rattle.fop.specs.Units.{Fdu, AD, BD, Word, valid, Own, are_octets, legal, written, word_octets, read_word, word_received}
 use Rattle.frame.specs.Frame.{frame_of, data_of}
 use Rattle.frame.specs.Answers.{reading_of, part_of}
 use Rattle.frame.specs.declared.Kind.{Kind}

@@ -36,7 +36,6 @@ use Rattle.session.proofs.Core.{Session, goes, add_all}
 use Rattle.session.proofs.Chan.{wds_le}
 use Rattle.session.proofs.Values.{word, unit, nothing, live}
 use Rattle.session.proofs.Bds.{bd_part}
-use Rattle.session.proofs.Receiver.{at}
 use Rattle.session.proofs.Next.{history_of, live_of, live_in, word_step}
 use Rattle.session.proofs.Arrive.{expedites, accepts_bd_lem}
 use Rattle.session.proofs.Asks.{responds, starts, asks}

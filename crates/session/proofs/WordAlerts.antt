@@ -3,7 +3,7 @@ use mathlib.Core.Logic.{◌⊎◌, inl, inr}
 use mathlib.Core.Path.{◌≡◌, refl, sym, ap, ◌∙◌}
 use mathlib.Core.Bool.{Bool, true, false, not, ◌&&◌, ◌||◌, true≢false, false≢true}
 use mathlib.Core.List.{List, [], ◌∷◌}
-use mathlib.Core.Option.{none, some}
+use mathlib.Core.Option.{some}
 use Prim.Native.Nat.{ℕ, ◌+◌, ◌-◌, ◌*◌, ◌≤◌}
 use native.Mathlib.Omega.{arith}
 use lib.Dec.{leb, ltb, eqb, T}
@@ -28,7 +28,6 @@ use Rattle.session.proofs.Core.{Session}
 use Rattle.session.proofs.Values.{Live}
 use Rattle.session.proofs.Rows.{mode_of, sound}
 use Rattle.session.proofs.Inv.{Inv, Side}
-use Rattle.session.proofs.Receiver.{at}
 use Rattle.session.proofs.Keys.{bit, bit_le, rank, floor, Keys, Tidy}
 use Rattle.session.proofs.Every.{implies, implied, every_seen, seen_at}
 use Rattle.session.proofs.Alerts.{allows, cell_allows, Allowed, cell_allowed_lem}

@@ -1,13 +1,13 @@
 use borrow.Author.Rules.{rules}
-use mathlib.Core.Path.{◌≡◌, ap}
-use Prim.Native.Nat.{◌*◌, ◌-◌, ◌/◌, ◌<◌, ◌≤◌}
+use mathlib.Core.Path.{ap}
+use Prim.Native.Nat.{◌*◌, ◌/◌, ◌<◌}
 use native.Mathlib.Omega.{arith}
 use lib.ListN.{length, length-drop}
 use Rattle.base.proofs.Lists.{rest}
 use Rattle.channels.specs.Limits.{largest_channels}
 use Rattle.channel_table.proofs.Lists.{few_fits}
-use Rattle.channel_octets.specs.Kept.{record_octets, records_in}
-use Rattle.channel_octets.proofs.Taken.{partly, none_taken, one_taken, all_taken}
+use Rattle.channel_octets.specs.Kept.{record_octets}
+use Rattle.channel_octets.proofs.Taken.{none_taken, one_taken, all_taken}
 use Rattle.channel_octets.proofs.channels_in.Goals as goal
 
 pub loop-place-init : goal.loop-place-init

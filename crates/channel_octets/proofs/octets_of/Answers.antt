@@ -1,5 +1,4 @@
 -- The octets are those of the layout, the flags' by `flag`.
-use borrow.Author.Rules.{rules}
 use Rattle.channel_octets.proofs.octets_of.Goals as goal
 
 pub returns : goal.returns

@@ -1,5 +1,4 @@
 -- Past the end nothing is placed; else the octets of the record are put at its place.
-use borrow.Author.Rules.{rules}
 use mathlib.Core.Path.{sym, ap, ◌∙◌}
 use Prim.Native.Nat.{◌*◌}
 use native.Mathlib.Omega.{arith}

@@ -1,5 +1,4 @@
 -- Each field is read from its octet.
-use borrow.Author.Rules.{rules}
 use Rattle.channel_octets.proofs.record_in.Goals as goal
 
 pub returns : goal.returns

@@ -1,9 +1,9 @@
 -- The receiver that is taken answers as the table does, and the record that changes is put back.
-use package.mir.Syntax.{Local, local, Ty, Body, ty_int, ty_unit, ty_ref, w8, w16, imm, named, erased, value_local}
+use package.mir.Syntax.{local, ty_int, ty_unit, w8, w16, value_local}
 use denote.Slice.{slice_ty}
 use Rattle.channel_table.proofs.Values.{turn_ty, channels_ty}
 use Rattle.channel_table.proofs.Rows.{ty}
-use mathlib.Core.List.{List, [], ◌∷◌, map}
+use mathlib.Core.List.{[], ◌∷◌, map}
 use mathlib.Core.Path.{refl}
 use Rattle.channel_table.proofs.release.Code.Mir as code
 use Rattle.channel_table.proofs.Events.{body, ref, ref_mut, slice}

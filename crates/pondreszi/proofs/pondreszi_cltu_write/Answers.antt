@@ -1,5 +1,4 @@
 -- What `write` answered, told by `told_written`.
-use borrow.Author.Rules.{rules}
 use Rattle.pondreszi_numbers.proofs.Told.{told_by_lem}
 use Rattle.pondreszi.proofs.pondreszi_cltu_write.Goals as goal
 

@@ -1,6 +1,4 @@
 -- Refused where the octets are no table; else what `frame_turn` came to, put into numbers, and its record put at its place.
-use borrow.Author.Rules.{rules}
-use borrow.Author.Tests.{not-true, not-false}
 use mathlib.Core.Path.{refl, sym, ap, ◌∙◌}
 use Rattle.channels.specs.declared.Channels.{Channels}
 use Rattle.channels.specs.Channels.{frame_turn_of}

@@ -1,6 +1,4 @@
 -- Refused where the octets are no table; else what `release_turn` came to, and its record put at its place.
-use borrow.Author.Rules.{rules}
-use borrow.Author.Tests.{not-true, not-false}
 use mathlib.Core.Path.{refl, sym, ap₂, ◌∙◌}
 use Prim.Native.Nat.{ℕ}
 use Rattle.channels.specs.declared.Channels.{Channels}

@@ -1,5 +1,4 @@
 -- The numbers handed on are those given, narrowed.
-use borrow.Author.Rules.{rules}
 use mathlib.Core.Path.{ap₂, ◌∙◌}
 use Prim.Native.Nat.{ℕ}
 use Rattle.channel_table.specs.Taken.{taken_of}

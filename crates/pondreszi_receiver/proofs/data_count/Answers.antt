@@ -1,6 +1,5 @@
 -- The length field by its octets, and each return by whether the frame is whole.
-use borrow.Author.Rules.{rules}
-use mathlib.Core.Path.{sym, ◌∙◌}
+use mathlib.Core.Path.{sym}
 use native.Mathlib.Omega.{arith}
 use Rattle.frame.proofs.Octets.{total_is}
 use Rattle.pondreszi_receiver.proofs.Counted.{short_count, low_count, cut_count, whole_count}

@@ -1,5 +1,4 @@
 -- Refused where the octets are no state; else what `receive` answered, put into numbers, and the next receiver's state over the old one.
-use borrow.Author.Rules.{rules}
 use mathlib.Core.Path.{refl, ◌∙◌}
 use Rattle.pondreszi_receiver.proofs.ReceiverCalls.{frame_refused_lem, frame_met, unit_length, kept_whole}
 use Rattle.pondreszi_receiver.proofs.frame_call.Goals as goal

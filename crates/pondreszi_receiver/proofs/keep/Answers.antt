@@ -1,5 +1,4 @@
 -- The octets of the receiver are put at the front.
-use borrow.Author.Rules.{rules}
 use mathlib.Core.Path.{ap, ◌∙◌}
 use Rattle.memory.specs.Placed.{placed}
 use Rattle.pondreszi_receiver.proofs.keep.Goals as goal

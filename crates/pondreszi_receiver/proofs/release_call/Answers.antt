@@ -1,5 +1,4 @@
 -- Refused where the octets are no state; else what `release` answered, put into numbers, and the next receiver's state over the old one.
-use borrow.Author.Rules.{rules}
 use mathlib.Core.Path.{refl, ap, ◌∙◌}
 use Rattle.receiver.specs.declared.Released.{Released}
 use Rattle.pondreszi_receiver.specs.Receivers.{released_by}

@@ -1,5 +1,4 @@
 -- V(R) is beyond its limit, or the receiver is what `new` gives for the numbers narrowed.
-use borrow.Author.Rules.{rules}
 use mathlib.Core.Path.{◌∙◌}
 use native.Mathlib.Omega.{arith}
 use Rattle.pondreszi_receiver.proofs.Narrowed.{receiver_narrowed, vr_beyond, vr_within}

@@ -1,5 +1,4 @@
 -- No unit has no octets; a unit accepted is the data field.
-use borrow.Author.Rules.{rules}
 use Rattle.pondreszi_receiver.proofs.Counted.{count_of}
 use Rattle.pondreszi_receiver.proofs.unit_count.Goals as goal
 

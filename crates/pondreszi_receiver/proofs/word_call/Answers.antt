@@ -1,5 +1,4 @@
 -- Refused where the octets are no state; else what `word` answered, put into numbers by `told_written`.
-use borrow.Author.Rules.{rules}
 use mathlib.Core.Path.{refl}
 use lib.ListN.{length}
 use Rattle.pondreszi_numbers.proofs.Told.{told_by_lem}

@@ -1,5 +1,4 @@
 -- No sender is reached, or the event is told.
-use borrow.Author.Rules.{rules}
 use Rattle.sender.specs.Events.{event_of}
 use Rattle.pondreszi_sender.specs.Senders.{event_call}
 use Rattle.pondreszi_sender.proofs.SenderCalls.{not_reached, done}

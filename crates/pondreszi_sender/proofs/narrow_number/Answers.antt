@@ -1,5 +1,4 @@
 -- The tests on the way decide each check.
-use borrow.Author.Rules.{rules}
 use Rattle.base.proofs.Tests.{tests}
 use Rattle.pondreszi_sender.proofs.narrow_number.Goals as goal
 

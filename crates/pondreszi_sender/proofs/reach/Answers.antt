@@ -1,5 +1,4 @@
 -- The octets are no state, the answer does not fit, or the sender is reached.
-use borrow.Author.Rules.{rules}
 use native.Mathlib.Omega.{arith}
 use Rattle.pondreszi_sender.proofs.SenderCalls.{no_state, no_room, has_room_lem}
 use Rattle.pondreszi_sender.proofs.reach.Goals as goal

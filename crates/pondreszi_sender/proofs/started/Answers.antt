@@ -1,5 +1,4 @@
 -- A number is beyond its limit, or the sender is what `new` gives for the numbers narrowed.
-use borrow.Author.Rules.{rules}
 use mathlib.Core.Path.{◌∙◌}
 use native.Mathlib.Omega.{arith}
 use Rattle.pondreszi_sender.proofs.Narrowed.{sender_narrowed, timer_beyond, limit_beyond, vs_beyond, nnr_beyond, all_within}

@@ -1,5 +1,4 @@
 -- The octets of the next state and of the answer, put at the front of their buffers.
-use borrow.Author.Rules.{rules}
 use mathlib.Core.Path.{refl, ap, ◌∙◌}
 use Rattle.memory.specs.Placed.{placed}
 use Rattle.sender_values.specs.declared.SenderState.{SenderState}

@@ -1,5 +1,4 @@
 -- A good SET opens the session; any other first line is refused, and all behind it.
-use borrow.Author.Rules.{rules}
 use Rattle.program_turns.specs.Turns.{first_of}
 use Rattle.program_turns.proofs.Told.{firsts}
 use Rattle.program_turns.proofs.first.Goals as goal

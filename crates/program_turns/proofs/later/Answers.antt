@@ -1,5 +1,4 @@
 -- Each arm is the definition's case.
-use borrow.Author.Rules.{rules}
 use Rattle.program_turns.specs.Turns.{later_of}
 use Rattle.program_turns.proofs.Told.{later_told, laters}
 use Rattle.program_turns.proofs.later.Goals as goal

@@ -1,5 +1,4 @@
 -- The row shows the variables behind the event.
-use borrow.Author.Rules.{rules}
 use Rattle.program_turns.proofs.Told.{row_of}
 use Rattle.program_turns.proofs.row.Goals as goal
 

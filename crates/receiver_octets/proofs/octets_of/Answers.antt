@@ -1,5 +1,4 @@
 -- The octets are those of the layout, the flags' by `flag`.
-use borrow.Author.Rules.{rules}
 use mathlib.Core.Path.{ap}
 use Rattle.receiver.specs.declared.ReceiverState.{ReceiverState}
 use Rattle.receiver_octets.specs.Kept.{octets_of}

@@ -1,8 +1,6 @@
 -- Each return is one case of `is_state`, by its value and by its number: octets of another length are those of no receiver.
-use borrow.Author.Rules.{rules}
-use borrow.Author.Tests.{not-true, not-false}
-use mathlib.Core.Path.{◌≡◌, sym, ap, ◌∙◌}
-use mathlib.Core.Bool.{true, false}
+use mathlib.Core.Path.{◌≡◌, sym, ◌∙◌}
+use mathlib.Core.Bool.{false}
 use Rattle.base.specs.Octets.{same}
 use Rattle.base.proofs.Lists.{same_length_not}
 use Rattle.receiver_octets.specs.Kept.{octets_of, receiver_in, is_state, restored_of}

@@ -1,5 +1,4 @@
 -- Each field is read from its octet; the spacecraft's two octets fit 16 bits.
-use borrow.Author.Rules.{rules}
 use native.Mathlib.Omega.{arith}
 use Rattle.receiver_octets.specs.Kept.{receiver_in}
 use Rattle.receiver_octets.proofs.state_in.Goals as goal

@@ -1,5 +1,4 @@
 -- The event and the state told pick the case.
-use borrow.Author.Rules.{rules}
 use native.Mathlib.Omega.{arith}
 use Rattle.base.proofs.Tests.{tests}
 use Rattle.sender.proofs.Judged.{adds_told}

@@ -1,5 +1,4 @@
 -- The answer is by what writing the frame came to.
-use borrow.Author.Rules.{rules}
 use Rattle.sender.proofs.Steps.{answered_by}
 use Rattle.sender.proofs.bypass_work.Goals as goal
 

@@ -1,5 +1,4 @@
 -- The length is set where the unit is added.
-use borrow.Author.Rules.{rules}
 use mathlib.Core.Path.{sym, ◌∙◌}
 use Rattle.base.proofs.Tests.{yes, no}
 use Rattle.sender.proofs.lengths_offered.Goals as goal

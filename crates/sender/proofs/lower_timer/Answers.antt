@@ -1,5 +1,4 @@
 -- A timer that is stopped stays so.
-use borrow.Author.Rules.{rules}
 use Rattle.sender.proofs.Timer.{stopped}
 use Rattle.sender.proofs.lower_timer.Goals as goal
 

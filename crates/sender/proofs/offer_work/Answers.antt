@@ -1,5 +1,4 @@
 -- The store changes where the answer is no refusal and the unit is added.
-use borrow.Author.Rules.{rules}
 use native.Mathlib.Omega.{arith}
 use Rattle.sender.proofs.Judged.{offered_added, offered_not_added, offered_refused}
 use Rattle.sender.proofs.offer_work.Goals as goal

@@ -1,5 +1,4 @@
 -- The sender is the start with the least settings.
-use borrow.Author.Rules.{rules}
 use Rattle.sender.proofs.refused_start.Goals as goal
 
 pub returns : goal.returns

@@ -1,6 +1,4 @@
 -- Too short a store is refused; else the event is served.
-use borrow.Author.Rules.{rules}
-use borrow.Author.Tests.{not-true, not-false}
 use Rattle.sender.proofs.Judged.{served_short, served_on}
 use Rattle.sender.proofs.serve.Goals as goal
 

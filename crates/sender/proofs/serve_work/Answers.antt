@@ -1,5 +1,4 @@
 -- The store changes where the frame is written.
-use borrow.Author.Rules.{rules}
 use mathlib.Core.Path.{◌∙◌}
 use Rattle.sender.proofs.Judged.{store_changed, store_same}
 use Rattle.sender.proofs.serve_work.Goals as goal

@@ -1,5 +1,4 @@
 -- The tick that makes the timer zero is the expiry.
-use borrow.Author.Rules.{rules}
 use Rattle.sender.proofs.Timer.{expires, no_expiry}
 use Rattle.sender.proofs.tick_event.Goals as goal
 

@@ -1,5 +1,4 @@
 -- The tests on the way decide each check; a unit that passes both of its checks fits, and then the store decides.
-use borrow.Author.Rules.{rules}
 use native.Mathlib.Omega.{arith}
 use Rattle.base.proofs.Tests.{tests}
 use Rattle.sender_frames.proofs.Judged.{request_taken, request_short}

@@ -1,5 +1,4 @@
 -- What is handed down picks the frame.
-use borrow.Author.Rules.{rules}
 use mathlib.Core.Path.{refl}
 use Rattle.frame.specs.declared.FrameWritten.TheVariants.{Done}
 use Rattle.sender_frames.specs.Frames.{handed_writing}

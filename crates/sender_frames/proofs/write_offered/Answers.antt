@@ -1,5 +1,4 @@
 -- The unit offered is the last of the sent ones; another that is handed down is an older one.
-use borrow.Author.Rules.{rules}
 use Rattle.sender_frames.proofs.Written.{offered_newest, offered_older, unit_told_lem}
 use Rattle.sender_frames.proofs.write_offered.Goals as goal
 

@@ -1,5 +1,4 @@
 -- The unit is the one at its place.
-use borrow.Author.Rules.{rules}
 use Rattle.sender_frames.proofs.Written.{unit_told_lem}
 use Rattle.sender_frames.proofs.write_stored.Goals as goal
 

@@ -1,5 +1,4 @@
 -- The unit is the one that stood behind the units confirmed.
-use borrow.Author.Rules.{rules}
 use mathlib.Core.Path.{◌∙◌}
 use Rattle.sender_frames.proofs.Written.{unit_told_lem, at_place}
 use Rattle.sender_frames.proofs.write_unit_before.Goals as goal

@@ -1,5 +1,4 @@
 -- Each octet is its part of the answer.
-use borrow.Author.Rules.{rules}
 use Rattle.sender_octets.proofs.Parts.{answer_by_lem}
 use Rattle.sender_octets.proofs.octets_of_answer.Goals as goal
 

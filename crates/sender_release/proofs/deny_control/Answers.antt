@@ -3,7 +3,6 @@ use mathlib.Core.Path.{◌≡◌}
 use Rattle.fop.specs.declared.Response.TheVariants.{DenyDirective}
 use Rattle.sender_values.specs.Actions.{deny_control, respond}
 use Rattle.sender_release.proofs.Ways.{deny_none}
-use borrow.Author.Rules.{rules}
 use Rattle.sender_release.proofs.deny_control.Goals as goal
 
 pub returns-in-None : goal.returns-in-None

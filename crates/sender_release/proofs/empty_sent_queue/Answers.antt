@@ -1,7 +1,6 @@
 -- What the callees ensure, put together, is the definition.
 use Rattle.sender_values.specs.Parts.{with_told, with_queues}
 use Rattle.sender_values.specs.Actions.{emptied}
-use borrow.Author.Rules.{rules}
 use Rattle.sender_release.proofs.empty_sent_queue.Goals as goal
 
 pub returns : goal.returns

@@ -1,6 +1,5 @@
 -- Each way through the function is a case of the definition.
 use Rattle.sender_release.proofs.Ways.{purge_waiting, purge_none}
-use borrow.Author.Rules.{rules}
 use Rattle.sender_release.proofs.purge_wait_queue.Goals as goal
 
 pub returns-then-waiting : goal.returns-then-waiting

@@ -1,7 +1,6 @@
 -- What the callees ensure, put together, is the definition.
 use Rattle.sender_values.specs.Parts.{with_told, with_queues, with_variables}
 use Rattle.sender_values.specs.Actions.{remove_acknowledged_frames}
-use borrow.Author.Rules.{rules}
 use Rattle.sender_release.proofs.remove_acknowledged_frames.Goals as goal
 
 pub returns : goal.returns

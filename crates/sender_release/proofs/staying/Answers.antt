@@ -1,7 +1,6 @@
 -- What the callees ensure, put together, is the definition.
 use mathlib.Core.Path.{ap, ◌∙◌}
 use Prim.Native.Nat.{ℕ}
-use borrow.Author.Rules.{rules}
 use Rattle.sender_values.specs.Actions.{least}
 use Rattle.sender_release.proofs.staying.Goals as goal
 

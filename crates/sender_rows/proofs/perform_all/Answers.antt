@@ -1,11 +1,9 @@
 use mathlib.Core.Path.{◌≡◌, sym, ◌∙◌}
-use mathlib.Core.Logic.{⊎_elim}
-use Prim.Native.Nat.{◌-◌, ◌≤◌}
 use native.Mathlib.Omega.{arith}
 use lib.ListN as list
 use lib.ListN.{drop, get_or}
 use Rattle.sender_table.specs.Rows.{done}
-use Rattle.sender_table.specs.Numbers.{done_numbers, action_of}
+use Rattle.sender_table.specs.Numbers.{action_of}
 use Rattle.sender_rows.proofs.Numbered.{ignored, in_turn, all_done}
 use borrow.Author.Rules.{rules}
 use Rattle.sender_rows.proofs.perform_all.Goals as goal

@@ -1,14 +1,8 @@
 -- The loop's invariant: the actions that are left, on the work so far, are all of them on the work at the start.
-use mathlib.Core.Path.{◌≡◌, sym, ◌∙◌}
-use mathlib.Core.Logic.{⊎_elim}
+use mathlib.Core.Path.{◌≡◌}
 use Prim.Native.Nat.{◌-◌, ◌≤◌}
-use native.Mathlib.Omega.{arith}
-use lib.ListN as list
-use lib.ListN.{drop, get_or}
-use Rattle.sender_table.specs.Rows.{done}
-use Rattle.sender_table.specs.Numbers.{done_numbers, action_of}
-use Rattle.sender_rows.proofs.Numbered.{ignored, in_turn, all_done}
-use borrow.Author.Rules.{rules}
+use lib.ListN.{drop}
+use Rattle.sender_table.specs.Numbers.{done_numbers}
 use Rattle.sender_rows.proofs.perform_all.Given as goal
 
 abbrev pub invariant-loop-i : goal.invariant-loop-i

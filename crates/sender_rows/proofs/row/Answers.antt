@@ -1,5 +1,4 @@
 -- No event's number keeps the work; else what the callees ensure, put together, is the event's row.
-use borrow.Author.Rules.{rules}
 use Rattle.sender_rows.proofs.Suspended.{no_row, chosen_row}
 use Rattle.sender_rows.proofs.row.Goals as goal
 

@@ -1,7 +1,5 @@
 -- Suspend_State's range tells the state recorded.
-use borrow.Author.Rules.{rules}
 use native.Mathlib.Omega.{arith}
-use mathlib.Core.Logic.{⊎_elim}
 use Rattle.sender_state.proofs.Initial.{any_units, no_units_below, no_units_above}
 use Rattle.sender_state.proofs.initial_holds.Goals as goal
 use Rattle.sender_state.proofs.initial_holds.Goals.{in_default-via-then-variables-lt1, in_default-via-else-variables-lt1+else-variables-lt4}
@@ -13,6 +11,6 @@ pub returns-in_default : goal.returns-in_default
 returns-in_default c =
     let a = c.args in
     elim c.in_default.branch [
-      in_default-via-then-variables-lt1 w ↦ no_units_below a.variables a.queues c.is_empty.ensures (omega arith)
+      | in_default-via-then-variables-lt1 w ↦ no_units_below a.variables a.queues c.is_empty.ensures (omega arith)
       | in_default-via-else-variables-lt1+else-variables-lt4 w ↦ no_units_above a.variables a.queues c.is_empty.ensures (omega arith)
     ]

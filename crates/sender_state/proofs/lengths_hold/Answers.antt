@@ -1,5 +1,4 @@
 -- Both tests are that of the lengths.
-use borrow.Author.Rules.{rules}
 use mathlib.Core.Path.{ap, ◌∙◌}
 use Rattle.base.specs.Choice.{both}
 use Rattle.sender_state.proofs.lengths_hold.Goals as goal

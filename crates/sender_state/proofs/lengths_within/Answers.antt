@@ -1,12 +1,7 @@
 use borrow.Author.Rules.{rules}
-use mathlib.Core.Path.{◌≡◌, refl, ap, ◌∙◌}
-use mathlib.Core.Bool.{Bool}
-use Prim.Native.Nat.{◌-◌, ◌≤◌}
+use mathlib.Core.Path.{refl, ap, ◌∙◌}
 use native.Mathlib.Omega.{arith}
-use lib.ListN.{drop}
 use Rattle.base.specs.Choice.{both}
-use Rattle.store.specs.Places.{places}
-use Rattle.sender_state.specs.State.{lengths_hold}
 use Rattle.sender_state.proofs.Kept.{within_next, within_end}
 use Rattle.sender_state.proofs.lengths_within.Goals as goal
 

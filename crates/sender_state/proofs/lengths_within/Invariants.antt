@@ -1,14 +1,10 @@
 -- The tests so far and those of what is left are those of the whole.
-use borrow.Author.Rules.{rules}
-use mathlib.Core.Path.{◌≡◌, refl, ap, ◌∙◌}
-use mathlib.Core.Bool.{Bool}
+use mathlib.Core.Path.{◌≡◌}
 use Prim.Native.Nat.{◌-◌, ◌≤◌}
-use native.Mathlib.Omega.{arith}
 use lib.ListN.{drop}
 use Rattle.base.specs.Choice.{both}
 use Rattle.store.specs.Places.{places}
 use Rattle.sender_state.specs.State.{lengths_hold}
-use Rattle.sender_state.proofs.Kept.{within_next, within_end}
 use Rattle.sender_state.proofs.lengths_within.Given as goal
 
 abbrev pub invariant-loop-i : goal.invariant-loop-i

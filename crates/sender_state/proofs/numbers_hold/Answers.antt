@@ -1,5 +1,4 @@
 -- The tests on the way decide each check, on the difference of V(S) and NN(R).
-use borrow.Author.Rules.{rules}
 use mathlib.Core.Bool.{false}
 use lib.Dec.{leb}
 use Rattle.base.proofs.Tests.{tests}

@@ -1,6 +1,5 @@
 -- The state told picks the tests that decide.
 use Rattle.sender_state.proofs.Kept.{in_s1, in_s2, in_s3, in_s4, in_s5, in_s6}
-use borrow.Author.Rules.{rules}
 use Rattle.sender_state.proofs.state_holds.Goals as goal
 
 pub returns-in-S1 : goal.returns-in-S1

@@ -1,5 +1,4 @@
 -- The unit waiting is one more.
-use borrow.Author.Rules.{rules}
 use mathlib.Core.Path.{sym, ap, ◌∙◌}
 use native.Mathlib.Numerals.{add-one}
 use Rattle.sender_values.specs.Actions.{units_held}

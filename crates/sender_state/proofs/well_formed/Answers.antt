@@ -1,6 +1,5 @@
 -- Each test decides its part.
-use borrow.Author.Rules.{rules, length_unmapped}
-use borrow.Author.Tests.{not-true, not-false}
+use borrow.Author.Rules.{rules}
 use mathlib.Core.Path.{◌≡◌, refl, sym, ◌∙◌}
 use lib.ListN.{length}
 use Rattle.store.specs.Places.{places}

@@ -3,7 +3,6 @@ use mathlib.Core.Path.{refl}
 use Rattle.fop.specs.Table.{table78}
 use Rattle.sender_table.specs.Numbers.{number_of, state_numbered, asked_by, cell_if}
 use Rattle.sender_table.proofs.Cells.{tells}
-use borrow.Author.Rules.{rules}
 use Rattle.sender_table.proofs.cell.Goals as goal
 
 pub cell_in-requires : goal.cell_in-requires

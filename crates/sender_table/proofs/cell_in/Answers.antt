@@ -2,7 +2,6 @@
 use mathlib.Core.Path.{◌∙◌}
 use native.Mathlib.Omega.{arith}
 use Rattle.sender_table.proofs.Places.{place_below, column_below}
-use borrow.Author.Rules.{rules}
 use Rattle.sender_table.proofs.cell_in.Goals as goal
 
 pub offset_bounds-rows-place : goal.offset_bounds-rows-place

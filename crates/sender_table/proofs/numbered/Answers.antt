@@ -1,5 +1,5 @@
 -- The six numbers, place by place: the first five are the actions, the last is the next state's.
-use mathlib.Core.Path.{◌≡◌, ap₂}
+use mathlib.Core.Path.{ap₂}
 use mathlib.Core.List.{List}
 use Prim.Native.Nat.{ℕ}
 use Rattle.fop.specs.declared.State.{State}

@@ -1,6 +1,5 @@
 -- Each range of numbers is a case of the definition.
 use Rattle.base.proofs.Tests.{tests}
-use borrow.Author.Rules.{rules}
 use Rattle.sender_table.proofs.place.Goals as goal
 
 pub returns-then-event-lt47 : goal.returns-then-event-lt47

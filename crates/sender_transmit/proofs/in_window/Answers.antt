@@ -1,6 +1,6 @@
 -- What the callees ensure, put together, is the definition.
 use Rattle.sender_values.specs.Actions.{in_window}
-use Rattle.std.proofs.Common.{ℕ, ltb, ap, rules}
+use Rattle.std.proofs.Common.{ℕ, ltb, ap}
 use Rattle.sender_transmit.proofs.in_window.Goals as goal
 
 pub returns : goal.returns

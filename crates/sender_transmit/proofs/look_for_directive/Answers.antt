@@ -1,7 +1,6 @@
 -- Each way through the function is a case of the definition.
 use Rattle.sender_values.specs.Actions.{look_for_directive_of}
 use Rattle.sender_transmit.proofs.Ways.{directive_none}
-use Rattle.std.proofs.Common.{rules}
 use Rattle.sender_transmit.proofs.look_for_directive.Goals as goal
 
 pub returns-in-None : goal.returns-in-None

@@ -1,6 +1,5 @@
 -- Each way through the function is a case of the definition.
 use Rattle.sender_transmit.proofs.Ways.{look_marked, look_new, look_full, look_none, look_not_ready}
-use Rattle.std.proofs.Common.{rules}
 use Rattle.sender_transmit.proofs.look_for_fdu.Goals as goal
 
 pub returns-then-work-gt0 : goal.returns-then-work-gt0

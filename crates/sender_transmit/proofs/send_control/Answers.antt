@@ -1,7 +1,6 @@
 -- What the callees ensure, put together, is the definition.
 use Rattle.sender_values.specs.Parts.{with_variables, with_queues}
 use Rattle.sender_values.specs.Actions.{send_control, hold_control}
-use Rattle.std.proofs.Common.{rules}
 use Rattle.sender_transmit.proofs.send_control.Goals as goal
 
 pub returns : goal.returns

@@ -1,5 +1,5 @@
 -- What the callees ensure, put together, is the definition.
-use Rattle.std.proofs.Common.{◌≡◌, rules}
+use Rattle.std.proofs.Common.{◌≡◌}
 use Rattle.base.specs.Modulo.{offset}
 use Rattle.sender_values.specs.Parts.{with_queues, with_variables}
 use Rattle.sender_values.specs.Actions.{send_marked}

@@ -1,6 +1,5 @@
 -- Each way through the function is a case of the definition.
 use Rattle.sender_transmit.proofs.Ways.{control_marked_lem, control_unmarked, control_not_ready}
-use Rattle.std.proofs.Common.{rules}
 use Rattle.sender_transmit.proofs.send_marked_control.Goals as goal
 
 pub returns-then-marked : goal.returns-then-marked

@@ -1,6 +1,5 @@
 -- What the callees ensure, put together, is the definition.
 use Rattle.sender_values.specs.Actions.{transmit_set_vr}
-use Rattle.std.proofs.Common.{rules}
 use Rattle.sender_transmit.proofs.transmit_set_vr.Goals as goal
 
 pub returns : goal.returns

@@ -1,5 +1,4 @@
 -- The need is the definition's product.
-use borrow.Author.Rules.{rules}
 use mathlib.Core.Path.{ap}
 use Prim.Native.Nat.{ℕ, ◌+◌, ◌*◌}
 use Rattle.base.specs.Limits.{largest_unit}

@@ -1,5 +1,4 @@
 -- The store suffices where its length is at least the need.
-use borrow.Author.Rules.{rules}
 use mathlib.Core.Path.{ap}
 use Prim.Native.Nat.{ℕ}
 use lib.Dec.{leb}

@@ -1,5 +1,4 @@
 -- What `frame::read` answered to the address narrowed, told by `told_reading`.
-use borrow.Author.Rules.{rules}
 use mathlib.Core.Path.{◌∙◌}
 use Rattle.pondreszi.proofs.Narrowed.{reading_narrowed}
 use Rattle.pondreszi.proofs.frames.pondreszi_frame_read.Goals as goal

@@ -1,5 +1,4 @@
 -- What `write_bd` answered to the address narrowed, told by `told_written`.
-use borrow.Author.Rules.{rules}
 use Rattle.pondreszi_numbers.proofs.Told.{told_as}
 use Rattle.pondreszi.proofs.Narrowed.{frame_narrowed}
 use Rattle.pondreszi.proofs.frames.pondreszi_frame_write_bd.Goals as goal

@@ -1,5 +1,4 @@
 -- What `write_set_vr` answered to the numbers narrowed, told by `told_written`.
-use borrow.Author.Rules.{rules}
 use Rattle.pondreszi_numbers.proofs.Told.{told_as}
 use Rattle.pondreszi.proofs.Narrowed.{set_vr_narrowed}
 use Rattle.pondreszi.proofs.frames.pondreszi_frame_write_set_vr.Goals as goal

@@ -1,5 +1,4 @@
 -- What `write_unlock` answered to the address narrowed, told by `told_written`.
-use borrow.Author.Rules.{rules}
 use Rattle.frame.specs.Frame.{unlock_command}
 use Rattle.pondreszi_numbers.proofs.Told.{told_as}
 use Rattle.pondreszi.proofs.Narrowed.{frame_narrowed}

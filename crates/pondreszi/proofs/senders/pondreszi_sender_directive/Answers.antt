@@ -1,5 +1,4 @@
 -- The call for any event, of the directive narrowed.
-use borrow.Author.Rules.{rules}
 use mathlib.Core.List.{[]}
 use Rattle.pondreszi_sender.proofs.SenderCalls.{directive_called}
 use Rattle.pondreszi.proofs.senders.pondreszi_sender_directive.Goals as goal

@@ -1,5 +1,4 @@
 -- The number is none, or the call for any event, of an answer of the lower layer.
-use borrow.Author.Rules.{rules}
 use native.Mathlib.Omega.{arith}
 use mathlib.Core.List.{[]}
 use Rattle.pondreszi_sender.proofs.SenderCalls.{lower_below, lower_above, lower_within}

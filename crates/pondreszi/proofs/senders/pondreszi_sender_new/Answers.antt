@@ -1,5 +1,4 @@
 -- The start is refused, its state does not fit, or it is put at the front of the buffer.
-use borrow.Author.Rules.{rules}
 use native.Mathlib.Omega.{arith}
 use Rattle.pondreszi_sender.specs.Senders.{new_call}
 use Rattle.pondreszi_sender.proofs.SenderCalls.{start_refused, start_no_room, start_done}

@@ -1,5 +1,4 @@
 -- The call for any event, of a tick.
-use borrow.Author.Rules.{rules}
 use Rattle.sender.specs.Events.{event_of}
 use Rattle.pondreszi_sender.specs.Senders.{event_call, tick_call}
 use Rattle.pondreszi.proofs.senders.pondreszi_sender_tick.Goals as goal

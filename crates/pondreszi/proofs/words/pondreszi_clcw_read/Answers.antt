@@ -1,5 +1,4 @@
 -- What `Clcw::read` answered to the channel narrowed, told by `told_reading`.
-use borrow.Author.Rules.{rules}
 use mathlib.Core.Path.{◌∙◌}
 use Rattle.pondreszi.proofs.Narrowed.{word_reading_narrowed}
 use Rattle.pondreszi.proofs.words.pondreszi_clcw_read.Goals as goal

@@ -1,5 +1,4 @@
 -- What `write` answered to the numbers narrowed, told by `told_written`.
-use borrow.Author.Rules.{rules}
 use mathlib.Core.Bool.{not}
 use lib.Dec.{eqb}
 use Rattle.pondreszi_numbers.proofs.Told.{told_as}

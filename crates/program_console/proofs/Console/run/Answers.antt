@@ -1,11 +1,9 @@
-use borrow.Author.Rules.{rules}
-use Prim.Native.Nat.{◌+◌, ◌-◌, ◌≤◌}
+use Prim.Native.Nat.{◌+◌, ◌≤◌}
 use native.Mathlib.Omega.{arith}
-use lib.ListN.{length, take}
+use lib.ListN.{length}
 use lib.Seq.{length-take-le}
 use Rattle.program_rows.specs.Rows.{row_room}
 use Rattle.program_console.specs.Feed.{progress_of}
-use Rattle.program_console.specs.Steps.{Ran}
 use Rattle.program_console.proofs.Feeding.{run_start, run_on, run_end}
 use Rattle.program_console.proofs.Console.run.Goals as goal
 

@@ -1,13 +1,8 @@
 -- The octets up to i are taken, and their rows stand at the front.
-use borrow.Author.Rules.{rules}
-use Prim.Native.Nat.{◌+◌, ◌-◌, ◌≤◌}
-use native.Mathlib.Omega.{arith}
+use Prim.Native.Nat.{◌-◌, ◌≤◌}
 use lib.ListN.{length, take}
-use lib.Seq.{length-take-le}
-use Rattle.program_rows.specs.Rows.{row_room}
 use Rattle.program_console.specs.Feed.{progress_of}
 use Rattle.program_console.specs.Steps.{Ran}
-use Rattle.program_console.proofs.Feeding.{run_start, run_on, run_end}
 use Rattle.program_console.proofs.Console.run.Given as goal
 
 abbrev pub invariant-loop-i : goal.invariant-loop-i

@@ -1,5 +1,4 @@
 -- A newline ends the line; any other octet is kept.
-use borrow.Author.Rules.{rules}
 use native.Mathlib.Omega.{arith}
 use Rattle.program_console.specs.Feed.{progress_of}
 use Rattle.program_console.proofs.Feeding.{step_keep, step_end}

@@ -1,5 +1,4 @@
 -- Each arm is the definition's case.
-use borrow.Author.Rules.{rules}
 use Rattle.program_turns.specs.Turns.{turn_of}
 use Rattle.program_turns.proofs.Told.{turn_told}
 use Rattle.program_turns.proofs.Session.turn.Goals as goal

@@ -1,5 +1,4 @@
 -- The reading picks the case: a word and an invalid one are served, the others refused.
-use borrow.Author.Rules.{rules}
 use mathlib.Core.Path.{refl}
 use Rattle.sender.proofs.Judged.{served_row, reading_told, word_served}
 use Rattle.sender.proofs.Sender.control_word.Goals as goal

@@ -1,5 +1,4 @@
 -- The invalid directive is refused; another is served by its row.
-use borrow.Author.Rules.{rules}
 use Rattle.sender.proofs.Judged.{served_row, directive_invalid, directive_served}
 use Rattle.sender.proofs.Sender.directive.Goals as goal
 

@@ -1,5 +1,4 @@
 -- The event told picks the function that serves it.
-use borrow.Author.Rules.{rules}
 use Rattle.sender.specs.Events.{event_of}
 use Rattle.sender.proofs.Judged.{event_told}
 use Rattle.sender.proofs.Sender.event.Goals as goal

@@ -1,5 +1,4 @@
 -- An answer of the lower layer is served by its event.
-use borrow.Author.Rules.{rules}
 use Rattle.sender.proofs.Judged.{served_row, lower_served}
 use Rattle.sender.proofs.Sender.lower_layer.Goals as goal
 

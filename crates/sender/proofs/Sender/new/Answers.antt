@@ -1,6 +1,4 @@
 -- The settings are judged, then the store.
-use borrow.Author.Rules.{rules}
-use borrow.Author.Tests.{not-true, not-false}
 use lib.ListN.{length}
 use Rattle.sender.proofs.Starts.{start_setting, start_store, start_done}
 use Rattle.sender.proofs.Sender.new.Goals as goal

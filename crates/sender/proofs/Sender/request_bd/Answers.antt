@@ -1,5 +1,4 @@
 -- The request is refused by its number, or taken by its row.
-use borrow.Author.Rules.{rules}
 use Rattle.sender.specs.Events.{request_bd_of}
 use Rattle.sender.proofs.Judged.{request_refused, request_taken, bd_row, bd_step}
 use Rattle.sender.proofs.Sender.request_bd.Goals as goal

@@ -1,6 +1,4 @@
 -- The state is judged, then taken as it stands.
-use borrow.Author.Rules.{rules}
-use borrow.Author.Tests.{not-true, not-false}
 use Rattle.sender.proofs.Starts.{restored, restored_not}
 use Rattle.sender.proofs.Sender.restore.Goals as goal
 

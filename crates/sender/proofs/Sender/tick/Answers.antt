@@ -1,5 +1,4 @@
 -- A tick is served by its event, of the state with the timer lowered.
-use borrow.Author.Rules.{rules}
 use Rattle.sender.proofs.Judged.{served_row, tick_served}
 use Rattle.sender.proofs.Sender.tick.Goals as goal
 

@@ -1,5 +1,4 @@
 -- The answer, field by field: the next sender and the kind of the frame are what their functions give.
-use borrow.Author.Rules.{rules}
 use Rattle.sender.specs.Answers.{answered}
 use Rattle.sender.proofs.answers.answered.Goals as goal
 

@@ -1,5 +1,4 @@
 -- What writing came to picks the answer.
-use borrow.Author.Rules.{rules}
 use Rattle.sender.proofs.Steps.{concludes}
 use Rattle.sender.proofs.answers.conclude.Goals as goal
 

@@ -1,5 +1,4 @@
 -- The answer, field by field: the event and the responses are what their functions give.
-use borrow.Author.Rules.{rules}
 use Rattle.sender.specs.Answers.{refusing}
 use Rattle.sender.proofs.answers.refused.Goals as goal
 

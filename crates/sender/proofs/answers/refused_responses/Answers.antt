@@ -1,5 +1,4 @@
 -- The test of the number picks the responses.
-use borrow.Author.Rules.{rules}
 use Rattle.base.proofs.Tests.{tests}
 use Rattle.sender_values.specs.Actions.{responses_with}
 use Rattle.sender.proofs.answers.refused_responses.Goals as goal

@@ -2,7 +2,6 @@
 use Rattle.sender_events.proofs.DirectiveRows.{initiated, initiated_by_bc, terminated, resumed, number_set, limit_set, no_directive, no_directive_above}
 use Prim.Native.Nat.{◌≤◌}
 use native.Mathlib.Omega.{arith}
-use borrow.Author.Rules.{rules}
 use Rattle.sender_events.proofs.directives.directive_event.Goals as goal
 
 pub returns-in-5 : goal.returns-in-5

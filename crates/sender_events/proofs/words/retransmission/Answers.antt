@@ -1,7 +1,6 @@
 -- Each return is one row, by the tests on the way.
 use Rattle.base.proofs.Tests.{tests}
 use Rattle.sender_events.specs.Rows.{retransmission_asked}
-use borrow.Author.Rules.{rules}
 use Rattle.sender_events.proofs.words.retransmission.Goals as goal
 
 pub returns-then-acknowledged-eq0 : goal.returns-then-acknowledged-eq0

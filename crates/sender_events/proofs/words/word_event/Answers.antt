@@ -1,6 +1,5 @@
 -- Each way through the function is a choice among the rows.
 use Rattle.sender_events.proofs.WordRows.{lockout_set, not_a_number, all_there, asked_again, some_there}
-use borrow.Author.Rules.{rules}
 use Rattle.sender_events.proofs.words.word_event.Goals as goal
 
 pub returns-then-word : goal.returns-then-word

@@ -1,5 +1,4 @@
 -- The units that stay are those held, less those that leave.
-use borrow.Author.Rules.{rules}
 use mathlib.Core.Path.{ap, ◌∙◌}
 use Prim.Native.Nat.{ℕ}
 use Rattle.store.specs.Places.{without}

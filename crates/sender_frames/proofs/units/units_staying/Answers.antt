@@ -1,5 +1,4 @@
 -- Fewer held than leave: none stays.
-use borrow.Author.Rules.{rules}
 use native.Mathlib.Omega.{arith}
 use Rattle.sender_frames.proofs.units.units_staying.Goals as goal
 

@@ -1,14 +1,10 @@
 -- The loop's invariant: the first i lengths are those read, the others are as they were.
-use borrow.Author.Rules.{rules}
-use mathlib.Core.Path.{◌≡◌, refl, sym, ◌∙◌}
+use mathlib.Core.Path.{◌≡◌}
 use mathlib.Core.List.{◌++◌}
 use Prim.Native.Nat.{◌-◌, ◌≤◌}
-use native.Mathlib.Omega.{arith}
-use lib.ListN.{length, take, drop, replicate, length-set}
-use Rattle.base.proofs.Lists.{store_by}
+use lib.ListN.{length, take, drop}
 use Rattle.store.specs.Places.{places}
 use Rattle.sender_octets.specs.Kept.{number_octets, pairs_from}
-use Rattle.sender_octets.proofs.Pairs.{length_from, from_at, filled}
 use Rattle.sender_octets.proofs.reader.lengths_in.Given as goal
 
 abbrev pub invariant-loop-i : goal.invariant-loop-i

@@ -1,5 +1,4 @@
 -- Each number is read at its place, and two flags by their bits.
-use borrow.Author.Rules.{rules}
 use Rattle.sender_octets.proofs.Parts.{queues_by}
 use Rattle.sender_octets.proofs.reader.queues_in.Goals as goal
 

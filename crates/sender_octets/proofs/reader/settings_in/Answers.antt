@@ -1,5 +1,4 @@
 -- Each setting is read at its place.
-use borrow.Author.Rules.{rules}
 use Rattle.sender_octets.proofs.Parts.{settings_by}
 use Rattle.sender_octets.proofs.reader.settings_in.Goals as goal
 

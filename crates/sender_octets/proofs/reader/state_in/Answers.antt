@@ -1,5 +1,4 @@
 -- The state is its parts.
-use borrow.Author.Rules.{rules}
 use Rattle.sender_octets.proofs.Parts.{state_by}
 use Rattle.sender_octets.proofs.reader.state_in.Goals as goal
 

@@ -1,5 +1,4 @@
 -- Each variable is read at its place, the out flags by their bits.
-use borrow.Author.Rules.{rules}
 use Rattle.sender_octets.proofs.Parts.{variables_by}
 use Rattle.sender_octets.proofs.reader.variables_in.Goals as goal
 

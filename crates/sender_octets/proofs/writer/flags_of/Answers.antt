@@ -1,5 +1,4 @@
 -- The sum of the bits, each by its weight.
-use borrow.Author.Rules.{rules}
 use native.Mathlib.Omega.{arith}
 use Rattle.sender_octets.proofs.writer.flags_of.Goals as goal
 

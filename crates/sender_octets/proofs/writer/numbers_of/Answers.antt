@@ -1,5 +1,4 @@
 -- Each octet is its part of the state.
-use borrow.Author.Rules.{rules}
 use Rattle.sender_octets.proofs.Parts.{numbers_by}
 use Rattle.sender_octets.proofs.writer.numbers_of.Goals as goal
 

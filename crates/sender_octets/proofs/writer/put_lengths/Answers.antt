@@ -1,11 +1,10 @@
 use borrow.Author.Rules.{rules}
-use mathlib.Core.Path.{◌≡◌, refl, sym, ap, ◌∙◌}
-use Prim.Native.Nat.{◌*◌, ◌-◌, ◌≤◌}
+use mathlib.Core.Path.{◌≡◌, refl, ap, ◌∙◌}
+use Prim.Native.Nat.{◌*◌}
 use native.Mathlib.Omega.{arith}
 use lib.ListN.{length, length-set}
-use lib.Seq.{paste, paste-zero, length-paste}
+use lib.Seq.{paste, paste-zero}
 use Rattle.memory.proofs.Laws.{pasted}
-use Rattle.store.specs.Places.{places}
 use Rattle.sender_octets.specs.Kept.{number_octets, pairs}
 use Rattle.sender_octets.proofs.Pairs.{length_pairs, two_stored}
 use Rattle.sender_octets.proofs.writer.put_lengths.Goals as goal

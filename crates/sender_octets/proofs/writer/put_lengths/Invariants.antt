@@ -1,14 +1,10 @@
 -- The loop's invariant: the octets of the first i lengths stand behind the numbers.
-use borrow.Author.Rules.{rules}
-use mathlib.Core.Path.{◌≡◌, refl, sym, ap, ◌∙◌}
+use mathlib.Core.Path.{◌≡◌}
 use Prim.Native.Nat.{◌*◌, ◌-◌, ◌≤◌}
-use native.Mathlib.Omega.{arith}
-use lib.ListN.{length, length-set}
-use lib.Seq.{paste, paste-zero, length-paste}
-use Rattle.memory.proofs.Laws.{pasted}
+use lib.ListN.{length}
+use lib.Seq.{paste}
 use Rattle.store.specs.Places.{places}
 use Rattle.sender_octets.specs.Kept.{number_octets, pairs}
-use Rattle.sender_octets.proofs.Pairs.{length_pairs, two_stored}
 use Rattle.sender_octets.proofs.writer.put_lengths.Given as goal
 
 abbrev pub invariant-loop-i : goal.invariant-loop-i

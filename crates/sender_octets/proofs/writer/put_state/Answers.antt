@@ -1,5 +1,4 @@
 -- The numbers and the lengths of the state are put.
-use borrow.Author.Rules.{rules}
 use mathlib.Core.Path.{ap, ◌∙◌}
 use Rattle.memory.specs.Placed.{placed}
 use Rattle.sender_octets.proofs.writer.put_state.Goals as goal

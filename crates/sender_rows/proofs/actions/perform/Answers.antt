@@ -1,5 +1,4 @@
 -- Each range of numbers is a group; a number behind the last does nothing.
-use borrow.Author.Rules.{rules}
 use Rattle.sender_rows.proofs.Numbered.{behind}
 use Rattle.sender_rows.proofs.actions.perform.Goals as goal
 

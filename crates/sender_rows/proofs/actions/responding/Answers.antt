@@ -1,7 +1,6 @@
 -- Each number's branch is its action; the last number is what the range leaves.
 use mathlib.Core.Path.{◌≡◌}
 use native.Mathlib.Omega.{arith}
-use borrow.Author.Rules.{rules}
 use Rattle.sender_table.specs.Rows.{done}
 use Rattle.sender_table.specs.Numbers.{action_of}
 use Rattle.sender_rows.proofs.Numbered.{numbered}

@@ -1,6 +1,5 @@
 -- What the callees ensure, put together, is the definition.
 use Rattle.sender_values.specs.Start.{begun}
-use Rattle.std.proofs.Common.{rules}
 use Rattle.sender_values.proofs.start.begin.Goals as goal
 
 pub returns : goal.returns

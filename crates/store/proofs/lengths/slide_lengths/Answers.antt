@@ -1,8 +1,7 @@
 use mathlib.Core.Path.{refl}
-use Prim.Native.Nat.{◌-◌}
 use native.Mathlib.Omega.{arith}
 use borrow.Author.Rules.{rules}
-use Rattle.store.proofs.Steps.{Moved, step, end, short}
+use Rattle.store.proofs.Steps.{step, end, short}
 use Rattle.store.proofs.lengths.slide_lengths.Goals as goal
 
 pub overflow_sub-rest : goal.overflow_sub-rest

@@ -1,9 +1,9 @@
 use borrow.Author.Rules.{rules}
-use mathlib.Core.Path.{◌≡◌, refl}
-use Prim.Native.Nat.{◌+◌, ◌-◌, ◌≤◌}
+use mathlib.Core.Path.{refl}
+use Prim.Native.Nat.{◌+◌}
 use native.Mathlib.Omega.{arith}
-use lib.Seq.{paste, paste-zero}
-use lib.ListN.{length, take, drop}
+use lib.Seq.{paste-zero}
+use lib.ListN.{take, drop}
 use Rattle.base.specs.Limits.{largest_unit}
 use Rattle.store.proofs.Moving.{copy_turn, copy_end}
 use Rattle.store.proofs.removal.move_next.Goals as goal

@@ -1,12 +1,9 @@
 -- The loop's invariant: the first i octets are copied; at its end all are.
-use borrow.Author.Rules.{rules}
-use mathlib.Core.Path.{◌≡◌, refl}
+use mathlib.Core.Path.{◌≡◌}
 use Prim.Native.Nat.{◌+◌, ◌-◌, ◌≤◌}
-use native.Mathlib.Omega.{arith}
-use lib.Seq.{paste, paste-zero}
+use lib.Seq.{paste}
 use lib.ListN.{length, take, drop}
 use Rattle.base.specs.Limits.{largest_unit}
-use Rattle.store.proofs.Moving.{copy_turn, copy_end}
 use Rattle.store.proofs.removal.move_next.Given as goal
 
 abbrev pub invariant-loop-i : goal.invariant-loop-i

@@ -1,11 +1,8 @@
 -- The loop's invariant: the first i octets are copied; at its end all are.
-use borrow.Author.Rules.{rules}
-use mathlib.Core.Path.{◌≡◌, refl}
+use mathlib.Core.Path.{◌≡◌}
 use Prim.Native.Nat.{◌-◌, ◌≤◌}
-use native.Mathlib.Omega.{arith}
-use lib.Seq.{paste, paste-zero}
+use lib.Seq.{paste}
 use lib.ListN.{length, take, drop}
-use Rattle.store.proofs.Moving.{copy_turn, copy_end}
 use Rattle.store.proofs.removal.move_octets.Given as goal
 
 abbrev pub invariant-loop-i : goal.invariant-loop-i

@@ -1,7 +1,6 @@
 -- A unit that is not empty lies within the store, and its octets are copied down; an empty one leaves the store as it is.
-use borrow.Author.Rules.{rules}
 use mathlib.Core.Path.{◌≡◌, ap, ◌∙◌}
-use Prim.Native.Nat.{ℕ, ◌+◌, ◌*◌, ◌<◌}
+use Prim.Native.Nat.{ℕ, ◌+◌}
 use native.Mathlib.Omega.{arith}
 use lib.ListN.{take, drop, length}
 use Rattle.base.specs.Limits.{largest_unit}

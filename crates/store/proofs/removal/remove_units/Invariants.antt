@@ -1,12 +1,8 @@
 -- No unit removed leaves the store as it is. The loop's invariant: the first i units are moved; at its end all are.
-use borrow.Author.Rules.{rules}
-use mathlib.Core.Path.{◌≡◌, refl, sym, ap, ◌∙◌}
-use Prim.Native.Nat.{ℕ, ◌-◌, ◌≤◌}
-use native.Mathlib.Omega.{arith}
+use mathlib.Core.Path.{◌≡◌}
+use Prim.Native.Nat.{◌-◌, ◌≤◌}
 use lib.ListN.{length}
 use Rattle.store.specs.Places.{without}
-use Rattle.store.proofs.Moving.{without_none, without_next}
-use Rattle.store.proofs.Laws.{without_length}
 use Rattle.store.proofs.removal.remove_units.Given as goal
 
 abbrev pub invariant-loop-i : goal.invariant-loop-i

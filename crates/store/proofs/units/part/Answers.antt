@@ -1,5 +1,4 @@
 -- A part that begins behind the end is empty; one that ends behind it is the rest.
-use borrow.Author.Rules.{rules}
 use native.Mathlib.Omega.{arith}
 use Rattle.store.proofs.Cut.{part_beyond, part_rest, part_within}
 use Rattle.store.proofs.units.part.Goals as goal

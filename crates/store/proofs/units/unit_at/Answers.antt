@@ -1,5 +1,4 @@
 -- A place behind the store's end has no unit; else the unit is the part of its length at its place.
-use borrow.Author.Rules.{rules}
 use mathlib.Core.Path.{ap, ◌∙◌}
 use Prim.Native.Nat.{ℕ}
 use native.Mathlib.Omega.{arith}
