@@ -212,7 +212,7 @@ state_well x octets is =
 -- every place has a length
 places_all : (own : Own) (s : SenderState) → Well own s → length s.lengths ≡ places
 unfolding begun
-places_all own s w = (well_good own s w).formed.all_places_lem
+places_all own s w = (well_good own s w).formed.all_places
 
 -- a sender's octets, in a buffer of a state
 pub octets_kept : (own : Own) (s : SenderState) → Well own s → (is_state (octets_of s) ≡ true) × (state_in (octets_of s) ≡ s)

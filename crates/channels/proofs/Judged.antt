@@ -1,5 +1,5 @@
--- Each event by what the code judges, in its order: the table first, then the channel, then the frame (`frame-..`), the record (`release-..`) or the
--- room of the output (`word-..`). A frame of a channel that has no record is read at a channel that no frame has, and so refused.
+-- Each event by what the code judges, in its order: the table first, then the channel, then the frame (`frame_..`), the record (`release_..`) or the
+-- room of the output (`word_..`). A frame of a channel that has no record is read at a channel that no frame has, and so refused.
 use mathlib.Core.Path.{◌≡◌, refl, sym, ap, ◌∙◌}
 use mathlib.Core.Bool.{Bool, true, false}
 use mathlib.Core.List.{List}

@@ -242,12 +242,12 @@ module _ (own : Own) (s : SenderState) (store : List ℕ) (lent : ℕ) (well : W
   unfolding begun
   ticked_good good = record {
     formed = good.formed;
-    window_least_lem = good.window_least_lem;
+    window_least = good.window_least;
     window = good.window;
     clock_least = good.clock_least;
-    limit_least_lem = good.limit_least_lem;
+    limit_least = good.limit_least;
     limit = good.limit;
-    count_least_lem = good.count_least_lem;
+    count_least = good.count_least;
     count_most = good.count_most;
     type_most = good.type_most;
     suspend_most = good.suspend_most;

@@ -114,7 +114,7 @@ module _ (own : Own) (o : List ℕ) (s : SenderState) (store : List ℕ) (lent :
 
   few : s.queues.sent < length s.lengths
   unfolding begun
-  few = omega (arith, good.formed.sent_most, good.formed.all_places_lem)
+  few = omega (arith, good.formed.sent_most, good.formed.all_places)
 
   fits_store : place_offset s.queues.sent + length o ≤ length store
   unfolding begun

@@ -134,13 +134,13 @@ pub good_passes : (own : Own) (s : SenderState) (store : List ℕ) → Good own 
 unfolding well_formed begun
 good_passes own s store g =
     joined _ _
-    (settings_test s.settings g.window_least_lem g.window g.clock_least g.limit_least_lem g.type_most
+    (settings_test s.settings g.window_least g.window g.clock_least g.limit_least g.type_most
     (omega (arith, g.spacecraft, g.spacecraft_most)) (omega (arith, g.channel, g.channel_most)))
     (joined _ _
     (joined _ _ (le-leb s.queues.sent largest_k g.formed.sent_most)
     (joined _ _ (le-leb s.queues.sent (offset s.variables.vs s.variables.nnr) g.formed.outstanding)
     (joined _ _ (le-leb s.queues.marked s.queues.sent g.formed.last)
-    (joined _ _ (le-leb 1 s.variables.transmission_count g.count_least_lem) (le-leb s.variables.suspend_state largest_suspend_state g.suspend_most)))))
+    (joined _ _ (le-leb 1 s.variables.transmission_count g.count_least) (le-leb s.variables.suspend_state largest_suspend_state g.suspend_most)))))
     (joined _ _
     (state_test s.variables s.queues s.state g.suspend_initial (λ m. (g.sent_main m, g.waiting_main m)) g.stopped g.control_s5)
     (lengths_test (units_held s.queues.sent s.queues.waiting) s.lengths g.formed.units (λ i h k. g.filled i h))))
@@ -185,16 +185,16 @@ passes_good s store z long t =
         sent_most = leb-true q.sent largest_k (left _ _ numbers);
         outstanding = leb-true q.sent x (left _ _ h);
         last = leb-true q.marked q.sent (left _ _ i);
-        all_places_lem = z.lengths;
+        all_places = z.lengths;
         units = lengths_most (units_held q.sent q.waiting) s.lengths units;
         room = long;
       };
-      window_least_lem = leb-true 1 g.k (left _ _ settings);
+      window_least = leb-true 1 g.k (left _ _ settings);
       window = leb-true g.k largest_k (left _ _ a);
       clock_least = leb-true 1 g.t1_initial (left _ _ b);
-      limit_least_lem = leb-true 1 g.transmission_limit (left _ _ c);
+      limit_least = leb-true 1 g.transmission_limit (left _ _ c);
       limit = z.limit;
-      count_least_lem = leb-true 1 v.transmission_count (left _ _ j);
+      count_least = leb-true 1 v.transmission_count (left _ _ j);
       count_most = z.count;
       type_most = leb-true g.timeout_type largest_timeout_type (left _ _ d);
       suspend_most = leb-true v.suspend_state largest_suspend_state k;

@@ -88,7 +88,7 @@ module _ (own : Own) (e : FopEvent) (n : ℕ) (s g : SenderState) (store : List 
   unit_is i h =
       let before : all_held ≤ places = omega (arith, held_most s.queues.sent s.queues.waiting, good.formed.sent_most) in
       let stay : i < all_held - count = omega (arith, h, kept_all, held_least w.queues.sent w.queues.waiting) in
-      let few : count + (all_held - count) ≤ length s.lengths = omega (arith, before, stay, good.formed.all_places_lem) in
+      let few : count + (all_held - count) ≤ length s.lengths = omega (arith, before, stay, good.formed.all_places) in
       let turned : i + count ≡ count + i = omega arith in
       ap (λ (k : ℕ). unit_at s.lengths k store) turned
       ∙ sym (without_unit s.lengths count store good.formed.units (all_held - count) i stay few (omega (arith, held_most s.queues.sent s.queues.waiting, stay, larger_second s.settings.k s.queues.sent, good.formed.room)))

@@ -54,16 +54,16 @@ widened_good own s store g k least most other room = record {
     sent_most = g.formed.sent_most;
     outstanding = g.formed.outstanding;
     last = g.formed.last;
-    all_places_lem = g.formed.all_places_lem;
+    all_places = g.formed.all_places;
     units = g.formed.units;
     room = room;
   };
-  window_least_lem = least;
+  window_least = least;
   window = most;
   clock_least = g.clock_least;
-  limit_least_lem = g.limit_least_lem;
+  limit_least = g.limit_least;
   limit = g.limit;
-  count_least_lem = g.count_least_lem;
+  count_least = g.count_least;
   count_most = g.count_most;
   type_most = g.type_most;
   suspend_most = g.suspend_most;
@@ -81,7 +81,7 @@ widened_good own s store g k least most other room = record {
 
 -- a sender that is well-formed with one store is so with every store that suffices
 pub good_well : {own : Own} {s : SenderState} {store : List ℕ} → Good own s store → Well own s
-good_well {own} {s} {store} g other room = widened_good own s store g s.settings.k g.window_least_lem g.window other room
+good_well {own} {s} {store} g other room = widened_good own s store g s.settings.k g.window_least g.window other room
 
 -- and there is such a store
 pub well_good : (own : Own) (s : SenderState) → Well own s → Good own s (replicate (need_of s) 0)

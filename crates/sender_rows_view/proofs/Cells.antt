@@ -189,12 +189,12 @@ module _ (x : Case) (good : Good x.own x.sender x.store) (meets : Needed (brings
         denied = ap (λ (k : machine.Work). run_of k.denied) h.is ∙ e.runs.of_denied;
         good = record {
           formed = h.formed;
-          window_least_lem = e.settled.window_least_lem;
+          window_least = e.settled.window_least;
           window = e.settled.in_window;
           clock_least = e.settled.clock_least;
-          limit_least_lem = e.settled.limit_least_lem;
+          limit_least = e.settled.limit_least;
           limit = e.settled.in_limit;
-          count_least_lem = e.counted.least;
+          count_least = e.counted.least;
           count_most = e.counted.most;
           type_most = e.settled.type_most;
           suspend_most = leb-true n largest_suspend_state (both_left _ _ f);

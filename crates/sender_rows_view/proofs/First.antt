@@ -59,7 +59,7 @@ module _ (x : Case) (good : Good x.own x.sender x.store) where
       let w = begun x.sender in
       let there : removed n w + i < units_held q.sent q.waiting =
       held_past q.sent (staying n w) (removed n w) i q.waiting (gone_is w x.sender.lengths x.store n good.formed) (least_first q.sent (offset w.variables.vs n)) h in
-      let some_place : removed n w + i < length x.sender.lengths = omega (arith, there, held_most q.sent q.waiting, sent_few, good.formed.all_places_lem) in
+      let some_place : removed n w + i < length x.sender.lengths = omega (arith, there, held_most q.sent q.waiting, sent_few, good.formed.all_places) in
       rw (slid_at (removed n w) i x.sender.lengths some_place) (good.filled (removed n w + i) there)
 
   no_more_moved : (n : ℕ) → NoMore x moved (removed n (begun x.sender)) (staying n (begun x.sender)) x.sender.queues.waiting
@@ -117,7 +117,7 @@ module _ (x : Case) (good : Good x.own x.sender x.store) where
         (good.filled i (held_waiting x.sender.queues.sent i x.sender.queues.waiting k))
     by false e =
         let k : i ≡ x.sender.queues.sent = omega (arith, ltb-false i x.sender.queues.sent e) in
-        let here : i < length x.sender.lengths = omega (arith, sent_few, good.formed.all_places_lem) in
+        let here : i < length x.sender.lengths = omega (arith, sent_few, good.formed.all_places) in
         rw (← k, get_or-set_same x.sender.lengths i (length x.octets) 0 here) o
 
   adds : (f : Bool) (z : Idle) (m : machine.Work) → Fresh x f z (begun x.sender) m → 1 ≤ length x.octets → length x.octets ≤ largest_unit

@@ -72,10 +72,10 @@ LengthsIs x p count lengths =
 -- the settings; k is the sender's K before the event, which no event changes (Set K is done to a sender that has the new K)
 pub record Settled (own : Own) (k : ℕ) (g : Settings) : Type 0 where
   pub same_window : g.k ≡ k
-  pub window_least_lem : 1 ≤ g.k
+  pub window_least : 1 ≤ g.k
   pub in_window : g.k ≤ largest_k
   pub clock_least : 1 ≤ g.t1_initial
-  pub limit_least_lem : 1 ≤ g.transmission_limit
+  pub limit_least : 1 ≤ g.transmission_limit
   pub in_limit : g.transmission_limit ≤ largest_transmission_limit
   pub type_most : g.timeout_type ≤ largest_timeout_type
   pub own_spacecraft_lem : g.spacecraft ≡ own.spacecraft
@@ -236,10 +236,10 @@ module _ {x : Case} {p : Stored} {z : Idle} {store : List ℕ} {c d : List Fdu} 
 pub good_settled : {own : Own} {s : SenderState} {store : List ℕ} → Good own s store → Settled own s.settings.k s.settings
 good_settled g = record {
   same_window = refl;
-  window_least_lem = g.window_least_lem;
+  window_least = g.window_least;
   in_window = g.window;
   clock_least = g.clock_least;
-  limit_least_lem = g.limit_least_lem;
+  limit_least = g.limit_least;
   in_limit = g.limit;
   type_most = g.type_most;
   own_spacecraft_lem = g.spacecraft;
@@ -247,7 +247,7 @@ good_settled g = record {
 }
 
 pub good_counted : {own : Own} {s : SenderState} {store : List ℕ} → Good own s store → Counted s.variables.transmission_count
-good_counted g = record { least = g.count_least_lem; most = g.count_most }
+good_counted g = record { least = g.count_least; most = g.count_most }
 
 -- Transmission_Count 1, or one more than it was
 pub counts_one : Counted 1

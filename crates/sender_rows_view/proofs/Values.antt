@@ -89,10 +89,10 @@ module _ (x : Case) (w : Work) (m : machine.Work) {p : Stored} {f : Bool} {z : I
       (well.set_k_lem w h.lengths h.store h.formed (x.value % 256) (s.same_window ∙ sym n ∙ sym octet))
       (resettled e (record {
         same_window = octet ∙ n;
-        window_least_lem = omega (arith, octet, n, s.same_window, s.window_least_lem);
+        window_least = omega (arith, octet, n, s.same_window, s.window_least);
         in_window = omega (arith, octet, n, s.same_window, s.in_window);
         clock_least = s.clock_least;
-        limit_least_lem = s.limit_least_lem;
+        limit_least = s.limit_least;
         in_limit = s.in_limit;
         type_most = s.type_most;
         own_spacecraft_lem = s.own_spacecraft_lem;
@@ -106,10 +106,10 @@ module _ (x : Case) (w : Work) (m : machine.Work) {p : Stored} {f : Bool} {z : I
       goes_on h table.SetT1Initial (act.set_t1_initial x.value w) h.d (values.set_t1_initial_lem _ _ _ _ _ w h.lengths h.store) h.formed
       (resettled e (record {
         same_window = s.same_window;
-        window_least_lem = s.window_least_lem;
+        window_least = s.window_least;
         in_window = s.in_window;
         clock_least = n;
-        limit_least_lem = s.limit_least_lem;
+        limit_least = s.limit_least;
         in_limit = s.in_limit;
         type_most = s.type_most;
         own_spacecraft_lem = s.own_spacecraft_lem;
@@ -127,10 +127,10 @@ module _ (x : Case) (w : Work) (m : machine.Work) {p : Stored} {f : Bool} {z : I
       h.formed
       (resettled e (record {
         same_window = s.same_window;
-        window_least_lem = s.window_least_lem;
+        window_least = s.window_least;
         in_window = s.in_window;
         clock_least = s.clock_least;
-        limit_least_lem = omega (arith, n.0, n.1);
+        limit_least = omega (arith, n.0, n.1);
         in_limit = omega (arith, n.1);
         type_most = s.type_most;
         own_spacecraft_lem = s.own_spacecraft_lem;
@@ -147,10 +147,10 @@ module _ (x : Case) (w : Work) (m : machine.Work) {p : Stored} {f : Bool} {z : I
       h.formed
       (resettled e (record {
         same_window = s.same_window;
-        window_least_lem = s.window_least_lem;
+        window_least = s.window_least;
         in_window = s.in_window;
         clock_least = s.clock_least;
-        limit_least_lem = s.limit_least_lem;
+        limit_least = s.limit_least;
         in_limit = s.in_limit;
         type_most = omega (arith, n);
         own_spacecraft_lem = s.own_spacecraft_lem;

@@ -40,12 +40,12 @@ effective s = effective_of s.state s.variables.suspend_state
 -- Initialising with BC frame, and only there; each unit held has an octet.
 pub record Good (own : Own) (s : SenderState) (store : List ℕ) : Type 0 where
   pub formed : WellFormed (begun s) s.lengths store
-  pub window_least_lem : 1 ≤ s.settings.k
+  pub window_least : 1 ≤ s.settings.k
   pub window : s.settings.k ≤ largest_k
   pub clock_least : 1 ≤ s.settings.t1_initial
-  pub limit_least_lem : 1 ≤ s.settings.transmission_limit
+  pub limit_least : 1 ≤ s.settings.transmission_limit
   pub limit : s.settings.transmission_limit ≤ largest_transmission_limit
-  pub count_least_lem : 1 ≤ s.variables.transmission_count
+  pub count_least : 1 ≤ s.variables.transmission_count
   pub count_most : s.variables.transmission_count ≤ largest_transmission_limit
   pub type_most : s.settings.timeout_type ≤ largest_timeout_type
   pub suspend_most : s.variables.suspend_state ≤ largest_suspend_state

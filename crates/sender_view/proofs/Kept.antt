@@ -141,7 +141,7 @@ module _ (w : Work) (lengths store : List ℕ) (well : WellFormed w lengths stor
     sent_most = le_trans few well.sent_most;
     outstanding = le_trans few well.outstanding;
     last = last;
-    all_places_lem = well.all_places_lem;
+    all_places = well.all_places;
     units = well.units;
     room = le_trans (need_fewer w.settings.k sent w.queues.sent few) well.room;
   }
@@ -184,7 +184,7 @@ module _ (w : Work) (lengths store : List ℕ) (well : WellFormed w lengths stor
         sent_most = rw c (omega (arith, a, well.outstanding));
         outstanding = rw (b, c) (omega (arith, well.outstanding));
         last = rw c (omega (arith, well.last));
-        all_places_lem = well.all_places_lem;
+        all_places = well.all_places;
         units = well.units;
         room = le_trans (need_window w.settings.k w.queues.sent (advanced w.queues.sent 1) (rw c (omega (arith, inside, well.outstanding)))) well.room;
       }
@@ -242,7 +242,7 @@ set_numbers w lengths store n well z h = record {
   sent_most = well.sent_most;
   outstanding = omega (arith, z);
   last = well.last;
-  all_places_lem = well.all_places_lem;
+  all_places = well.all_places;
   units = well.units;
   room = well.room;
 }
@@ -263,7 +263,7 @@ module _ (w : Work) (lengths store : List ℕ) (well : WellFormed w lengths stor
     sent_most = le_trans (least_first w.queues.sent (offset w.variables.vs n)) well.sent_most;
     outstanding = least_second w.queues.sent (offset w.variables.vs n);
     last = least_second w.queues.marked (staying n w);
-    all_places_lem = slid_length gone lengths ∙ well.all_places_lem;
+    all_places = slid_length gone lengths ∙ well.all_places;
     units = slid_short gone lengths well.units;
     room = rw (without_length lengths gone store kept)
         (le_trans (need_fewer w.settings.k _ w.queues.sent (least_first w.queues.sent (offset w.variables.vs n))) well.room);
@@ -279,7 +279,7 @@ module _ (w : Work) (lengths store : List ℕ) (well : WellFormed w lengths stor
     sent_most = well.sent_most;
     outstanding = well.outstanding;
     last = well.last;
-    all_places_lem = length-set lengths w.queues.sent (length o) ∙ well.all_places_lem;
+    all_places = length-set lengths w.queues.sent (length o) ∙ well.all_places;
     units = set_short lengths w.queues.sent (length o) h well.units;
     room = rw (put_length lengths store o w.queues.sent) well.room;
   }

@@ -79,7 +79,7 @@ module _ (e : Option FopEvent) (o : List ℕ) (n : ℕ) (d : List Fdu) (w : Work
   rest_few = least_first w.queues.sent (offset w.variables.vs n)
 
   kept_few : gone + kept ≤ length lengths
-  kept_few = omega (arith, well.all_places_lem, well.sent_most, held_most w.queues.sent w.queues.waiting)
+  kept_few = omega (arith, well.all_places, well.sent_most, held_most w.queues.sent w.queues.waiting)
 
   kept_room : place_offset (gone + kept) ≤ length store
   kept_room = omega (arith, well.room, larger_second w.settings.k w.queues.sent, held_most w.queues.sent w.queues.waiting)

@@ -49,7 +49,7 @@ module _ (e : Option FopEvent) (o : List ℕ) (n : ℕ) (c d : List Fdu) (w : Wo
   add_to_wait_queue_lem =
       let q = w.queues in
       let v = w.variables in
-      let few : q.sent < length lengths = omega (arith, well.sent_most, well.all_places_lem) in
+      let few : q.sent < length lengths = omega (arith, well.sent_most, well.all_places) in
       let room : place_offset q.sent + length o ≤ length store = omega (arith, well.room, larger_second w.settings.k q.sent, legal) in
       let more = set lengths q.sent (length o) in
       let after = unit_put q.sent o store in

@@ -106,7 +106,7 @@ pub record Formed (k vs nnr sent marked : ℕ) (lengths store : List ℕ) : Type
   pub sent_most : sent ≤ largest_k
   pub outstanding : sent ≤ offset vs nnr
   pub last : marked ≤ sent
-  pub all_places_lem : length lengths ≡ places
+  pub all_places : length lengths ≡ places
   pub units : (i : ℕ) → get_or lengths i 0 ≤ largest_unit
   pub room : store_need k sent ≤ length store
 
