@@ -121,7 +121,7 @@ module _ (set : Settings) (within : Within set) (v : ℕ) (octet : v ≤ largest
 
   pub limits_hold : settings_hold (sender_settings set) ≡ true
   limits_hold =
-      settings_test (sender_settings set) within.window_least within.window_most within.timer_least within.limit_least within.timeout_most
+      settings_test (sender_settings set) (omega (arith, within.window_least)) (omega (arith, within.window_most)) within.timer_least within.limit_least within.timeout_most
       within.spacecraft within.channel
 
   pub starts : starting_of (sender_settings set) v v (length store) ≡ record { refusal = 0; sender = record { fop = first } }

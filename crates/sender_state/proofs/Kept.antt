@@ -79,6 +79,13 @@ filled_end s i held b h =
     let n : held - i ≡ 0 = omega arith in
     sym (ap (λ (m : ℕ). both b (filled m (drop i s))) n ∙ both_true b)
 
+-- more units than there are lengths are as many as there are
+pub all_held : (s : List ℕ) (n : ℕ) → length s ≤ n → lengths_hold (length s) s ≡ lengths_hold n s
+all_held [] zero h = refl
+all_held [] (suc n) h = refl
+all_held (x ∷ s) zero h = absurd (omega arith)
+all_held (x ∷ s) (suc n) h = ap (λ (b : Bool). both (leb 1 x) (both (leb x largest_unit) b)) (all_held s n (omega arith))
+
 -- where the counts hold, the units held have places
 pub held_places : (v : Variables) (q : Queues) (n : ℕ) → numbers_hold v q ≡ true → n ≡ units_held q.sent q.waiting → n ≤ places
 held_places v q n h e = go q.waiting e where

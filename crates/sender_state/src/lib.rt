@@ -170,12 +170,12 @@ fn lengths_filled(lengths: &[u16; PLACES], held: usize) -> bool
     filled
 }
 
-// Both.
+// Both; more units than there are lengths are as many as there are.
 fn lengths_hold(lengths: &[u16; PLACES], held: usize) -> bool
-    requires { (held ≤ places) × (length lengths.now ≡ places) }
     ensures { result ≡ lengths_hold held lengths.now }
 {
-    let filled = lengths_filled(lengths, held);
+    let first = if PLACES < held { PLACES } else { held };
+    let filled = lengths_filled(lengths, first);
     let within = lengths_within(lengths);
     both(filled, within)
 }

@@ -1,9 +1,6 @@
 -- Each test decides its part.
-use borrow.Author.Rules.{rules}
-use mathlib.Core.Path.{◌≡◌, refl, sym, ◌∙◌}
-use lib.ListN.{length}
-use Rattle.store.specs.Places.{places}
-use Rattle.sender_state.proofs.Kept.{held_places, settings_fail, numbers_fail, state_fails, by_lengths}
+use mathlib.Core.Path.{refl}
+use Rattle.sender_state.proofs.Kept.{settings_fail, numbers_fail, state_fails, by_lengths}
 use Rattle.sender_state.proofs.well_formed.Goals as goal
 
 pub returns-then-not-settings_hold : goal.returns-then-not-settings_hold
@@ -23,14 +20,6 @@ returns-then-not-state_holds c =
     state_fails a.sender c.settings_hold.result c.numbers_hold.result c.state_holds.result c.settings_hold.ensures c.numbers_hold.ensures
     c.state_holds.ensures (c.if-not-settings_hold.false) (c.if-not-numbers_hold.false)
     (c.if-not-state_holds.true)
-
-pub lengths_hold-requires : goal.lengths_hold-requires
-lengths_hold-requires c =
-    let q = c.args.sender in
-    let l : length q.lengths ≡ places = search rules in (
-      held_places q.variables q.queues c.units_held-held.result (sym c.numbers_hold.ensures ∙ c.if-not-numbers_hold.false) c.units_held-held.ensures,
-      l,
-    )
 
 pub returns : goal.returns
 returns c =

@@ -20,4 +20,4 @@ returns-then-text-eq-ZERO c =
 pub returns : goal.returns
 returns c =
     let a = c.args in
-    c.value-2.ensures ∙ sym (number_value a.limit a.text.now (omega arith) (λ h. c.if-text-eq-ZERO.false))
+    c.value-2.ensures ∙ sym (number_value a.limit a.text.now (omega arith) (λ h e. omega arith))
