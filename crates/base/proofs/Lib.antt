@@ -8,3 +8,5 @@ pub mod Register
 pub mod Table
 pub mod Division
 pub mod Distance
+pub mod Pairs
+pub mod Refusals

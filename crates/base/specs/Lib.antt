@@ -8,3 +8,4 @@ pub mod Polynomial
 pub mod Register
 pub mod Modulo
 pub mod Distance
+pub mod Refusals

@@ -1,5 +1,7 @@
 -- A caller's receiver of several channels is tied to the records' definitions (`called_tied`): octets that are a table stand for the records that they hold,
 -- and a call leaves those of the records after it (channel_octets/proofs/Table, `table_back`).
+use Rattle.std.specs.Prelude as code
+use Rattle.std.specs.Prelude.{None}
 use Prim.Native.Nat.{ℕ}
 use mathlib.Core.Path.{◌≡◌, refl, sym, ap, ◌∙◌}
 use mathlib.Core.Bool.{Bool, true, false}
@@ -13,15 +15,13 @@ use Rattle.farm.specs.Table.{unit_of}
 use Rattle.farm.specs.declared.State.{State}
 use Rattle.farm.specs.declared.Event.TheVariants.{E10}
 use Rattle.farm.specs.declared.AcceptedUnit.{AcceptedUnit}
-use Rattle.farm.specs.declared.AcceptedUnit.TheVariants.{None}
 use Rattle.farm.proofs.Cells.{by_state}
 use Rattle.frame.specs.Answers.{part_of}
 use Rattle.receiver.specs.declared.Channel.{Channel}
 use Rattle.receiver.specs.Channel as channel
 use Rattle.session.specs.Receiver.{handed_out, word_told}
 use Rattle.session.specs.Ends.{Settings}
-use Rattle.channels.specs.declared.Turn.{Turn}
-use Rattle.channels.specs.Table.{is_in, record_of, table_holds, records_after, addressed, frame_turn, unit_part, release_turn, word_of, word_writing}
+use Rattle.channels.specs.Table.{Turn, is_in, record_of, table_holds, records_after, addressed, frame_turn, unit_part, release_turn, word_of, word_writing}
 use Rattle.channels.proofs.Turns.{ReleaseCase, given_back, release_case}
 use Rattle.channel_session.specs.Ends.{TableEvent, frame, release, TableAnswer, answer_by, table_next, table_answer}
 use Rattle.channel_octets.specs.Kept.{records_in, is_table}
@@ -109,7 +109,7 @@ module _ (spacecraft pool : ℕ) (o : List ℕ) (e : is_table o ≡ true) where
       let t : Turn = release_turn spacecraft pool cs n in
       ap (λ (x : Release). record { refusal = x.number; event = x.event; channel = pick (eqb x.number 0) n 0; unit = none }) (release_is_lem n)
       ∙ ap (λ (c : ℕ). record { refusal = t.refusal; event = t.event; channel = c; unit = none }) (release_channel_lem spacecraft pool cs n)
-      ∙ ap (λ (u : AcceptedUnit). record { refusal = t.refusal; event = t.event; channel = t.channel; unit = handed_out u [] }) (sym (release_unit spacecraft pool cs n))
+      ∙ ap (λ (u : code.Option AcceptedUnit). record { refusal = t.refusal; event = t.event; channel = t.channel; unit = handed_out u [] }) (sym (release_unit spacecraft pool cs n))
 
   abbrev turn_of : TableEvent → Turn
   turn_of (frame s) = frame_turn spacecraft pool cs s

@@ -1,5 +1,6 @@
 -- Isolation, the pool and what is read, of the functions that C and Rust call. A call on octets that are a table is the event on their records (`as_records`);
 -- one record is put at its channel's place, and the octets at every other place stay (`others_octets`). Octets that are no table are 12 and stay.
+use Rattle.std.specs.Prelude.{None, Some, Option}
 use Prim.Native.Nat.{ℕ, zero, suc, ◌*◌, ◌%◌, ◌≤◌}
 use mathlib.Core.Path.{◌≡◌, refl, sym, ap, ap₂, subst, ◌∙◌}
 use mathlib.Core.Bool.{Bool, true, false, ◌||◌}
@@ -14,16 +15,15 @@ use Rattle.base.specs.Octets.{Octets}
 use Rattle.base.proofs.Tests.{apart}
 use Rattle.base.specs.Outcome.{Outcome, answer, number_of}
 use Rattle.farm.specs.declared.AcceptedUnit.{AcceptedUnit}
-use Rattle.farm.specs.declared.AcceptedUnit.TheVariants.{None, AdUnit, BdUnit}
+use Rattle.farm.specs.declared.AcceptedUnit.TheVariants.{Ad as AdUnit, Bd as BdUnit}
 use Rattle.fop.specs.Limits.{largest_number}
 use Rattle.frame.specs.Frame.{refusal_of, kind_of}
 use Rattle.frame.specs.Answers.{part_of}
 use Rattle.receiver.specs.declared.Channel.{Channel}
 use Rattle.receiver.specs.Channel.{arrived}
 use Rattle.receiver.specs.Receiver.{part_for}
-use Rattle.channels.specs.declared.Turn.{Turn}
+use Rattle.channels.specs.Table.{Turn, is_in, place_of, held_in, has_room, record_holds, record_of, nothing, records_after, addressed, frame_turn, unit_part, release_turn}
 use Rattle.channels.specs.Limits.{largest_window}
-use Rattle.channels.specs.Table.{is_in, place_of, held_in, has_room, record_holds, record_of, nothing, records_after, addressed, frame_turn, unit_part, release_turn}
 use Rattle.channels.specs.Isolation.{ours, Event, frame_arrives, release_buffer, report_word, named, channel_of, turn, word, told, after, after_all, refusal, Alike}
 use Rattle.channels.proofs.Turns.{nothing_after, given_back, FrameCase, ReleaseCase, frame_case, release_case}
 use Rattle.channels.proofs.Isolation.{isolated}
@@ -33,8 +33,7 @@ use Rattle.channel_octets.specs.Kept.{record_octets, octets_of, record_in, table
 use Rattle.channel_octets.proofs.Table.{behind}
 use Rattle.channel_octets.proofs.Back.{length_table, table_back, table_only}
 use Rattle.pondreszi_receiver.specs.Receivers.{Called, Release, unit_number, unit_place}
-use Rattle.pondreszi_channels.specs.Channels.{at_start, new_call, Frame}
-use Rattle.pondreszi_channels.proofs.ChannelCalls.{frame_refused_lem, release_refused, word_refused}
+use Rattle.pondreszi_channels.specs.Channels.{at_start, new_call, Frame, frame_call, release_call, word_call}
 use Rattle.called_session.proofs.Receiver.{part_taken}
 use Rattle.called_channels.specs.Isolation.{unit_numbered, frame_call_told, release_call_told, call_told, call_number, call_after, call_after_all, octets_at, channel_at, no_table, IsolatedCalled, NewCalled, AsRecords, PooledCalled, ReadsCalled}
 use Rattle.called_channels.proofs.Called.{release_channel_lem, release_unit, frame_is, release_is_lem, word_is}
@@ -101,22 +100,34 @@ module _ (spacecraft pool : ℕ) (o : List ℕ) where
 
   -- no table: 12, and the octets stay
   module _ (e : is_table o ≡ false) where
+    frame_none : (s : List ℕ) → frame_call spacecraft pool o s ≡ record { number = 12; event = 0; channel = 0; unit = 0; first = 0; count = 0; table = o }
+    unfolding frame_call
+    frame_none s = rw e
+
+    release_none : (n : ℕ) → release_call spacecraft pool o n ≡ record { number = 12; event = 0; state = o }
+    unfolding release_call
+    release_none n = rw e
+
+    word_none : (n lent : ℕ) → word_call spacecraft pool o n lent ≡ Outcome.refused 12 0
+    unfolding word_call
+    word_none n lent = rw e
+
     no_table_lem : (x : Event) → call_number spacecraft pool o x ≡ 12
     unfolding call_number
-    no_table_lem (frame_arrives s lent) = ap (λ (f : Frame). f.number) (frame_refused_lem spacecraft pool o e s)
-    no_table_lem (release_buffer n) = ap (λ (r : Release). r.number) (release_refused spacecraft pool o e n)
-    no_table_lem (report_word n room) = ap (λ (w : Outcome (Unit {0})). number_of (answer w)) (word_refused spacecraft pool o e n room)
+    no_table_lem (frame_arrives s lent) = ap (λ (f : Frame). f.number) (frame_none s)
+    no_table_lem (release_buffer n) = ap (λ (r : Release). r.number) (release_none n)
+    no_table_lem (report_word n room) = ap (λ (w : Outcome (Unit {0})). number_of (answer w)) (word_none n room)
 
     none_told : (x : Event) → call_told spacecraft pool o x ≡ no_table x
     unfolding call_told
-    none_told (frame_arrives s lent) = ap (λ (f : Frame). frame_call_told f s) (frame_refused_lem spacecraft pool o e s)
-    none_told (release_buffer n) = ap (λ (r : Release). release_call_told r n) (release_refused spacecraft pool o e n)
-    none_told (report_word n room) = ap word (word_refused spacecraft pool o e n room)
+    none_told (frame_arrives s lent) = ap (λ (f : Frame). frame_call_told f s) (frame_none s)
+    none_told (release_buffer n) = ap (λ (r : Release). release_call_told r n) (release_none n)
+    none_told (report_word n room) = ap word (word_none n room)
 
     stays_octets : (x : Event) → call_after spacecraft pool o x ≡ o
     unfolding call_after
-    stays_octets (frame_arrives s lent) = ap (λ (f : Frame). f.table) (frame_refused_lem spacecraft pool o e s)
-    stays_octets (release_buffer n) = ap (λ (r : Release). r.state) (release_refused spacecraft pool o e n)
+    stays_octets (frame_arrives s lent) = ap (λ (f : Frame). f.table) (frame_none s)
+    stays_octets (release_buffer n) = ap (λ (r : Release). r.state) (release_none n)
     stays_octets (report_word n room) = refl
 
   module _ (e : is_table o ≡ true) where
@@ -157,27 +168,27 @@ module _ (spacecraft pool : ℕ) (o : List ℕ) where
     after_is_table x = ap is_table (after_call x) ∙ (table_back (after ours spacecraft pool cs x)).0
 
     -- what is told
-    numbered_back : (u : AcceptedUnit) → unit_numbered (unit_number u) ≡ u
+    numbered_back : (u : Option AcceptedUnit) → unit_numbered (unit_number u) ≡ u
     numbered_back None = refl
-    numbered_back AdUnit = refl
-    numbered_back BdUnit = refl
+    numbered_back (Some AdUnit) = refl
+    numbered_back (Some BdUnit) = refl
 
-    part_back : (u : AcceptedUnit) (s p : List ℕ) → take (length p) (drop 5 s) ≡ p → take (length (part_for u p)) (drop (unit_place u) s) ≡ part_for u p
+    part_back : (u : Option AcceptedUnit) (s p : List ℕ) → take (length p) (drop 5 s) ≡ p → take (length (part_for u p)) (drop (unit_place u) s) ≡ part_for u p
     part_back None s p h = refl
-    part_back AdUnit s p h = h
-    part_back BdUnit s p h = h
+    part_back (Some AdUnit) s p h = h
+    part_back (Some BdUnit) s p h = h
 
     tells_records : (x : Event) → call_told spacecraft pool o x ≡ told ours spacecraft pool cs x
     unfolding call_told unit_part
     tells_records (frame_arrives s lent) =
         let t : Turn = frame_turn spacecraft pool cs s in
         ap (λ (f : Frame). frame_call_told f s) (frame_is spacecraft pool o e s)
-        ∙ ap₂ (λ (u : AcceptedUnit) (p : List ℕ). turn t.refusal t.event t.channel u p) (numbered_back t.unit)
+        ∙ ap₂ (λ (u : Option AcceptedUnit) (p : List ℕ). turn t.refusal t.event t.channel u p) (numbered_back t.unit)
         (part_back t.unit s (part_of s spacecraft (addressed cs s)) (part_taken s spacecraft (addressed cs s)))
     tells_records (release_buffer n) =
         let t : Turn = release_turn spacecraft pool cs n in
         ap (λ (r : Release). release_call_told r n) (release_is_lem spacecraft pool o e n)
-        ∙ ap₂ (λ (c : ℕ) (u : AcceptedUnit). turn t.refusal t.event c u []) (release_channel_lem spacecraft pool cs n) (sym (release_unit spacecraft pool cs n))
+        ∙ ap₂ (λ (c : ℕ) (u : Option AcceptedUnit). turn t.refusal t.event c u []) (release_channel_lem spacecraft pool cs n) (sym (release_unit spacecraft pool cs n))
     tells_records (report_word n room) = ap word (word_is spacecraft pool o e n room)
 
   pub isolated_called : IsolatedCalled spacecraft pool o

@@ -15,12 +15,10 @@ use Rattle.receiver.specs.declared.Channel.{Channel}
 use Rattle.session.specs.Receiver.{word_told}
 use Rattle.session.specs.Ends.{Settings}
 use Rattle.channels.specs.declared.Channels.{Channels}
-use Rattle.channels.specs.declared.Turn.{Turn}
-use Rattle.channels.specs.declared.Turned.{Turned}
+use Rattle.channels.specs.Table.{Turn, table_holds, records_after, frame_turn, release_turn, word_writing}
+use Rattle.channels.specs.Channels.{Turned, records_in, with_records, told, receive_of, unit_part, release_of, word_of}
 use Rattle.channels.specs.Limits.{largest_channels, largest_pool}
-use Rattle.channels.specs.Table.{table_holds, records_after, frame_turn, release_turn, word_writing}
 use Rattle.channels.specs.Table as table
-use Rattle.channels.specs.Channels.{records_in, with_records, told, receive_of, unit_part, release_of, word_of}
 use Rattle.channel_session.specs.Ends.{Pool, Begins, TableEvent, frame, release, table_next, table_answer}
 use Rattle.channel_session.proofs.Trace as example
 use Rattle.called_channels.specs.Ours.{answer_by, told_value, AsValue, value_answer, value_next, by_value, BeginsValue}

@@ -1,12 +1,12 @@
 -- Document 02, order 8, of the functions that C and Rust call, whatever octets are lent as the table: isolation, the pool and what is read, in the octets that
 -- a caller keeps and the numbers that it is told. Quoted sentences are order 8's.
-use Rattle.std.specs.Prelude.{ℕ, ◌*◌, ◌%◌, ◌≤◌, ◌≡◌, true, false, List, [], ◌∷◌, eqb, length, take, drop}
+use Rattle.std.specs.Prelude.{None, Some, Option, ℕ, ◌*◌, ◌%◌, ◌≤◌, ◌≡◌, true, false, List, [], ◌∷◌, eqb, length, take, drop}
 use Rattle.base.specs.Choice.{pick}
 use Rattle.base.specs.Limits.{largest_channel}
 use Rattle.base.specs.Outcome.{Outcome, answer, number_of}
 use Rattle.fop.specs.Limits.{largest_number}
 use Rattle.farm.specs.declared.AcceptedUnit.{AcceptedUnit}
-use Rattle.farm.specs.declared.AcceptedUnit.TheVariants.{None, AdUnit, BdUnit}
+use Rattle.farm.specs.declared.AcceptedUnit.TheVariants.{Ad as AdUnit, Bd as BdUnit}
 use Rattle.channels.specs.Table.{held_in, has_room, record_of}
 use Rattle.channels.specs.Isolation.{ours, Event, frame_arrives, release_buffer, report_word, channel_of, Told, turn, word, told, after, reads_pool, SameOwn}
 use Rattle.channel_octets.specs.Kept.{record_octets, octets_of, record_in, records_in, is_table}
@@ -14,8 +14,8 @@ use Rattle.pondreszi_receiver.specs.Receivers.{Release}
 use Rattle.pondreszi_channels.specs.Channels.{Frame, at_start, new_call, frame_call, release_call, word_call}
 
 -- the unit accepted by its number
-abbrev pub unit_numbered : ℕ → AcceptedUnit
-unit_numbered n = pick (eqb n 1) AdUnit (pick (eqb n 2) BdUnit None)
+abbrev pub unit_numbered : ℕ → Option AcceptedUnit
+unit_numbered n = pick (eqb n 1) (Some AdUnit) (pick (eqb n 2) (Some BdUnit) None)
 
 -- what is told of a frame and of a release that names n (a done one is of n)
 abbrev pub frame_call_told : Frame → List ℕ → Told

@@ -5,10 +5,9 @@ use Rattle.base.specs.Octets.{Octets}
 use Rattle.session.specs.Receiver.{handed_out, word_told}
 use Rattle.session.specs.Ends.{Settings}
 use Rattle.channels.specs.declared.Channels.{Channels}
-use Rattle.channels.specs.declared.Turned.{Turned}
+use Rattle.channels.specs.Channels.{Turned, records_in, receive_of, unit_part, release_of, word_of}
 use Rattle.channels.specs.Limits.{largest_channels}
 use Rattle.channels.specs.Isolation as isolation
-use Rattle.channels.specs.Channels.{records_in, receive_of, unit_part, release_of, word_of}
 use Rattle.channel_session.specs.Ends.{Pool, TableEvent, frame, release, TableAnswer, tables}
 use Rattle.called_channels.specs.Ends.{Several}
 

@@ -1,5 +1,6 @@
 -- A directive's number and value narrowed on the way to the sender (crate pondreszi_sender): the sender's step is the same. A directive that
 -- is invalid stays invalid; and the rows of a directive that has no use for its value never look at it.
+use Rattle.std.specs.Prelude.{Some}
 use Prim.Native.Nat.{ℕ, ◌<◌}
 use mathlib.Core.Path.{◌≡◌, refl, sym, ap, ◌∙◌}
 use mathlib.Core.Bool.{Bool, true, false, ◌&&◌}
@@ -13,18 +14,19 @@ use Rattle.base.proofs.Tests.{yes}
 use Rattle.fop.specs.Limits.{largest_k, largest_timer, largest_transmission_limit, largest_number, largest_timeout_type}
 use Rattle.fop.specs.declared.State.{State}
 use Rattle.fop.specs.declared.State.TheVariants as state
-use Rattle.fop.specs.Table.{table78, cell78, FopEvent, E23, E24, E25, E26, E29, E30, E31, E32, E33, E34}
+use Rattle.fop.specs.declared.Event.{Event as FopEvent}
+use Rattle.fop.specs.declared.Event.TheVariants.{E23, E24, E25, E26, E29, E30, E31, E32, E33, E34}
+use Rattle.fop.specs.Table.{event_number, table78, cell78}
 use Rattle.fop.specs.Events.{valid_directive, directive_event}
 use Rattle.sender_values.specs.declared.SenderState.{SenderState}
 use Rattle.sender_values.specs.declared.Work.{Work}
 use Rattle.sender_values.specs.Start.{begun}
-use Rattle.sender_table.specs.Rows.{done, done_all, done_cell, row_of}
-use Rattle.sender_events.specs.Events.{event_number, directive_number}
+use Rattle.sender_table.specs.Rows.{done, done_all, done_cell, row_of, row_if}
+use Rattle.sender_events.specs.Events.{event_of_directive}
 use Rattle.fop.proofs.Choices.{by_pick, upto, ◌also◌}
 use Rattle.sender.specs.Answers.{Step, refused_step}
 use Rattle.sender_frames.specs.Limits.{need_of}
 use Rattle.sender.specs.Events.{served_by, served, directive_of}
-use Rattle.our_session.proofs.Numbers.{row_event}
 use Rattle.our_session.proofs.Meets.{invalid_is_40}
 use Rattle.pondreszi_numbers.specs.Numbers.{largest_octet, largest_pair, narrow}
 use Rattle.pondreszi_sender.specs.Senders.{uses_value, narrow_number, narrow_value}
@@ -80,7 +82,7 @@ module _ (s : SenderState) (store output : List ℕ) where
 
   -- two invalid directives are one
   refused_12 : (d v : ℕ) → valid_directive d v ≡ false → step d v ≡ refused_step 12 s store output
-  unfolding directive_of directive_number
+  unfolding directive_of event_of_directive
   refused_12 d v t = yes _ _ _ (ap (λ (e : FopEvent). eqb (event_number e) 40) (invalid_is_40 d v s t))
 
   both_invalid : (d v c u : ℕ) → valid_directive d v ≡ false → valid_directive c u ≡ false → step d v ≡ step c u
@@ -88,25 +90,25 @@ module _ (s : SenderState) (store output : List ℕ) where
 
   -- by its event, with the store judged by K
   abbrev step_at : FopEvent → ℕ → Step
-  step_at e v = pick (eqb (event_number e) 40) (refused_step 12 s store output) (served s.settings.k (event_number e) v s s store output)
+  step_at e v = pick (eqb (event_number e) 40) (refused_step 12 s store output) (served s.settings.k (Some e) v s s store output)
 
   module _ (v : ℕ) where
     abbrev Unread : FopEvent → Type 0
     Unread e = step_at e 0 ≡ step_at e v
 
     unread : (e : FopEvent) → Alike v (begun s) e (begun s).state → Unread e
-    unfolding served row_of
+    unfolding served row_if row_of
     unread e h =
         ap (λ (w : Work). pick (eqb (event_number e) 40) (refused_step 12 s store output)
-        (must (leb (need_of s) (length store)) (refused_step 11 s store output) (served_by (event_number e) s w store output)))
-        (row_event e 0 (begun s) ∙ h ∙ sym (row_event e v (begun s)))
+        (must (leb (need_of s) (length store)) (refused_step 11 s store output) (served_by (Some e) s w store output)))
+        h
 
     module _ (large : largest_pair < v) where
       abbrev Narrowed : ℕ → Type 0
       Narrowed d = step (pick (uses_value d) 0 (narrow largest_octet 0 d)) 0 ≡ step d v
 
       within_11 : (d : ℕ) → d < 12 → Narrowed d
-      unfolding directive_of directive_number directive_event begun
+      unfolding directive_of event_of_directive directive_event begun
       within_11 =
           let c = cells v (begun s) s.state in
           let ss : ℕ = s.variables.suspend_state in

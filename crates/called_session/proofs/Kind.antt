@@ -1,5 +1,6 @@
 -- The kind that a call tells is the kind of the frame that it hands down, as the frame reads: the kind told is that of what the row hands down, and
 -- a frame written of that kind is read back as one (crate frame, proofs/Back). N(S) is written modulo 256, so no limit of it is needed.
+use Rattle.std.specs.Prelude.{Option, None, Some}
 use Prim.Native.Nat.{ℕ, ◌+◌, ◌%◌, ◌≤◌}
 use mathlib.Core.Path.{◌≡◌, refl, sym, ap, ap₂, subst, ◌∙◌}
 use mathlib.Core.Bool.{Bool, true, false}
@@ -18,14 +19,14 @@ use Rattle.base.specs.Outcome.{Outcome, Outcome.done, Outcome.refused}
 use Rattle.base.proofs.Fields.{length_digits, bits_digits, value_digits, digits_value}
 use Rattle.frame_header.specs.Header.{header_fields, header_of}
 use Rattle.frame.specs.Frame.{bypass_of, control_of, number_of, data_of, overhead, body_of, raw_frame, frame_of, raw_writing, writing}
-use Rattle.frame.specs.Answers.{reading_of, part_of}
+use Rattle.frame.specs.Answers.{FrameReading, reading_of, part_of}
 use Rattle.frame.specs.declared.Kind.{Kind}
 use Rattle.frame.specs.declared.Kind.TheVariants as kind
-use Rattle.frame.specs.declared.FrameReading.{FrameReading}
 use Rattle.frame.proofs.Lengths.{length_frame}
 use Rattle.frame.proofs.Back.{Legal, frame_back}
 use Rattle.fecf.specs.Fecf.{fecf_of, field_octets}
 use Rattle.fop.specs.Units.{Own}
+use Rattle.fop.specs.declared.Event.{Event as FopEvent}
 use Rattle.fop.specs.Answers.{Answer}
 use Rattle.sender_values.specs.declared.Handed.{Handed}
 use Rattle.sender_values.specs.declared.Handed.TheVariants as handed
@@ -150,7 +151,7 @@ module _ (s : SenderState) (store output : List ℕ) where
   unfolding refusing
   refused_tells number = record { nothing = λ e. refl; some_down = λ o e h. absurd (none_some e) }
 
-  module _ (event : ℕ) (w : Work) (ls new : List ℕ) where
+  module _ (event : Option FopEvent) (w : Work) (ls new : List ℕ) where
     -- a frame of this kind, by what writing it comes to
     frame_tells_lem : (k : Kind) (u : List ℕ) → kind_number (kind_handed w.told.handed) ≡ number_of_kind at u k
         → Tells at (step_by event s w ls (writing at.spacecraft at.channel k u (length output)) new store output)
@@ -194,14 +195,14 @@ module _ (s : SenderState) (store output : List ℕ) where
           by false pa b pb c pc d pd e = refused_tells 10
 
     -- by what the row hands down
-    by_handed : (u : List ℕ) (h : Handed) → w.told.handed ≡ h
+    by_handed : (u : List ℕ) (h : Option Handed) → w.told.handed ≡ h
         → Tells at (step_by event s w ls (handed_writing s.settings h u (length output)) new store output)
     unfolding handed_writing answered
-    by_handed u handed.None p = record { nothing = λ e. ap (λ (x : Handed). kind_number (kind_handed x)) p; some_down = λ o e h. absurd (none_some e) }
-    by_handed u (handed.Ad n i) p = frame_tells_lem (kind.Ad n) u (ap (λ (x : Handed). kind_number (kind_handed x)) p)
-    by_handed u handed.Bd p = frame_tells_lem kind.Bd u (ap (λ (x : Handed). kind_number (kind_handed x)) p)
-    by_handed u handed.Unlock p = frame_tells_lem kind.Unlock [] (ap (λ (x : Handed). kind_number (kind_handed x)) p)
-    by_handed u (handed.SetVr n) p = frame_tells_lem (kind.SetVr n) [] (ap (λ (x : Handed). kind_number (kind_handed x)) p)
+    by_handed u None p = record { nothing = λ e. ap (λ (x : Option Handed). kind_number (kind_handed x)) p; some_down = λ o e h. absurd (none_some e) }
+    by_handed u (Some (handed.Ad n i)) p = frame_tells_lem (kind.Ad n) u (ap (λ (x : Option Handed). kind_number (kind_handed x)) p)
+    by_handed u (Some handed.Bd) p = frame_tells_lem kind.Bd u (ap (λ (x : Option Handed). kind_number (kind_handed x)) p)
+    by_handed u (Some handed.Unlock) p = frame_tells_lem kind.Unlock [] (ap (λ (x : Option Handed). kind_number (kind_handed x)) p)
+    by_handed u (Some (handed.SetVr n)) p = frame_tells_lem (kind.SetVr n) [] (ap (λ (x : Option Handed). kind_number (kind_handed x)) p)
 
   step_tells : (y : Step) → Way s store output y → Tells at y
   step_tells y (refuses number) = refused_tells number

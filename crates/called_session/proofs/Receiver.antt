@@ -1,6 +1,8 @@
 -- The receiver's half of the tie: the octets that a caller keeps stand for the receiver that they hold. A call keeps them a state whatever
 -- list arrives as a frame, also one that is no octets: what the test of a state looks at does not depend on V(R), and up to V(R) every frame
 -- does what some frame of octets does (`arrives`).
+use Rattle.std.specs.Prelude as code
+use Rattle.std.specs.Prelude.{None, Some, Result, Ok, Err}
 use Prim.Native.Nat.{ℕ, ◌+◌, ◌-◌, ◌≤◌, zero, suc}
 use mathlib.Core.Path.{◌≡◌, refl, sym, ap, subst, ◌∙◌}
 use mathlib.Core.Bool.{Bool, true, false}
@@ -21,11 +23,9 @@ use Rattle.base.proofs.Tests.{apart, both_right}
 use Rattle.clcw.specs.Clcw.{writing, clcw_of}
 use Rattle.clcw.specs.declared.Clcw.{Clcw}
 use Rattle.frame.specs.Frame.{refusal_of, total_of, data_field, overhead, frame_of}
-use Rattle.frame.specs.Answers.{reading_of, part_of}
+use Rattle.frame.specs.Answers.{FrameReading, reading_of, part_of}
 use Rattle.frame.specs.declared.Kind.{Kind}
 use Rattle.frame.specs.declared.Kind.TheVariants.{Ad, Bd, Unlock, SetVr}
-use Rattle.frame.specs.declared.FrameReading.{FrameReading}
-use Rattle.frame.specs.declared.FrameReading.TheVariants as reading
 use Rattle.frame.proofs.Written.{octets_frame}
 use Rattle.frame.proofs.Back.{Legal, legal_fits, frame_back}
 use Rattle.receiver.specs.State.{well_formed}
@@ -41,9 +41,10 @@ use Rattle.farm.specs.declared.Variables.{Variables}
 use Rattle.receiver.specs.declared.Receiver.{Receiver}
 use Rattle.receiver.specs.declared.Received.{Received}
 use Rattle.farm.specs.declared.AcceptedUnit.{AcceptedUnit}
-use Rattle.farm.specs.declared.AcceptedUnit.TheVariants.{None, AdUnit, BdUnit}
-use Rattle.receiver.specs.declared.Released.{Released}
-use Rattle.receiver.specs.declared.Released.TheVariants.{Done, NoneTaken}
+use Rattle.farm.specs.declared.AcceptedUnit.TheVariants.{Ad as AdUnit, Bd as BdUnit}
+use Rattle.base.specs.Refusals.{optional_number}
+use Rattle.base.specs.declared.Refusal.{Refusal}
+use Rattle.base.specs.declared.Refusal.TheVariants.{Release as NoneTaken}
 use Rattle.farm.specs.Window.{ad_event}
 use Rattle.farm.proofs.Cells.{at, by_state, by_event_lem, e9_keeps}
 use Rattle.receiver.proofs.Kept.{WellFormed, receive_well, release_well, word_written_lem}
@@ -102,7 +103,7 @@ module _ (star : ℕ) (v : Variables) where
   step_aside e = cell_aside e v.state
 
 -- an event of the table, of a receiver and of it with V(R) 0
-answered_aside : (r : Receiver) (n m : ℕ) (e : Event) (star : ℕ) → aside (answered n e star r).next ≡ aside (answered m e 0 (aside r)).next
+answered_aside : (r : Receiver) (n m : code.Option Refusal) (e : Event) (star : ℕ) → aside (answered n e star r).next ≡ aside (answered m e 0 (aside r)).next
 unfolding answered channel.answered
 answered_aside r n m e star =
     ap (λ (v : Variables). become (r.farm.channel.held + takes (unit_of e r.farm.channel.variables.state)) v r) (step_aside star r.farm.channel.variables e)
@@ -157,14 +158,14 @@ module _ (r : Receiver) (h : WellFormed (aside r)) where
 
   by_reading_lem : (x : FrameReading) → WellFormed (aside (by_reading r x).next)
   unfolding by_reading arrived answered channel.arrived channel.answered
-  by_reading_lem (reading.Frame fields) =
+  by_reading_lem (Ok fields) =
       let k : Kind = fields.kind in
       subst WellFormed
-      (sym (answered_aside r 0 0 (event_of (has_room r) r.farm.channel k) (star_of k)))
-      (aside_well _ (subst (λ (e : Event). WellFormed (answered 0 e 0 (aside r)).next) (event_aside k)
-      (subst (λ (star : ℕ). WellFormed (answered 0 (event_of (has_room r) (aside r).farm.channel (kind_aside r k)) star (aside r)).next) (star_aside k) (arrived_aside k))))
-  by_reading_lem (reading.Refused number) = subst WellFormed (sym kept) h where
-    kept : aside (answered number E9 0 r).next ≡ aside r
+      (sym (answered_aside r None None (event_of (has_room r) r.farm.channel k) (star_of k)))
+      (aside_well _ (subst (λ (e : Event). WellFormed (answered None e 0 (aside r)).next) (event_aside k)
+      (subst (λ (star : ℕ). WellFormed (answered None (event_of (has_room r) (aside r).farm.channel (kind_aside r k)) star (aside r)).next) (star_aside k) (arrived_aside k))))
+  by_reading_lem (Err refusal) = subst WellFormed (sym kept) h where
+    kept : aside (answered (Some refusal) E9 0 r).next ≡ aside r
     kept =
         ap (λ (n : ℕ). become n (unnumbered (step_of E9 0 r.farm.channel.variables)) r) (add-zero r.farm.channel.held)
         ∙ ap (λ (v : Variables). become r.farm.channel.held (unnumbered v) r) (e9_keeps 0 r.farm.channel.variables)
@@ -179,11 +180,11 @@ module _ (r : Receiver) (h : WellFormed (aside r)) where
   unfolding release_of
   releases = by (ltb 0 r.farm.channel.held) refl where
     by : (b : Bool) → ltb 0 r.farm.channel.held ≡ b
-        → WellFormed (aside (after_release (must b NoneTaken (Done (answered 0 E10 0 (become (r.farm.channel.held - 1) r.farm.channel.variables r)))) r))
+        → WellFormed (aside (after_release (must b (Err NoneTaken) (Ok (answered None E10 0 (become (r.farm.channel.held - 1) r.farm.channel.variables r)))) r))
     by true e =
-        subst WellFormed (sym (answered_aside (become (r.farm.channel.held - 1) r.farm.channel.variables r) 0 0 E10 0))
-        (aside_well _ (release_well (aside r) (answered 0 E10 0 (become (r.farm.channel.held - 1) (unnumbered r.farm.channel.variables) r)) h
-        (ap (λ (x : Bool). must x NoneTaken (Done (answered 0 E10 0 (become (r.farm.channel.held - 1) (unnumbered r.farm.channel.variables) r)))) e)))
+        subst WellFormed (sym (answered_aside (become (r.farm.channel.held - 1) r.farm.channel.variables r) None None E10 0))
+        (aside_well _ (release_well (aside r) (answered None E10 0 (become (r.farm.channel.held - 1) (unnumbered r.farm.channel.variables) r)) h
+        (ap (λ (x : Bool). must x (Err NoneTaken) (Ok (answered None E10 0 (become (r.farm.channel.held - 1) (unnumbered r.farm.channel.variables) r)))) e)))
     by false e = h
 
 -- the octets that a caller keeps: those of the receiver that they hold, which is well-formed but for V(R)
@@ -228,9 +229,9 @@ module _ (state : List ℕ) (good : GoodReceiver state) where
   word_is lent = rw good_state
 
   -- the state after a release, refused or not
-  released_state : (x : Released) → (released_by x state).state ≡ octets_of (after_release x r)
-  released_state (Done a) = refl
-  released_state NoneTaken = sym good.is
+  released_state : (x : Result Received Refusal) → (released_by x state).state ≡ octets_of (after_release x r)
+  released_state (Ok a) = refl
+  released_state (Err refusal) = sym good.is
 
   -- the octets after an event are those of the receiver after it
   pub after_is : (e : ReceiverEvent) → receiver_after e state ≡ octets_of (receiver_next e r)
@@ -266,11 +267,11 @@ part_taken s sc ch = by (eqb (refusal_of s sc ch) 0) where
   by true = take_again (total_of s - overhead) (drop 5 s)
   by false = refl
 
-pub unit_back : (u : AcceptedUnit) (s p : List ℕ) → take (length p) (drop 5 s) ≡ p
+pub unit_back : (u : code.Option AcceptedUnit) (s p : List ℕ) → take (length p) (drop 5 s) ≡ p
     → pick (eqb (unit_number u) 0) none (some (take (length (part_for u p)) (drop (unit_place u) s))) ≡ handed_out u (part_for u p)
 unit_back None s p h = refl
-unit_back AdUnit s p h = ap some h
-unit_back BdUnit s p h = ap some h
+unit_back (Some AdUnit) s p h = ap some h
+unit_back (Some BdUnit) s p h = ap some h
 
 -- the answer by its numbers
 abbrev answer_of_frame : Frame → List ℕ → ReceiverAnswer
@@ -282,8 +283,8 @@ answer_of_release x = record { refusal = x.number; event = event_numbered x.even
 release_told_lem : (r : Receiver) (state : List ℕ) → answer_of_release (released_by (release_of r) state) ≡ receiver_answer release_buffer r
 unfolding receiver_answer release_of answered channel.answered
 release_told_lem r state = by (ltb 0 r.farm.channel.held) where
-  by : (b : Bool) → answer_of_release (released_by (must b NoneTaken (Done (answered 0 E10 0 (become (r.farm.channel.held - 1) r.farm.channel.variables r)))) state)
-      ≡ release_answer (must b NoneTaken (Done (answered 0 E10 0 (become (r.farm.channel.held - 1) r.farm.channel.variables r))))
+  by : (b : Bool) → answer_of_release (released_by (must b (Err NoneTaken) (Ok (answered None E10 0 (become (r.farm.channel.held - 1) r.farm.channel.variables r)))) state)
+      ≡ release_answer (must b (Err NoneTaken) (Ok (answered None E10 0 (become (r.farm.channel.held - 1) r.farm.channel.variables r))))
   by true = refl
   by false = refl
 
@@ -306,8 +307,8 @@ module _ (state : List ℕ) (good : GoodReceiver state) where
       let r : Receiver = receiver_in state in
       let a : Received = receive_of r s in
       ap (λ (x : Frame). answer_of_frame x s) (frame_is state good s)
-      ∙ ap (λ (x : Option Event). record { refusal = a.refusal; event = x; unit = unit_called (received a (unit_part r s)) s }) (event_back a.event)
-      ∙ ap (λ (x : Option (List ℕ)). record { refusal = a.refusal; event = some a.event; unit = x })
+      ∙ ap (λ (x : Option Event). record { refusal = optional_number a.refusal; event = x; unit = unit_called (received a (unit_part r s)) s }) (event_back a.event)
+      ∙ ap (λ (x : Option (List ℕ)). record { refusal = optional_number a.refusal; event = some a.event; unit = x })
       (unit_back a.unit s (part_of s r.farm.spacecraft r.farm.channel.number) (part_taken s r.farm.spacecraft r.farm.channel.number))
   answer_receiver_lem release_buffer = ap answer_of_release (release_is_lem state good) ∙ release_told_lem (receiver_in state) state
 

@@ -1,36 +1,32 @@
 -- A refused call leaves state, store and output as they were, whatever octets are lent as a state: octets that are no state are not touched,
 -- and those of a state are put back as they were, since a refused event has the same next state.
+use Rattle.std.specs.Prelude.{Result, Ok, Err}
 use Prim.Native.Nat.{ℕ}
 use mathlib.Core.Logic.{◌≢◌}
-use mathlib.Core.Path.{◌≡◌, refl, sym, ap, ◌∙◌}
+use mathlib.Core.Path.{◌≡◌, refl, sym, ap, subst, ◌∙◌}
 use mathlib.Core.Bool.{Bool, true, false}
 use mathlib.Core.List.{List, ◌++◌}
 use native.Mathlib.Nat.{add-zero}
-use native.Mathlib.Omega.{arith}
-use borrow.Author.Tests.{eqb-true}
-use lib.Dec.{leb, eqb}
+use lib.Dec.{leb}
 use lib.ListN.{length, drop}
 use Rattle.base.specs.Choice.{must}
 use Rattle.base.specs.Outcome.{Outcome, Outcome.done, Outcome.refused, answer, after, number_of}
 use Rattle.memory.specs.Placed.{placed}
-use Rattle.frame.specs.Answers.{reading_of}
-use Rattle.frame.specs.declared.FrameReading.{FrameReading}
-use Rattle.frame.specs.declared.FrameReading.TheVariants as reading
+use Rattle.frame.specs.Answers.{FrameReading, reading_of}
 use Rattle.receiver_octets.specs.Kept as farm
 use Rattle.receiver.specs.Channel as channel
 use Rattle.receiver.specs.Receiver.{become, answered, arrived, by_reading, receive_of, unit_part, release_of}
 use Rattle.farm.specs.declared.Event.TheVariants.{E9}
 use Rattle.receiver.specs.declared.Receiver.{Receiver}
-use Rattle.receiver.specs.declared.Start.{Start as FarmStart}
-use Rattle.receiver.specs.declared.Start.TheVariants as start
-use Rattle.receiver.specs.declared.Released.{Released}
-use Rattle.receiver.specs.declared.Released.TheVariants.{Done, NoneTaken}
+use Rattle.receiver.specs.declared.Received.{Received}
+use Rattle.base.specs.Refusals.{optional_number}
+use Rattle.base.specs.declared.Refusal.{Refusal}
 use Rattle.farm.specs.declared.Variables.{Variables}
 use Rattle.farm.specs.Table.{step_of}
 use Rattle.farm.proofs.Cells.{e9_keeps}
 use Rattle.receiver_octets.proofs.Restored as farm-restored
 use Rattle.sender_values.specs.declared.SenderState.{SenderState}
-use Rattle.sender.specs.declared.Start.{Start}
+use Rattle.sender.specs.declared.Sender.{Sender}
 use Rattle.sender.specs.Answers.{Step}
 use Rattle.sender.specs.Events.{lower_layer_of}
 use Rattle.sender_octets.specs.Kept.{state_octets, octets_of, state_in, is_state, sender_in}
@@ -38,7 +34,7 @@ use Rattle.sender_octets.specs.Answer.{answer_octets}
 use Rattle.sender_octets.proofs.Back.{state_only, refused_no_state}
 use Rattle.pondreszi_receiver.specs.Receivers as receiver
 use Rattle.pondreszi_sender.specs.Senders as sender
-use Rattle.pondreszi_sender.specs.Senders.{Called, refused_call, done_call, called_by, lower_numbered, narrow_number, narrow_value, started_call, start_given}
+use Rattle.pondreszi_sender.specs.Senders.{Called, refused_call, done_call, called_with, called_by, lower_numbered, narrow_number, narrow_value, started_call, start_given}
 use Rattle.called_session.specs.Refused.{Unchanged, RefusedKeeps}
 use Rattle.called_session.proofs.Ways.{Way, refused_same, asks_ad, asks_bd, directs, ticks, lowers, words}
 use Rattle.called_session.proofs.Sender.{placed_whole, reached}
@@ -49,8 +45,8 @@ writes (done octets more) output h = absurd (h refl)
 writes (refused number place) output h = refl
 
 -- The receiver.
-starts : (x : FarmStart) (state : List ℕ) → (receiver.starting x state).number ≢ 0 → (receiver.starting x state).state ≡ state
-starts (start.Ready r) state = by (leb farm.state_octets (length state)) where
+starts : (x : Result Receiver Refusal) (state : List ℕ) → (receiver.starting x state).number ≢ 0 → (receiver.starting x state).state ≡ state
+starts (Ok r) state = by (leb farm.state_octets (length state)) where
   old : receiver.Called
   old = record { number = 11; state = state }
 
@@ -60,13 +56,13 @@ starts (start.Ready r) state = by (leb farm.state_octets (length state)) where
   by : (b : Bool) → (must b old new).number ≢ 0 → (must b old new).state ≡ state
   by true h = absurd (h refl)
   by false h = refl
-starts start.Setting state = λ h. refl
+starts (Err refusal) state = λ h. refl
 
 -- a frame that is refused is E9, which changes nothing
-read_same : (r : Receiver) (x : FrameReading) → (by_reading r x).refusal ≢ 0 → (by_reading r x).next ≡ r
+read_same : (r : Receiver) (x : FrameReading) → optional_number (by_reading r x).refusal ≢ 0 → (by_reading r x).next ≡ r
 unfolding by_reading arrived answered channel.answered
-read_same r (reading.Frame fields) h = absurd (h refl)
-read_same r (reading.Refused number) h =
+read_same r (Ok fields) h = absurd (h refl)
+read_same r (Err refusal) h =
     ap (λ (n : ℕ). become n (step_of E9 0 r.farm.channel.variables) r) (add-zero r.farm.channel.held)
     ∙ ap (λ (v : Variables). become r.farm.channel.held v r) (e9_keeps 0 r.farm.channel.variables)
 
@@ -86,9 +82,9 @@ frame_same state frame = by (farm.is_state state) refl where
   by true e h = ap farm.octets_of (read_same r (reading_of frame r.farm.spacecraft r.farm.channel.number) h) ∙ farm-restored.state_only state e
   by false e h = refl
 
-released_same : (x : Released) (state : List ℕ) → (receiver.released_by x state).number ≢ 0 → (receiver.released_by x state).state ≡ state
-released_same (Done a) state h = absurd (h refl)
-released_same NoneTaken state h = refl
+released_same : (x : Result Received Refusal) (state : List ℕ) → (receiver.released_by x state).number ≢ 0 → (receiver.released_by x state).state ≡ state
+released_same (Ok a) state h = absurd (h refl)
+released_same (Err refusal) state h = refl
 
 release_same : (state : List ℕ) → (receiver.release_call state).number ≢ 0 → (receiver.release_call state).state ≡ state
 unfolding receiver.release_call
@@ -104,27 +100,20 @@ release_same state = by (farm.is_state state) where
   by false h = refl
 
 -- The sender.
-new_same : (x : Start) (state : List ℕ) → (started_call x state).number ≢ 0 → (started_call x state).state ≡ state
-new_same x state = by (eqb x.refusal 0) (leb state_octets (length state)) where
-  old : ℕ → sender.New
-  old n = record { number = n; state = state }
+new_same : (x : Result Sender Refusal) (state : List ℕ) → (started_call x state).number ≢ 0 → (started_call x state).state ≡ state
+new_same (Err refusal) state = λ h. refl
+new_same (Ok s) state = by (leb state_octets (length state)) where
+  old : sender.New
+  old = record { number = 11; state = state }
 
   new : sender.New
-  new = record { number = 0; state = placed state 0 (octets_of x.sender.fop) }
+  new = record { number = 0; state = placed state 0 (octets_of s.fop) }
 
-  by : (a b : Bool) → (must a (old x.refusal) (must b (old 11) new)).number ≢ 0 → (must a (old x.refusal) (must b (old 11) new)).state ≡ state
-  by true true h = absurd (h refl)
-  by true false h = refl
-  by false b h = refl
+  by : (b : Bool) → (must b old new).number ≢ 0 → (must b old new).state ≡ state
+  by true h = absurd (h refl)
+  by false h = refl
 
 module _ (state store output told : List ℕ) where
-  -- octets that give a sender are a state
-  is_state_lem : eqb (sender_in state).refusal 0 ≡ true → is_state state ≡ true
-  is_state_lem e = by (is_state state) refl where
-    by : (b : Bool) → is_state state ≡ b → b ≡ true
-    by true p = refl
-    by false p = absurd (omega (arith, sym (ap (λ (x : Start). x.refusal) (refused_no_state state p)) ∙ eqb-true (sender_in state).refusal 0 e))
-
   -- an event that goes one of the two ways
   module _ (event : SenderState → Step) (goes : (s : SenderState) → Way s store output (event s)) where
     event_same : is_state state ≡ true → (s : SenderState) → s ≡ state_in state → (event s).answer.refusal ≢ 0
@@ -138,21 +127,25 @@ module _ (state store output told : List ℕ) where
           output = k.output_kept;
         }
 
+    -- what a call leaves, by the sender that its octets give
+    abbrev Kept : Result Sender Refusal → Type 0
+    Kept x = (called_with x event state store output told).number ≢ 0 → Unchanged (called_with x event state store output told) state store output
+
     called_same : (called_by event state store output told).number ≢ 0 → Unchanged (called_by event state store output told) state store output
-    called_same = by (eqb (sender_in state).refusal 0) refl (leb answer_octets (length told)) where
+    called_same = by (is_state state) refl where
       on : Called
-      on = done_call (event (sender_in state).sender.fop) state told
+      on = done_call (event (state_in state)) state told
 
-      kept : (n : ℕ) → Unchanged (refused_call n state store output told) state store output
-      kept n = record { state = refl; store = refl; output = refl }
+      none : Called
+      none = refused_call 11 state store output told
 
-      by : (a : Bool) → eqb (sender_in state).refusal 0 ≡ a → (b : Bool)
-          → (must a (refused_call 12 state store output told) (must b (refused_call 11 state store output told) on)).number ≢ 0
-          → Unchanged (must a (refused_call 12 state store output told) (must b (refused_call 11 state store output told) on)) state store output
-      by true e true h =
-          event_same (is_state_lem e) (sender_in state).sender.fop (ap (λ (x : Start). x.sender.fop) (reached state (is_state_lem e))) h
-      by true e false h = kept 11
-      by false e b h = kept 12
+      room : is_state state ≡ true → (b : Bool) → (must b none on).number ≢ 0 → Unchanged (must b none on) state store output
+      room e true h = event_same e (state_in state) refl h
+      room e false h = record { state = refl; store = refl; output = refl }
+
+      by : (b : Bool) → is_state state ≡ b → Kept (sender_in state)
+      by true e = subst Kept (sym (reached state e)) (room e (leb answer_octets (length told)))
+      by false e = subst Kept (sym (refused_no_state state e)) (λ h. record { state = refl; store = refl; output = refl })
 
   lower_same : (n : ℕ) → (sender.lower_call state n store output told).number ≢ 0
       → Unchanged (sender.lower_call state n store output told) state store output

@@ -1,16 +1,19 @@
 -- The work on an event has room for the numbers of four responses, no more and no fewer: every action keeps their count, so every row does.
+use Rattle.std.specs.Prelude.{None, Some}
+use Rattle.std.specs.Prelude as std
 use Prim.Native.Nat.{ℕ, ◌+◌}
 use mathlib.Core.Path.{◌≡◌, ◌∙◌}
 use mathlib.Core.Bool.{Bool, true, false}
 use mathlib.Core.List.{List, [], ◌∷◌}
-use mathlib.Core.Option.{Option, none, some}
 use lib.Dec.{eqb, ltb}
 use lib.ListN.{length, set, length-set, length-replicate}
 use Rattle.base.specs.Choice.{pick}
-use Rattle.fop.specs.Table.{Action, Cell, cell, if_not_suspended, NotApplicable, table78, cell78, FopEvent}
-use Rattle.fop.specs.Table.{Ignore, Accept, Reject, Confirm, RejectAd, AcceptBd, RejectBd, AddToWaitQueue, LookForFdu, LookForDirective, RemoveAcknowledgedFrames}
-use Rattle.fop.specs.Table.{InitiateAdRetransmission, InitiateBcRetransmission, ReleaseBcFrame, CancelTimer, StartTimer, Alert, Initialise, TransmitUnlock, TransmitSetVr, TransmitBd}
-use Rattle.fop.specs.Table.{SetSuspendState, Suspend, Resume, SetVs, SetNnr, SetK, SetT1Initial, SetTransmissionLimit, SetTimeoutType, AdOutReady, BcOutReady, BdOutReady}
+use Rattle.fop.specs.declared.Action.{Action}
+use Rattle.fop.specs.declared.Event.{Event as FopEvent}
+use Rattle.fop.specs.Table.{Cell, cell, if_not_suspended, NotApplicable, table78, cell78}
+use Rattle.fop.specs.declared.Action.TheVariants.{Ignore, Accept, Reject, Confirm, RejectAd, AcceptBd, RejectBd, AddToWaitQueue, LookForFdu, LookForDirective, RemoveAcknowledgedFrames}
+use Rattle.fop.specs.declared.Action.TheVariants.{InitiateAdRetransmission, InitiateBcRetransmission, ReleaseBcFrame, CancelTimer, StartTimer, Alert, Initialise, TransmitUnlock, TransmitSetVr, TransmitBd}
+use Rattle.fop.specs.declared.Action.TheVariants.{SetSuspendState, Suspend, Resume, SetVs, SetNnr, SetK, SetT1Initial, SetTransmissionLimit, SetTimeoutType, AdOutReady, BcOutReady, BdOutReady}
 use Rattle.fop.specs.declared.Alert.{Alert as Reason}
 use Rattle.sender_values.specs.declared.Control.{Control}
 use Rattle.sender_values.specs.declared.Control.TheVariants as control
@@ -24,7 +27,7 @@ use Rattle.sender_values.specs.Limits.{largest_responses}
 use Rattle.sender_values.specs.Parts.{with_settings, with_variables, with_queues, with_told}
 use Rattle.sender_values.specs.Actions as act
 use Rattle.sender_values.specs.Start.{begun, none_told}
-use Rattle.sender_table.specs.Rows.{octet, done, done_all, done_cell, row_of, event_of, row_if, row_numbered}
+use Rattle.sender_table.specs.Rows.{octet, done, done_all, done_cell, row_of, row_if}
 
 -- the numbers of four responses
 abbrev pub Four : Work → Type 0
@@ -56,7 +59,7 @@ module _ (w : Work) (h : Four w) where
   unfolding act.transmit_ad_frame act.start_timer act.hand_down with_variables with_queues with_told
   transmits_ad = h
 
-  sends_control : (x : Handed) → Four (act.send_marked_control x w)
+  sends_control : (x : std.Option Handed) → Four (act.send_marked_control x w)
   unfolding act.send_marked_control act.send_control act.hand_down act.hold_control with_variables with_queues with_told
   sends_control x = by w.variables.bc_out w.queues.control_marked where
     by : (a m : Bool) → Four (pick a (pick m (act.send_control x w) w) w)
@@ -64,11 +67,11 @@ module _ (w : Work) (h : Four w) where
     by true false = h
     by false m = h
 
-  looks_for_directive : (k : Control) → Four (act.look_for_directive_of k w)
+  looks_for_directive : (k : std.Option Control) → Four (act.look_for_directive_of k w)
   unfolding act.look_for_directive_of
-  looks_for_directive control.None = h
-  looks_for_directive control.Unlock = sends_control _
-  looks_for_directive (control.SetVr n) = sends_control _
+  looks_for_directive None = h
+  looks_for_directive (Some control.Unlock) = sends_control _
+  looks_for_directive (Some (control.SetVr n)) = sends_control _
 
   removes : (n : ℕ) → Four (act.remove_acknowledged_frames n w)
   unfolding act.remove_acknowledged_frames with_variables with_queues with_told
@@ -82,7 +85,7 @@ module _ (w : Work) (h : Four w) where
   unfolding act.initiate_bc_retransmission act.again act.start_timer act.abort act.hold_control with_variables with_queues with_told
   retransmits_bc = h
 
-  transmits_bc : (c : Control) (x : Handed) → Four (act.transmit_bc_frame c x w)
+  transmits_bc : (c : std.Option Control) (x : std.Option Handed) → Four (act.transmit_bc_frame c x w)
   unfolding act.transmit_bc_frame act.start_timer act.hand_down act.hold_control with_variables with_queues with_told
   transmits_bc c x = h
 
@@ -111,11 +114,11 @@ module _ (w : Work) (h : Four w) where
     by true false true false = h
     by true false false r = h
 
-  denies : (k : Control) → Four (act.deny_control k w)
+  denies : (k : std.Option Control) → Four (act.deny_control k w)
   unfolding act.deny_control
-  denies control.None = h
-  denies control.Unlock = responds w h response.DenyDirective
-  denies (control.SetVr n) = responds w h response.DenyDirective
+  denies None = h
+  denies (Some control.Unlock) = responds w h response.DenyDirective
+  denies (Some (control.SetVr n)) = responds w h response.DenyDirective
 
   purges_waiting : Four (act.purge_wait_queue w)
   unfolding act.purge_wait_queue
@@ -191,12 +194,12 @@ cell_keeps (if_not_suspended acts others s) n w h = by (eqb w.variables.suspend_
   by true = all_keep_lem acts n w h
   by false = all_keep_lem others n w h
 
-if_keeps : (e : Option FopEvent) (n : ℕ) (w : Work) → Four w → Four (row_if e n w)
+if_keeps : (e : std.Option FopEvent) (n : ℕ) (w : Work) → Four w → Four (row_if e n w)
 unfolding row_if row_of
-if_keeps none n w h = h
-if_keeps (some e) n w h = cell_keeps (cell78 (table78 e) w.state) n w h
+if_keeps None n w h = h
+if_keeps (Some e) n w h = cell_keeps (cell78 (table78 e) w.state) n w h
 
--- the row of any number, from the start of the work
-pub four : (k n : ℕ) (s : SenderState) → Four (row_numbered k n (begun s))
-unfolding row_numbered begun none_told
-four k n s = if_keeps (event_of k) n (begun s) (length-replicate {A = ℕ} largest_responses 0)
+-- the row of any event, from the start of the work
+pub four : (e : std.Option FopEvent) (n : ℕ) (s : SenderState) → Four (row_if e n (begun s))
+unfolding begun none_told
+four e n s = if_keeps e n (begun s) (length-replicate {A = ℕ} largest_responses 0)

@@ -2,13 +2,16 @@
 -- into octets (`call_is`); the octets of the next state and of the answer tell what the step has (`after_is`, `answer_is`); so what crate our_session
 -- proves of the step holds of the call, whatever store is lent (`next_any`, `answers_any`; `state_well`: of all octets that are a state).
 -- What the lent output and the answer's buffer held is not looked at (`output_free`, `answer_buffer_free`).
+use Rattle.std.specs.Prelude as code
+use Rattle.std.specs.Prelude.{Some, None, Result, Ok}
 use Prim.Native.Nat.{ℕ, ◌+◌, ◌<◌}
 use mathlib.Core.Path.{◌≡◌, refl, sym, ap, subst, ◌∙◌}
 use mathlib.Core.Bool.{Bool, true, false}
 use mathlib.Core.List.{List, ◌++◌, append-nil}
+use mathlib.Core.Option.{Option}
 use native.Mathlib.Omega.{arith}
 use borrow.Author.Tests.{le-leb}
-use lib.Dec.{leb, eqb}
+use lib.Dec.{leb}
 use lib.ListN.{length, replicate, get_or, drop_of_length-le}
 use Rattle.base.specs.Choice.{pick, must}
 use Rattle.base.specs.Octets.{Octets, same}
@@ -18,32 +21,35 @@ use Rattle.memory.specs.Placed.{placed}
 use Rattle.memory.proofs.Laws.{placed_fits}
 use Rattle.fop.specs.Units.{Own, are_octets}
 use Rattle.fop.specs.Events.{SenderEvent, request_ad, request_bd, tick, lower, directive, word_arrives}
-use Rattle.fop.specs.Answers.{sender_answer, sender_next}
+use Rattle.fop.specs.Answers.{Answer, sender_answer, sender_next}
 use Rattle.sender_values.specs.declared.SenderState.{SenderState}
 use Rattle.store.specs.Places.{places}
 use Rattle.sender_values.specs.Start.{begun}
 use Rattle.sender_view.specs.View.{responses_of}
-use Rattle.sender_table.specs.Rows.{event_of}
+use Rattle.fop.specs.Table.{event_of}
+use Rattle.fop.specs.declared.Event.{Event as FopEvent}
 use Rattle.fop.specs.declared.Lower.{Lower}
 use Rattle.sender_rows_view.specs.State.{Good}
 use Rattle.sender_frames.specs.Limits.{need_of}
 use Rattle.sender.specs.declared.Answer.{Answer as SenderAnswer}
-use Rattle.sender.specs.declared.Start.{Start}
+use Rattle.base.specs.declared.Refusal.{Refusal}
+use Rattle.sender.specs.declared.Sender.{Sender}
 use Rattle.sender_state.specs.State.{well_formed}
 use Rattle.sender.specs.Start.{restored_of}
 use Rattle.sender.specs.Answers.{Step, refused_step}
 use Rattle.sender.specs.Events.{request_ad_of, request_bd_of, directive_of, tick_of, lower_layer_of, control_word_of}
 use Rattle.sender_octets.specs.Kept.{number_octets, state_octets, octets_of, state_in, is_state, sender_in}
-use Rattle.sender_octets.specs.Answer.{answer_octets, octets_of_answer, Told, told_by, answer_in}
+use Rattle.sender_octets.specs.Answer.{answer_octets, number_if, octets_of_answer, Told, told_by, answer_in}
 use Rattle.sender_octets.proofs.Pairs.{length_from}
 use Rattle.sender_octets.proofs.Judged.{length_octets}
 use Rattle.sender_octets.proofs.Back.{Sized, read_back, octets_back, state_only}
 use Rattle.sender_octets.proofs.Answered.{Fits, answer_back}
-use Rattle.pondreszi_sender.specs.Senders.{Called, refused_call, done_call, called_by, request_ad_call, request_bd_call, tick_call, word_call, lower_call, directive_call, narrow_number, narrow_value}
-use Rattle.our_session.specs.Ours.{Held, step_of, held_after, handed_down, answer_by, lent_output, reads}
+use Rattle.pondreszi_sender.specs.Senders.{Called, refused_call, done_call, called_with, called_by, request_ad_call, request_bd_call, tick_call, word_call, lower_call, directive_call, narrow_number, narrow_value}
+use Rattle.our_session.specs.Ours.{Held, step_of, held_after, event_told, handed_down, answer_by, lent_output, reads}
 use Rattle.session.specs.Ends.{Brought}
 use Rattle.fop.specs.Store as judged
 use Rattle.our_session.specs.Does.{Does, Well}
+use Rattle.our_session.proofs.Numbers.{number_event}
 use Rattle.our_session.proofs.Theorem.{demand2_ours, keeps_good, session_next, session_answer}
 use Rattle.our_session.proofs.Widened.{good_well, well_good}
 use Rattle.our_session.proofs.Output.{output_content_free}
@@ -61,9 +67,15 @@ placed_whole memory octets e =
     ∙ append-nil octets
 
 -- octets that are a state give the sender that they hold
-pub reached : (o : List ℕ) → is_state o ≡ true → sender_in o ≡ record { refusal = 0; sender = record { fop = state_in o } }
+pub reached : (o : List ℕ) → is_state o ≡ true → sender_in o ≡ Ok (record { fop = state_in o })
 unfolding sender_in is_state restored_of
 reached o e = yes _ _ _ e ∙ yes _ _ _ (both_right (same o (octets_of (state_in o))) (well_formed (state_in o)) e)
+
+-- an event by its number
+event_back : (e : code.Option FopEvent) → event_of (number_if e) ≡ event_told e
+unfolding event_of
+event_back None = refl
+event_back (Some e) = number_event e
 
 -- a call by its event
 module _ (x : Kept) (is : is_state x.state ≡ true) (output : List ℕ) where
@@ -74,9 +86,7 @@ module _ (x : Kept) (is : is_state x.state ≡ true) (output : List ℕ) where
   called_at : (told : List ℕ) → leb answer_octets (length told) ≡ true → (event : SenderState → Step)
       → called_by event x.state x.store output told ≡ done_call (event s) x.state told
   called_at told room event =
-      ap (λ (t : Start). must (eqb t.refusal 0) (refused_call 12 x.state x.store output told)
-      (must (leb answer_octets (length told)) (refused_call 11 x.state x.store output told) (done_call (event t.sender.fop) x.state told)))
-      (reached x.state is)
+      ap (λ (t : Result Sender Refusal). called_with t event x.state x.store output told) (reached x.state is)
       ∙ ap (λ (b : Bool). must b (refused_call 11 x.state x.store output told) (done_call (event s) x.state told)) room
 
   called_by_lem : (event : SenderState → Step) → called_by event x.state x.store output lent_answer ≡ done_call (event s) x.state lent_answer
@@ -150,10 +160,9 @@ module _ (x : Kept) (is : is_state x.state ≡ true) (output : List ℕ) where
   unfolding answer_called
   answer_is e =
       let y : Step = step_of e output (held_in x) in
-      ap answer_called (call_is e)
-      ∙ ap (λ (t : Told). record {
+      let told : Option FopEvent → Told → Answer = λ event t. record {
         refusal = y.answer.refusal;
-        event = event_of t.event;
+        event = event;
         state = t.state;
         down = handed_down t.down y.output;
         abort = t.abort;
@@ -162,8 +171,9 @@ module _ (x : Kept) (is : is_state x.state ≡ true) (output : List ℕ) where
         suspended = t.suspended;
         confirmed = t.confirmed;
         denied = t.denied;
-      })
-      (told_is y.answer (fits s x.store output y (way e)))
+      } in
+      ap answer_called (call_is e) ∙ ap (λ (t : Told). told (event_of t.event) t) (told_is y.answer (fits s x.store output y (way e)))
+      ∙ ap (λ (event : Option FopEvent). told event (told_by y.answer)) (event_back y.answer.event)
 
 -- nor is what the output held
 pub output_free : (x : Kept) → is_state x.state ≡ true → (e : SenderEvent) (a b : List ℕ) → length a ≡ length b

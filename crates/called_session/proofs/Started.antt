@@ -1,5 +1,6 @@
 -- What `pondreszi_sender_new` gives, with settings within their limits, any two numbers and a store that suffices: no refusal, and in a buffer of a state's
 -- length the octets of the sender at its start. So a caller keeps that sender, and it is well-formed (`started`).
+use Rattle.std.specs.Prelude.{Result, Ok}
 use Prim.Native.Nat.{ℕ, ◌≤◌}
 use mathlib.Core.Path.{◌≡◌, refl, sym, ap, subst, ◌∙◌}
 use mathlib.Core.Bool.{Bool, true}
@@ -17,7 +18,8 @@ use Rattle.sender_values.specs.declared.Settings.{Settings}
 use Rattle.sender_values.specs.Start.{start_of}
 use Rattle.sender_rows_view.specs.State.{Good}
 use Rattle.sender_state.specs.State.{settings_hold}
-use Rattle.sender.specs.declared.Start.{Start}
+use Rattle.base.specs.declared.Refusal.{Refusal}
+use Rattle.sender.specs.declared.Sender.{Sender}
 use Rattle.sender_octets.specs.Kept.{state_octets, octets_of, is_state}
 use Rattle.sender_octets.proofs.Judged.{length_octets}
 use Rattle.pondreszi_sender.specs.Senders as sender
@@ -50,7 +52,7 @@ module _ (g : Settings) (limits : settings_hold g ≡ true) (timer : g.t1_initia
   first = start_of g vs nnr
 
   given : sender.start_given g.k g.t1_initial g.transmission_limit g.timeout_type g.spacecraft g.channel vs nnr (length store)
-      ≡ record { refusal = 0; sender = record { fop = first } }
+      ≡ Ok (record { fop = first })
   unfolding sender.start_given
   given =
       simp (
@@ -65,7 +67,7 @@ module _ (g : Settings) (limits : settings_hold g ≡ true) (timer : g.t1_initia
   unfolding sender.new_call start_of
   new_done =
       let l : state_octets ≤ length buffer = omega arith in
-      ap (λ (x : Start). sender.started_call x buffer) given
+      ap (λ (x : Result Sender Refusal). sender.started_call x buffer) given
       ∙ ap (λ (b : Bool). must b (record { number = 11; state = buffer }) (record { number = 0; state = placed buffer 0 (octets_of first) }))
       (le-leb state_octets (length buffer) l)
       ∙ ap (λ (o : List ℕ). record { number = 0; state = o }) (placed_whole buffer (octets_of first) (length_octets first refl ∙ sym sized))

@@ -1,6 +1,7 @@
 -- Demand 3 of the functions that C and Rust call: a caller's two ends are tied to the tables, so crate session's theorem holds of them. The premise
 -- can be met: what `pondreszi_sender_new` gives, told to initiate without check, begins a session, and what `pondreszi_receiver_new` gives is the
 -- receiver of its start.
+use Rattle.std.specs.Prelude.{Result, Err}
 use Prim.Native.Nat.{ℕ, ◌≤◌}
 use mathlib.Core.Path.{◌≡◌, sym, ap, subst, ◌∙◌}
 use mathlib.Core.Bool.{Bool}
@@ -13,8 +14,9 @@ use Rattle.fop.specs.Limits.{largest_number}
 use Rattle.fop.specs.Events.{directive}
 use Rattle.receiver_octets.specs.Kept as farm
 use Rattle.receiver.specs.Receiver as farm_start
-use Rattle.receiver.specs.declared.Start.{Start as FarmStart}
-use Rattle.receiver.specs.declared.Start.TheVariants.{Setting as FarmSetting}
+use Rattle.receiver.specs.declared.Receiver.{Receiver}
+use Rattle.base.specs.declared.Refusal.{Refusal}
+use Rattle.base.specs.declared.Refusal.TheVariants.{Setting}
 use Rattle.receiver_octets.proofs.Restored.{receiver_back}
 use Rattle.session.specs.Ends.{Settings, Within, Tied, start_receiver}
 use Rattle.session.specs.Signed.{Demanded}
@@ -23,11 +25,11 @@ use Rattle.session.proofs.Theorem.{demand3}
 use Rattle.session.proofs.Alerting.{demand3_alerting, beyond_alerting}
 use Rattle.session.proofs.Strong.{stronger_claims}
 use Rattle.session.proofs.Beyond.{beyond}
-use Rattle.sender.specs.declared.Start.{Start}
+use Rattle.sender.specs.declared.Sender.{Sender}
 use Rattle.fop.specs.Store.{store_need}
 use Rattle.sender_octets.specs.Kept.{state_octets}
 use Rattle.pondreszi_receiver.specs.Receivers as receiver
-use Rattle.our_session.specs.Ours.{Held, step_of, held_after, lent_output, sender_settings, fresh_held, start_held, reads, Begins}
+use Rattle.our_session.specs.Ours.{Held, step_of, held_after, lent_output, sender_settings, sender_started, fresh_held, start_held, reads, Begins}
 use Rattle.our_session.proofs.Theorem.{limits_hold, starts, fresh_begins, receiver_starts}
 use Rattle.called_session.specs.Called.{Kept, held_in, BeginsKept, called}
 use Rattle.called_session.specs.Demand.{Demand3, StrongerCalled, BeyondCalled, AlertingCalled}
@@ -80,7 +82,7 @@ module _ (set : Settings) (within : Within set) (store : List ℕ) (long : store
 
   new_held : held_in (new_kept set store buffer) ≡ fresh_held set set.n store
   unfolding fresh_held
-  new_held = new.held ∙ sym (ap (λ (x : Start). record { sender = x.sender; store = store }) (starts set within set.n within.number store long))
+  new_held = new.held ∙ sym (ap (λ (x : Result Sender Refusal). record { sender = sender_started x; store = store }) (starts set within set.n within.number store long))
 
   -- told to initiate without check, it begins a session at Transmission_Count 1
   start_begins : set.count ≡ 1 → BeginsKept set (start_kept set store buffer)
@@ -118,10 +120,10 @@ fresh_receiver set within zero buffer sized =
     let l : farm.state_octets ≤ length buffer = omega arith in
     let s : length buffer ≤ farm.state_octets = omega arith in
     let octets : List ℕ = farm.octets_of (start_receiver set) in
-    let start : FarmStart = farm_start.start_of set.own.spacecraft set.own.channel set.w set.n set.buffers in
-    ap (λ (b : Bool). receiver.starting (must b FarmSetting start) buffer)
+    let start : Result Receiver Refusal = farm_start.start_of set.own.spacecraft set.own.channel set.w set.n set.buffers in
+    ap (λ (b : Bool). receiver.starting (must b (Err Setting) start) buffer)
     (le-leb set.n largest_number within.number)
-    ∙ ap (λ (x : FarmStart). receiver.starting x buffer) (receiver_starts set within zero)
+    ∙ ap (λ (x : Result Receiver Refusal). receiver.starting x buffer) (receiver_starts set within zero)
     ∙ ap (λ (b : Bool). must b (record { number = 11; state = buffer }) (record { number = 0; state = octets ++ drop farm.state_octets buffer }))
     (le-leb farm.state_octets (length buffer) l)
     ∙ ap (λ (o : List ℕ). record { number = 0; state = o })

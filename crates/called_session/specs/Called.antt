@@ -9,7 +9,7 @@ use Rattle.fop.specs.Events.{SenderEvent, request_ad, request_bd, tick, lower, d
 use Rattle.fop.specs.declared.Lower.{Lower}
 use Rattle.fop.specs.Answers.{Answer}
 use Rattle.sender_view.specs.View.{responses_of}
-use Rattle.sender_table.specs.Rows.{event_of}
+use Rattle.fop.specs.Table.{event_of}
 use Rattle.receiver_octets.specs.Kept.{octets_of as receiver_octets}
 use Rattle.session.specs.Receiver.{ReceiverEvent, frame_arrives, release_buffer, ReceiverAnswer, WordAnswer}
 pub use Rattle.session.specs.Receiver.{event_numbered}

@@ -1,15 +1,18 @@
 -- Records one behind the other: the record at a place is in the octets from there on (`record_at_lem`), and octets are those of their records where the first
 -- are those of the first record and the others are a table (`table_next_lem`).
-use mathlib.Core.Path.{◌≡◌, refl, sym, ap, ◌∙◌}
+use mathlib.Core.Path.{◌≡◌, refl, sym, ap, ap₂, ◌∙◌}
 use mathlib.Core.Bool.{Bool, true, false}
 use mathlib.Core.List.{List, [], ◌∷◌, ◌++◌}
-use Prim.Native.Nat.{ℕ, zero, suc, ◌+◌, ◌*◌, ◌-◌, ◌/◌, ◌%◌, ◌<◌, ◌≤◌}
+use Prim.Native.Nat.{ℕ, zero, suc, ◌+◌, ◌*◌, ◌/◌, ◌%◌, ◌<◌, ◌≤◌}
 use native.Mathlib.Nat.{le_of_suc-le-suc, not-suc-le-zero}
 use native.Mathlib.Omega.{arith}
 use borrow.Author.Tests.{eq-eqb}
 use lib.Dec.{eqb}
-use lib.ListN.{length, take, drop, get_or, take-append-drop, length-drop, drop_of_length-le}
+use lib.ListN.{length, take, drop, get_or, take-append-drop}
 use lib.Seq.{drop-drop, length-take-le}
+use Rattle.std.proofs.lemmas.List.{take-append-le}
+use Rattle.std.proofs.Math.ListN.{get_or-append, length-append}
+use Rattle.std.proofs.Math.Seq.{drop-append_seam}
 use Rattle.base.specs.Choice.{both}
 use Rattle.base.specs.Octets.{same}
 use Rattle.base.proofs.Lists.{rest}
@@ -52,37 +55,45 @@ table_first n o h =
     ap (λ (l : List ℕ). same l (table_octets (records_from (suc n) o))) (sym (take-append-drop record_octets o))
     ∙ same_append (take record_octets o) (drop record_octets o) (octets_of (record_in o)) (table_octets (records_from n (drop record_octets o))) (length-take-le record_octets o h)
 
--- as a loop that counts up by one meets it, of n records at the place i
-module _ (o : List ℕ) (n i : ℕ) (whole : n * record_octets ≤ length o) where
-  pub table_next_lem : i < n → (b : Bool) → b ≡ same (take record_octets (drop (i * record_octets) o)) (octets_of (record_in (drop (i * record_octets) o)))
-      → are_of (n - i) (drop (i * record_octets) o) ≡ both b (are_of (n - (i + 1)) (drop ((i + 1) * record_octets) o))
-  table_next_lem h b e =
-      let rest = drop (i * record_octets) o in
-      let long : record_octets ≤ length rest = omega (arith, length-drop (i * record_octets) o) in
-      let less : n - i ≡ suc (n - (i + 1)) = omega arith in
-      let further : i * record_octets + record_octets ≡ (i + 1) * record_octets = omega arith in
-      let on : drop record_octets rest ≡ drop ((i + 1) * record_octets) o =
-      drop-drop record_octets (i * record_octets) o ∙ ap (λ (k : ℕ). drop k o) further in
-      ap (λ (m : ℕ). are_of m rest) less
-      ∙ table_first (n - (i + 1)) rest long
-      ∙ ap (λ (x : Bool). both x (are_of (n - (i + 1)) (drop record_octets rest))) (sym e)
-      ∙ ap (λ (l : List ℕ). both b (are_of (n - (i + 1)) l)) on
-
-  -- none is left
-  pub table_end : n * record_octets ≡ length o → i ≡ n → are_of (n - i) (drop (i * record_octets) o) ≡ true
-  table_end e k =
-      let none : n - i ≡ 0 = omega arith in
-      let past : length o ≤ i * record_octets = omega arith in
-      ap (λ (m : ℕ). are_of m (drop (i * record_octets) o)) none
-      ∙ ap (λ (l : List ℕ). same l []) (drop_of_length-le o past)
-
 -- octets that are whole records are a table where they are those of their records
 pub whole_table : (o : List ℕ) → length o % record_octets ≡ 0 → is_table o ≡ are_of (length o / record_octets) o
 unfolding is_table
 whole_table o e = rw (eq-eqb (length o % record_octets) 0 e)
 
--- the first record of a part `&o[a..]`
-pub of_rest : (o : List ℕ) (a : ℕ)
-    → same (take record_octets (take (length o - a) (drop a o))) (octets_of (record_in (take (length o - a) (drop a o))))
-    ≡ same (take record_octets (drop a o)) (octets_of (record_in (drop a o)))
-of_rest o a = ap (λ (l : List ℕ). same (take record_octets l) (octets_of (record_in l))) (rest o a)
+-- the record that octets begin with
+record_front : (x rest : List ℕ) → length x ≡ record_octets → record_in (x ++ rest) ≡ record_in x
+record_front x rest e =
+    rw (
+      get_or-append x rest 0 2 (omega (arith, e)),
+      get_or-append x rest 0 3 (omega (arith, e)),
+      get_or-append x rest 0 4 (omega (arith, e)),
+      get_or-append x rest 0 5 (omega (arith, e)),
+      get_or-append x rest 0 6 (omega (arith, e)),
+      get_or-append x rest 0 7 (omega (arith, e)),
+      get_or-append x rest 0 8 (omega (arith, e)),
+    )
+    refl
+
+-- a table by its first record and the octets behind it
+module _ (x rest : List ℕ) (e : length x ≡ record_octets) (whole : length (x ++ rest) % record_octets ≡ 0) where
+  pub whole_behind : length rest % record_octets ≡ 0
+  whole_behind = omega (arith, e, whole, length-append x rest)
+
+  pub table_next_lem : (b : Bool) → b ≡ same (take record_octets x) (octets_of (record_in x)) → both b (is_table rest) ≡ is_table (x ++ rest)
+  table_next_lem b h =
+      let long : record_octets ≤ length (x ++ rest) = omega (arith, e, length-append x rest) in
+      let count : length (x ++ rest) / record_octets ≡ suc (length rest / record_octets) = omega (arith, e, length-append x rest) in
+      let back : drop record_octets (x ++ rest) ≡ rest = ap (λ (k : ℕ). drop k (x ++ rest)) (sym e) ∙ drop-append_seam x rest in
+      let first : same (take record_octets (x ++ rest)) (octets_of (record_in (x ++ rest))) ≡ b =
+      ap₂ (λ (l : List ℕ) (c : Channel). same l (octets_of c)) (take-append-le record_octets x rest (omega (arith, e))) (record_front x rest e) ∙ sym h in
+      sym
+      (whole_table (x ++ rest) whole
+      ∙ ap (λ (n : ℕ). are_of n (x ++ rest)) count
+      ∙ table_first (length rest / record_octets) (x ++ rest) long
+      ∙ ap₂ (λ (t : Bool) (l : List ℕ). both t (are_of (length rest / record_octets) l)) first back
+      ∙ ap (both b) (sym (whole_table rest whole_behind)))
+
+-- no octets are a table
+pub table_end : (o : List ℕ) → length o % record_octets ≡ 0 → length o < record_octets → is_table o ≡ true
+table_end [] w h = whole_table [] refl
+table_end (x ∷ o) w h = absurd (omega (arith, w, h))

@@ -10,12 +10,8 @@ ghost use Rattle.channel_octets.specs.Kept.{record_octets, octets_of, record_in,
 
 use channel_table::{empty, few, with_record};
 use channels::Channels;
-use farm::Variables;
 use receiver::Channel;
-use receiver_octets::{
-    FLAGS_END, LOCKOUT, LOCKOUT_FLAG, OPEN, RETRANSMIT_FLAG, WAIT_FLAG, flag, state_number,
-    state_numbered,
-};
+use receiver_octets::{flags_octet, state_number, variables_in};
 
 pub const RECORD_OCTETS: usize = 9;
 
@@ -29,18 +25,15 @@ pub fn octets_of(channel: Channel) -> [u8; RECORD_OCTETS]
     ensures { result ≡ octets_of channel }
 {
     let v = channel.variables;
-    let state = v.state;
-    let number = state_number(state);
-    let flags = flag(v.lockout) * LOCKOUT_FLAG + flag(v.wait) * WAIT_FLAG + flag(v.retransmit);
     [
         MARK,
         LAYOUT,
-        number,
+        state_number(v.state),
         channel.number,
         channel.window,
         channel.held,
         v.vr,
-        flags,
+        flags_octet(v),
         v.counter,
     ]
 }
@@ -50,21 +43,11 @@ fn record_in(octets: &[u8]) -> Channel
     requires { record_octets ≤ length octets.now }
     ensures { result ≡ record_in octets.now }
 {
-    let state = state_numbered(octets[2]);
-    let flags = octets[7];
-    let variables = Variables {
-        state: state,
-        vr: octets[6],
-        lockout: flags / LOCKOUT_FLAG % 2 == 1,
-        wait: flags / WAIT_FLAG % 2 == 1,
-        retransmit: flags / RETRANSMIT_FLAG % 2 == 1,
-        counter: octets[8],
-    };
     Channel {
         number: octets[3],
         window: octets[4],
         held: octets[5],
-        variables: variables,
+        variables: variables_in(octets[2], octets[6], octets[7], octets[8]),
     }
 }
 
@@ -73,19 +56,7 @@ fn is_record(octets: &[u8]) -> bool
     requires { record_octets ≤ length octets.now }
     ensures { result ≡ same (take record_octets octets.now) (octets_of (record_in octets.now)) }
 {
-    if octets[0] != MARK {
-        return false;
-    }
-    if octets[1] != LAYOUT {
-        return false;
-    }
-    if octets[2] < OPEN {
-        return false;
-    }
-    if LOCKOUT < octets[2] {
-        return false;
-    }
-    octets[7] < FLAGS_END
+    octets[0] == MARK && octets[1] == LAYOUT && (1..=3).contains(&octets[2]) && octets[7] < 8
 }
 
 // Whether octets are a table: whole records, each as it is written.
@@ -95,29 +66,23 @@ pub fn is_table(table: &[u8]) -> bool
     if table.len() % RECORD_OCTETS != 0 {
         return false;
     }
-    let count = table.len() / RECORD_OCTETS;
-    let mut place: usize = 0;
-    while place < count {
-        if !is_record(&table[place * RECORD_OCTETS..]) {
+    for record in table.chunks_exact(RECORD_OCTETS) {
+        if !is_record(record) {
             return false;
         }
-        place += 1;
     }
     true
 }
 
 // The receiver of the records that octets hold. Where there are more than eight, the count says so and none is read.
+// The places are counted, since each record is put at its place in the array.
 pub fn channels_in(spacecraft: u16, pool: u8, table: &[u8]) -> Channels
     ensures { result ≡ taken_of spacecraft pool (records_in table.now) }
 {
     let count = table.len() / RECORD_OCTETS;
     let mut channels = empty(spacecraft, pool, count);
-    let read = few(count);
-    let mut place: usize = 0;
-    while place < read {
-        let next = record_in(&table[place * RECORD_OCTETS..]);
-        channels = with_record(channels, place, next);
-        place += 1;
+    for place in 0..few(count) {
+        channels = with_record(channels, place, record_in(&table[place * RECORD_OCTETS..]));
     }
     channels
 }
@@ -126,9 +91,7 @@ pub fn channels_in(spacecraft: u16, pool: u8, table: &[u8]) -> Channels
 pub fn put_record(table: &mut [u8], place: usize, channel: Channel)
     ensures { table.new ≡ placed table.old (place * record_octets) (octets_of channel) }
 {
-    if table.len() / RECORD_OCTETS <= place {
-        return;
+    if place < table.len() / RECORD_OCTETS {
+        memory::put(table, place * RECORD_OCTETS, &octets_of(channel));
     }
-    let octets = octets_of(channel);
-    memory::put(table, place * RECORD_OCTETS, &octets);
 }

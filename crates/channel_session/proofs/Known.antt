@@ -16,7 +16,7 @@ use Rattle.frame.specs.Answers.{reading_of, part_of}
 use Rattle.frame.specs.Frame.{refusal_of}
 use Rattle.frame.specs.declared.Fields.{Fields}
 use Rattle.frame.specs.declared.Kind.TheVariants as kind
-use Rattle.frame.specs.declared.FrameReading.TheVariants.{Frame}
+use Rattle.std.specs.Prelude.{Ok}
 use Rattle.frame.proofs.Written.{octets_frame}
 use Rattle.frame.proofs.Back.{legal_fits}
 use Rattle.frame.proofs.Accepted.{accepted, reading_frame, reading_refused}
@@ -40,7 +40,7 @@ use Rattle.session.proofs.Received.{Readable, data_part, receiver_of}
 use Rattle.session.proofs.Received as session
 use Rattle.session.proofs.Octets.{octets_are, ad_legal, bd_legal, ad_reading, ad_part, bd_reading, bd_part, told_if, word_told_lem}
 use Rattle.session.proofs.Noise.{refused_reading}
-use Rattle.channels.specs.declared.Turn.{Turn}
+use Rattle.channels.specs.Table.{Turn}
 use Rattle.channels.specs.Table.{is_in, table_holds, has_room, record_of, turned, records_after, addressed, by_reading, frame_turn, unit_part, release_turn, word_of, word_writing}
 use Rattle.channels.specs.Isolation as channels
 use Rattle.channels.specs.Isolation.{ours, frame_arrives, release_buffer, named, channel_of, after}
@@ -75,7 +75,7 @@ octets_of_lem own s c (SetVR v) h = absurd h
 octets_of_lem own s c (units.Refused r) h = absurd h
 
 -- octets that are read as a frame name the channel at which they are read
-names : (octets : List ℕ) (spacecraft channel : ℕ) (f : Fields) → reading_of octets spacecraft channel ≡ Frame f → named octets ≡ channel
+names : (octets : List ℕ) (spacecraft channel : ℕ) (f : Fields) → reading_of octets spacecraft channel ≡ Ok f → named octets ≡ channel
 unfolding reading_of
 names octets spacecraft channel f e = go (eqb (refusal_of octets spacecraft channel) 0) refl
   where
@@ -113,7 +113,7 @@ module _ (set : Settings) (vw : Within set) (pool : Pool) where
     room = has_room pool.size cs
 
     -- octets that are read as a frame of the channel
-    module _ (octets : List ℕ) (f : Fields) (e : reading_of octets spacecraft channel ≡ Frame f) where
+    module _ (octets : List ℕ) (f : Fields) (e : reading_of octets spacecraft channel ≡ Ok f) where
       address_is : addressed cs octets ≡ channel
       address_is =
           let n = names octets spacecraft channel f e in

@@ -21,7 +21,7 @@ use Rattle.frame.specs.declared.Kind.{Kind}
 use Rattle.receiver.specs.declared.Channel.{Channel}
 use Rattle.receiver.specs.Channel.{event_of, star_of, takes, answered, arrived}
 use Rattle.session.specs.Receiver.{handed_out}
-use Rattle.channels.specs.declared.Turn.{Turn}
+use Rattle.channels.specs.Table.{Turn}
 use Rattle.channels.specs.Table.{is_in, place_of, held_in, has_room, record_of, nothing, turned, records_after, addressed, frame_turn, release_turn}
 use Rattle.channels.specs.Isolation.{named}
 use Rattle.channels.proofs.RecordLaws.{own_set, others_set, held_set, place_within}

@@ -15,13 +15,14 @@ use Rattle.farm.specs.Table.{step_of}
 use Rattle.farm.specs.Window.{not_wait}
 use Rattle.farm.specs.declared.Event.TheVariants.{E10}
 use Rattle.frame.specs.Answers.{reading_of, part_of}
-use Rattle.frame.specs.declared.FrameReading.{FrameReading}
-use Rattle.frame.specs.declared.FrameReading.TheVariants.{Frame, Refused}
+use Rattle.std.specs.Prelude.{Ok, Err}
+use Rattle.base.specs.Refusals.{refusal_number}
+use Rattle.frame.specs.Answers.{FrameReading}
 use Rattle.receiver.specs.declared.Channel.{Channel}
 use Rattle.receiver.specs.Channel.{become, arrived}
 use Rattle.receiver.specs.Receiver.{part_for}
 use Rattle.session.specs.Session.{ad_request, lower_says, ticks, frame_in}
-use Rattle.channels.specs.declared.Turn.{Turn}
+use Rattle.channels.specs.Table.{Turn}
 use Rattle.channels.specs.Table.{table_holds, record_of, nothing, turned, records_after, addressed}
 use Rattle.channel_session.specs.Ends.{ManyEnds, TableEvent, TableAnswer, frame, release, answer_by, table_next, table_answer, table_word, tables}
 use Rattle.channel_session.specs.Session.{ChannelEvent, own, other_frame, other_release}
@@ -48,8 +49,8 @@ unit = record { ns = 254; octets = 17 ∷ [] }
 
 -- A receiver for which a buffer is free while its own channel holds fewer than the pool has.
 abbrev by_own : List Channel → ℕ → FrameReading → Turn
-by_own cs n (Frame fields) = turned n (arrived (ltb (record_of n cs).held pool.size) (record_of n cs) fields.kind) cs
-by_own cs n (Refused number) = nothing number 9 cs
+by_own cs n (Ok fields) = turned n (arrived (ltb (record_of n cs).held pool.size) (record_of n cs) fields.kind) cs
+by_own cs n (Err refusal) = nothing (refusal_number refusal) 9 cs
 
 abbrev own_turn : List Channel → List ℕ → Turn
 own_turn cs octets = must (table_holds 5 pool.size cs) (nothing 12 0 cs) (by_own cs (addressed cs octets) (reading_of octets 5 (addressed cs octets)))

@@ -8,7 +8,7 @@ use Rattle.receiver.specs.declared.Channel.{Channel}
 use Rattle.session.specs.Receiver.{ReceiverEvent, frame_arrives, release_buffer, ReceiverAnswer, WordAnswer, handed_out, word_told}
 pub use Rattle.session.specs.Receiver.{event_numbered}
 use Rattle.session.specs.Ends.{Settings, Ends, Brought, start_sender, start_receiver}
-use Rattle.channels.specs.declared.Turn.{Turn}
+use Rattle.channels.specs.Table.{Turn}
 use Rattle.channels.specs.Table.{is_in, held_in, table_holds, record_of, records_after, frame_turn, unit_part, release_turn, word_writing}
 
 -- the receiver's start: the size of its pool, and the records of its channels

@@ -1,6 +1,5 @@
--- The records copied so far stand at the front of the eight: one more is copied (`copied_at`); how many there are to copy (`few_fits`); and the receiver
--- on the way (`partly`), with one record more (`one_more`) and with all of them (`all_taken`).
-use mathlib.Core.Path.{◌≡◌, refl, ap, ◌∙◌}
+-- The records copied so far stand at the front of the eight: one more is copied (`copied_at`); and how many there are to copy (`few_fits`).
+use mathlib.Core.Path.{◌≡◌, refl, ap}
 use Prim.Native.Nat.{ℕ, zero, suc, ◌+◌, ◌≤◌, ◌<◌}
 use native.Mathlib.Nat.{not-suc-le-zero, le_of_suc-le-suc}
 use native.Mathlib.Numerals.{add-one}
@@ -10,10 +9,8 @@ use mathlib.Core.List.{List, [], ◌∷◌, ◌++◌}
 use lib.Dec.{leb}
 use lib.ListN.{length, get_or, set, take, drop}
 use borrow.Author.Tests.{leb-true}
-use Rattle.receiver.specs.declared.Channel.{Channel}
-use Rattle.channels.specs.declared.Channels.{Channels}
 use Rattle.channels.specs.Limits.{largest_channels}
-use Rattle.channel_table.specs.Taken.{few_of, no_records, with_record, taken_of}
+use Rattle.channel_table.specs.Taken.{few_of}
 
 -- base/proofs/Lists has it of octets (`store`)
 pub copied_at : {A : Type 0} (xs zs : List A) (i : ℕ) (d : A) → i < length xs → i < length zs
@@ -33,24 +30,3 @@ few_by n false e = (rw e (omega arith), rw e (omega arith))
 -- no more records are taken than there are, nor more than eight
 pub few_fits : (n : ℕ) → (few_of n ≤ n) × (few_of n ≤ largest_channels)
 few_fits n = few_by n (leb n largest_channels) refl
-
--- the first i records are taken, and no record stands in the other places
-abbrev pub partly : ℕ → ℕ → List Channel → ℕ → Channels
-partly spacecraft pool xs i = record {
-  spacecraft = spacecraft;
-  pool = pool;
-  count = length xs;
-  records = take i xs ++ drop i no_records;
-}
-
-pub one_more : (spacecraft pool : ℕ) (xs : List Channel) (i : ℕ) (d : Channel) (s t : Channels) → s ≡ partly spacecraft pool xs i
-    → t ≡ with_record s i (get_or xs i d) → i < few_of (length xs) → t ≡ partly spacecraft pool xs (i + 1)
-one_more spacecraft pool xs i d s t e f l =
-    f
-    ∙ ap (λ (u : Channels). with_record u i (get_or xs i d)) e
-    ∙ ap (λ (cs : List Channel). record { spacecraft = spacecraft; pool = pool; count = length xs; records = cs })
-    (copied_at xs no_records i d (omega (arith, l, (few_fits (length xs)).0)) (omega (arith, l, (few_fits (length xs)).1)))
-
-pub all_taken : (spacecraft pool : ℕ) (xs : List Channel) (i : ℕ) (s : Channels) → s ≡ partly spacecraft pool xs i → i ≡ few_of (length xs)
-    → s ≡ taken_of spacecraft pool xs
-all_taken spacecraft pool xs i s e f = e ∙ ap (partly spacecraft pool xs) f

@@ -1,6 +1,7 @@
 -- What an event reads: of the other channels whether the pool has room and nothing else (`reads`), and that only where order 8 says, by which it answers there
 -- (`reads_there`). One argument for both: with the same record of its own an event is answered alike where the channel answers alike with both rooms, and a
 -- channel does so unless an expected frame meets it in Open or Lockout, or a release in Wait while it holds none (`frame_unread`, `release_unread`).
+use Rattle.std.specs.Prelude.{None}
 use mathlib.Core.Path.{◌≡◌, refl, sym, ap, ◌∙◌}
 use mathlib.Core.Bool.{Bool, true, false, not}
 use mathlib.Core.List.{List, []}
@@ -18,7 +19,6 @@ use Rattle.farm.specs.Window.{not_wait, ad_event}
 use Rattle.farm.specs.declared.State.{State}
 use Rattle.farm.specs.declared.Event.{Event as FarmEvent}
 use Rattle.farm.specs.declared.Event.TheVariants.{E1, E2}
-use Rattle.farm.specs.declared.AcceptedUnit.TheVariants.{None}
 use Rattle.frame.specs.Answers.{part_of}
 use Rattle.frame.specs.Frame.{refusal_of, kind_of}
 use Rattle.frame.specs.declared.Kind.{Kind}

@@ -1,6 +1,8 @@
 -- A computed run of two channels, 3 and 5, with a pool of one buffer: 3 takes it, 5 finds none and waits; 3's release frees it, and 5 still waits, with a free
 -- buffer; its expected frame is discarded as E2; a release that names 5 opens it and leaves the pool as it was; then its frame is accepted. The control words of
 -- both on the way, and each refusal (`run`, `twelve`, `seven`). Every premise of specs/Isolation's statements on Wait is met on the way (`waits_with_room`).
+use Rattle.std.specs.Prelude.{None, Some}
+use Rattle.farm.specs.declared.AcceptedUnit.TheVariants.{Ad as AdUnit}
 use mathlib.Core.Path.{◌≡◌, refl}
 use mathlib.Core.Bool.{Bool, true, false}
 use mathlib.Core.List.{List, [], ◌∷◌}
@@ -23,7 +25,6 @@ use Rattle.farm.specs.Table as t79
 use Rattle.farm.specs.Window as window
 use Rattle.farm.specs.declared.State.{State}
 use Rattle.farm.specs.declared.State.TheVariants.{Open, Wait}
-use Rattle.farm.specs.declared.AcceptedUnit.TheVariants.{None, AdUnit}
 use Rattle.frame_header.specs.Header as header
 use Rattle.frame.specs.Frame as frame
 use Rattle.frame.specs.Answers as frame_answers
@@ -123,7 +124,7 @@ pub run : answers
     ∷ report_word 3 4
     ∷ [])
     start
-    ≡ turn 0 1 3 AdUnit (0xAB ∷ [])
+    ≡ turn 0 1 3 (Some AdUnit) (0xAB ∷ [])
     ∷ turn 0 2 5 None []
     ∷ word (Outcome.done (0x01 ∷ 0x0C ∷ 0x00 ∷ 0x01 ∷ []) tt)
     ∷ word (Outcome.done (0x01 ∷ 0x14 ∷ 0x18 ∷ 0x00 ∷ []) tt)
@@ -132,7 +133,7 @@ pub run : answers
     ∷ turn 0 2 5 None []
     ∷ turn 0 10 5 None []
     ∷ word (Outcome.done (0x01 ∷ 0x14 ∷ 0x08 ∷ 0x00 ∷ []) tt)
-    ∷ turn 0 1 5 AdUnit (0xCD ∷ [])
+    ∷ turn 0 1 5 (Some AdUnit) (0xCD ∷ [])
     ∷ turn 13 0 0 None []
     ∷ turn 0 7 3 None []
     ∷ turn 9 9 0 None []
@@ -221,7 +222,7 @@ eight =
     ∷ one 4 9 Open 9 false false 0 ∷ one 5 0 Open 0 false false 0 ∷ one 6 0 Open 0 false false 0 ∷ one 63 0 Open 0 false false 0 ∷ []
 
 pub eight_and_sixteen :
-    (told ours 5 16 eight ad3 ≡ turn 0 1 3 AdUnit (0xAB ∷ []))
+    (told ours 5 16 eight ad3 ≡ turn 0 1 3 (Some AdUnit) (0xAB ∷ []))
     × (told ours 5 16 (after ours 5 16 eight ad3) ad5 ≡ turn 0 2 5 None [])
     × ((record_of 5 (after ours 5 16 (after ours 5 16 eight ad3) ad5)).variables.state ≡ Wait)
 unfolding computing

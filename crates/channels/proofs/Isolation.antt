@@ -1,6 +1,7 @@
 -- Isolation: an event leaves every other channel's record, the count and the numbers (`isolated`), each refusal is told whole and changes no record
 -- (`refusals`). By the cases of proofs/Turns: one record is changed for another of its number, and what the channel answers is a function of its record,
 -- the kind and the room.
+use Rattle.std.specs.Prelude.{None}
 use mathlib.Core.Path.{◌≡◌, refl, sym, ap, ◌∙◌}
 use mathlib.Core.Bool.{Bool, true, false}
 use mathlib.Core.List.{List, []}
@@ -10,7 +11,6 @@ use lib.ListN.{length, length-set}
 use Rattle.base.specs.Octets.{Octets}
 use Rattle.base.proofs.Tests.{apart}
 use Rattle.farm.specs.declared.Event.TheVariants.{E10}
-use Rattle.farm.specs.declared.AcceptedUnit.TheVariants.{None}
 use Rattle.frame.specs.Answers.{part_of}
 use Rattle.frame.specs.Frame.{refusal_of, kind_of}
 use Rattle.frame.specs.declared.Kind.{Kind}

@@ -1,3 +1,6 @@
+pub mod Found
+pub mod Told
+pub mod Judged
 pub mod RecordLaws
 pub mod Addresses
 pub mod Turns
@@ -11,6 +14,3 @@ pub mod Single
 pub mod Rows
 pub mod Examples
 pub mod Refuted
-pub mod Left
-pub mod Told
-pub mod Judged

@@ -1,5 +1,6 @@
 -- The pool: each event changes the sum of what the records hold by what it says, the sum never exceeds the pool, and a table that holds stays one, over any events
 -- (`pooled`); what a release that names a channel comes to (`named_release`). A unit is taken by E1 in Open alone, and E1 comes only where there is room.
+use Rattle.std.specs.Prelude.{None}
 use mathlib.Core.Path.{◌≡◌, refl, sym, ap, ◌∙◌}
 use mathlib.Core.Bool.{Bool, true, false}
 use mathlib.Core.Logic.{⊎_elim}
@@ -17,7 +18,6 @@ use Rattle.farm.specs.Table.{event_number, table, accepts, unit_of}
 use Rattle.farm.specs.declared.State.{State}
 use Rattle.farm.specs.declared.Event.{Event as FarmEvent}
 use Rattle.farm.specs.declared.Event.TheVariants.{E1, E2, E3, E4, E5, E6, E7, E8, E9, E10, E11}
-use Rattle.farm.specs.declared.AcceptedUnit.TheVariants.{None}
 use Rattle.farm.proofs.Cells.{by_state, by_event_lem, differ}
 use Rattle.farm.proofs.Windows.{e1_room}
 use Rattle.frame.specs.Frame.{refusal_of, kind_of}

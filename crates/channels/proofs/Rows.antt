@@ -1,4 +1,5 @@
 -- What an event that is done makes of its channel's record is table 7-9's row (`rows`): by the cases of Turns, the record that is put is the channel's answer.
+use Rattle.std.specs.Prelude.{None, Option}
 use Prim.Native.Nat.{ℕ, ◌+◌, ◌-◌}
 use mathlib.Core.Path.{◌≡◌, refl, sym, ap, ◌∙◌}
 use mathlib.Core.Bool.{true}
@@ -13,7 +14,6 @@ use Rattle.farm.specs.Table.{event_number, step_of, unit_of}
 use Rattle.farm.specs.declared.State.{State}
 use Rattle.farm.specs.declared.Event.TheVariants.{E10}
 use Rattle.farm.specs.declared.AcceptedUnit.{AcceptedUnit}
-use Rattle.farm.specs.declared.AcceptedUnit.TheVariants.{None}
 use Rattle.farm.proofs.Cells.{by_state}
 use Rattle.frame.specs.Frame.{refusal_of, kind_of, data_field, total_of}
 use Rattle.frame.specs.Answers.{part_of}
@@ -72,7 +72,7 @@ module _ (spacecraft pool : ℕ) (cs : List Channel) where
   given_next : (c : Channel) → (given_back c).next ≡ become (c.held - 1) (step_of E10 0 c.variables) c
   unfolding answered
   given_next c =
-      ap (λ (u : AcceptedUnit). become (c.held - 1 + takes u) (step_of E10 0 c.variables) c) (none_handed c.variables.state)
+      ap (λ (u : Option AcceptedUnit). become (c.held - 1 + takes u) (step_of E10 0 c.variables) c) (none_handed c.variables.state)
       ∙ ap (λ (n : ℕ). become n (step_of E10 0 c.variables) c) (add-zero (c.held - 1))
 
   release_next_lem : (n : ℕ) → (release_turn spacecraft pool cs n).refusal ≡ 0

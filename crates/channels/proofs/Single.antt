@@ -1,6 +1,7 @@
 -- The single receiver is a case: a table of one record answers frames, releases and control words as the receiver of that channel does, where it never waits with
 -- room (`single`), and every well-formed receiver is such (`single_well`). A frame of another channel is refused with the same number at both addresses; in a release
 -- both rules agree where Wait means no room.
+use Rattle.std.specs.Prelude.{None, Result, Ok, Err}
 use mathlib.Core.Path.{◌≡◌, refl, sym, ap, ◌∙◌}
 use mathlib.Core.Bool.{Bool, true, false, not, ◌||◌}
 use mathlib.Core.List.{List, [], ◌∷◌}
@@ -20,7 +21,6 @@ use Rattle.farm.specs.Window.{not_wait}
 use Rattle.farm.specs.declared.State.{State}
 use Rattle.farm.specs.declared.State.TheVariants.{Open, Wait, Lockout}
 use Rattle.farm.specs.declared.Event.TheVariants.{E10}
-use Rattle.farm.specs.declared.AcceptedUnit.TheVariants.{None}
 use Rattle.frame.specs.Answers.{part_of}
 use Rattle.frame.specs.Frame.{refusal_of, kind_of}
 use Rattle.frame.proofs.Accepted.{reading_frame}
@@ -28,10 +28,11 @@ use Rattle.receiver.specs.declared.Channel.{Channel}
 use Rattle.receiver.specs.declared.ChannelAnswer.{ChannelAnswer}
 use Rattle.receiver.specs.declared.Receiver.{Receiver}
 use Rattle.receiver.specs.declared.Received.{Received}
-use Rattle.receiver.specs.declared.Released.{Released}
-use Rattle.receiver.specs.declared.Released.TheVariants.{Done, NoneTaken}
+use Rattle.base.specs.declared.Refusal.{Refusal}
+use Rattle.base.specs.declared.Refusal.TheVariants.{Release}
 use Rattle.receiver.specs.Channel.{arrived, may_release}
 use Rattle.receiver.specs.Receiver as receiver
+use Rattle.base.specs.Refusals.{optional_number}
 use Rattle.receiver.specs.Receiver.{largest_buffers, told_by, part_for}
 use Rattle.receiver.specs.State.{flags_hold, well_formed}
 use Rattle.receiver.proofs.Facts.{refused_changes_nothing}
@@ -45,7 +46,7 @@ use Rattle.channels.proofs.Isolation.{frame_told}
 -- what the single receiver tells of what it received
 abbrev single_told : Receiver → List ℕ → Received → Told
 single_told r octets x =
-    turn x.refusal (event_number x.event) (must (eqb x.refusal 0) 0 r.farm.channel.number) x.unit (part_for x.unit (part_of octets r.farm.spacecraft r.farm.channel.number))
+    turn (optional_number x.refusal) (event_number x.event) (must (eqb (optional_number x.refusal) 0) 0 r.farm.channel.number) x.unit (part_for x.unit (part_of octets r.farm.spacecraft r.farm.channel.number))
 
 module _ (r : Receiver) where
   -- its channel, as the one record
@@ -68,7 +69,7 @@ module _ (r : Receiver) where
 
   -- octets that its channel takes
   receive_is : (octets : List ℕ) → refusal_of octets r.farm.spacecraft r.farm.channel.number ≡ 0
-      → receiver.receive_of r octets ≡ told_by 0 (arrived (receiver.has_room r) r.farm.channel (kind_of octets)) r
+      → receiver.receive_of r octets ≡ told_by None (arrived (receiver.has_room r) r.farm.channel (kind_of octets)) r
   unfolding receiver.receive_of receiver.by_reading receiver.arrived
   receive_is octets z = rw (reading_frame octets r.farm.spacecraft r.farm.channel.number z)
 
@@ -97,8 +98,10 @@ module _ (r : Receiver) where
         let e : number ≡ 0 → ⊥ = λ z. d (address_same octets lent ∙ z) in
         let x = refused_changes_nothing r octets number refl e in
         let none : must (eqb number 0) 0 r.farm.channel.number ≡ 0 = rw (ne_eqb number 0 e) in (
-          ap (λ (k : ℕ). turn k 9 0 None []) (address_same octets lent) ∙ ap (λ (k : ℕ). turn number 9 k None []) (sym none) ∙ sym (ap (single_told r octets) x),
-          sym (ap (λ (y : Received). y.next.farm.channel ∷ []) x),
+          ap (λ (k : ℕ). turn k 9 0 None []) (address_same octets lent) ∙ ap (λ (k : ℕ). turn number 9 k None []) (sym none)
+              ∙ ap (λ (k : ℕ). turn k 9 (must (eqb k 0) 0 r.farm.channel.number) None []) (sym x.1)
+              ∙ sym (ap (single_told r octets) x.0),
+          sym (ap (λ (y : Received). y.next.farm.channel ∷ []) x.0),
         )
     frame_single octets lent (FrameCase.arrives f here z) =
         let c = r.farm.channel in
@@ -146,7 +149,7 @@ module _ (r : Receiver) where
       released = release_by r.farm.spacecraft r.farm.buffers one h r.farm.channel.number ∙ rw (here, own, may)
 
       -- a turn, and what the receiver answers
-      abbrev Alike : Turn → Released → Type 0
+      abbrev Alike : Turn → Result Received Refusal → Type 0
       Alike t x = (told_of t [] ≡ release_told r x) × (records_after t one ≡ release_next r x ∷ [])
 
       release_single : (alone ours r (release_buffer r.farm.channel.number) ≡ release_told r (receiver.release_of r))
@@ -157,9 +160,9 @@ module _ (r : Receiver) where
           (ap (λ (t : Turn). told_of t []) released ∙ a.0, ap (λ (t : Turn). records_after t one) released ∙ a.1)
         where
           left : Received
-          left = receiver.answered 0 E10 0 (receiver.become (r.farm.channel.held - 1) r.farm.channel.variables r)
+          left = receiver.answered None E10 0 (receiver.become (r.farm.channel.held - 1) r.farm.channel.variables r)
 
-          go : (b : Bool) → Alike (released_by r.farm.channel.number true b r.farm.channel one) (must b NoneTaken (Done left))
+          go : (b : Bool) → Alike (released_by r.farm.channel.number true b r.farm.channel one) (must b (Err Release) (Ok left))
           go true = (
             refl,
             ap (λ (b : Bool). set one (pick b 0 1) (given_back r.farm.channel).next) (eq-eqb r.farm.channel.number r.farm.channel.number refl),

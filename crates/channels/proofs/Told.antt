@@ -1,6 +1,6 @@
 -- What the code puts together of an event is what the event comes to: nothing changed (`nothing_past`, `told_kept`), or one record at its place
--- (`told_set`); the record that stands there is its channel's (`record_found`), and answers by the pool's room, where it can count one unit more (`arrived_found`).
-use mathlib.Core.Path.{◌≡◌, refl, sym, ap, ap₂, ◌∙◌}
+-- (`told_set`, `told_frame`, `told_release`); the record that stands there is its channel's (`record_found`), and answers by the pool's room, where it can count one unit more (`arrived_found`).
+use mathlib.Core.Path.{◌≡◌, refl, sym, ap, ◌∙◌}
 use mathlib.Core.Bool.{Bool, true, false}
 use mathlib.Core.List.{List, [], ◌∷◌, ◌++◌}
 use Prim.Native.Nat.{ℕ, zero, suc, ◌<◌, ◌≤◌}
@@ -8,23 +8,25 @@ use native.Mathlib.Nat.{le_of_suc-le-suc, not-suc-le-zero}
 use native.Mathlib.Omega.{arith}
 use borrow.Author.Tests.{leb-true, ltb-true, lt-ltb}
 use lib.Dec.{leb, ltb}
-use lib.ListN.{length, take, drop, get_or, set, take-append-drop}
+use lib.ListN.{length, take, drop, get_or, set, take-append-drop, length-take}
 use lib.Seq.{set_out, take-set-lt, drop-set-lt, get_or-take, length-take-le}
-use Rattle.base.specs.Choice.{both}
+use Rattle.base.specs.Choice.{must, both}
 use Rattle.base.specs.Limits.{largest_spacecraft}
 use Rattle.base.proofs.Tests.{both_left, both_right}
 use Rattle.frame.specs.declared.Kind.{Kind}
 use Rattle.receiver.specs.declared.Channel.{Channel}
 use Rattle.receiver.specs.declared.ChannelAnswer.{ChannelAnswer}
-use Rattle.receiver.specs.declared.ChannelReleased.{ChannelReleased}
-use Rattle.receiver.specs.Channel.{arrived, release_of}
+use Rattle.receiver.specs.Channel.{arrived}
 use Rattle.receiver.specs.Shared.{largest_held}
 use Rattle.channels.specs.declared.Channels.{Channels}
-use Rattle.channels.specs.declared.Turned.{Turned}
-use Rattle.channels.specs.Limits.{largest_pool}
 use Rattle.channels.specs.Table.{Turn, place_of, held_in, table_holds, has_room, no_record, record_of, nothing_of, nothing}
-use Rattle.channels.specs.Channels.{records_in, told}
-use Rattle.channels.proofs.Left.{at}
+use Rattle.channels.specs.Limits.{largest_channels, largest_pool}
+use Rattle.channels.specs.Channels.{Turned, records_in, told, refused_count, frame_turn_of, receive_of, release_turn_of, release_of as released_of}
+use Rattle.channels.proofs.Found.{blank}
+
+-- a record, by its place
+abbrev at : List Channel → ℕ → Channel
+at cs i = get_or cs i blank
 
 -- the receiver with other records, the rest of the array too
 abbrev with_all : List Channel → Channels → Channels
@@ -78,7 +80,7 @@ pool_fits spacecraft pool cs e =
     leb-true pool largest_pool
     (both_left (leb pool largest_pool) _ (both_right (leb 1 pool) _ (both_right (leb spacecraft largest_spacecraft) _ e)))
 
-room_counts : (spacecraft pool : ℕ) (cs : List Channel) (i : ℕ) (d : Channel) → table_holds spacecraft pool cs ≡ true → i < length cs
+pub room_counts : (spacecraft pool : ℕ) (cs : List Channel) (i : ℕ) (d : Channel) → table_holds spacecraft pool cs ≡ true → i < length cs
     → both (has_room pool cs) (ltb (get_or cs i d).held largest_held) ≡ has_room pool cs
 room_counts spacecraft pool cs i d e h = go (has_room pool cs) refl
   where
@@ -99,7 +101,15 @@ arrived_found s n place room kind x k t h e r a =
     ∙ ap (λ (b : Bool). arrived b (record_of n cs) kind)
     (ap (λ (b : Bool). both b (ltb (record_of n cs).held largest_held)) r ∙ room_counts s.spacecraft s.pool cs (place_of n cs) no_record t i)
 
-pub released_found : (s : Channels) (n place : ℕ) (room : Bool) (x : ChannelReleased) → s.count ≤ length s.records → place < s.count
-    → place ≡ place_of n (records_in s) → room ≡ has_room s.pool (records_in s) → x ≡ release_of room (at s.records place)
-    → x ≡ release_of (has_room s.pool (records_in s)) (record_of n (records_in s))
-released_found s n place room x k h e r a = a ∙ ap₂ release_of r (record_found s.records s.count n place k h e)
+-- the receiver after it
+told_by_lem : (s : Channels) (a : Bool) (x : Turn) → told (must a (nothing_of 12 0 s.count) x) s ≡ must a (refused_count s) (told x s)
+told_by_lem s true x = refl
+told_by_lem s false x = sym (told_kept (nothing_of 12 0 s.count) s (simp length-take (omega arith)))
+
+pub told_frame : (s : Channels) (octets : List ℕ) → told (frame_turn_of s octets) s ≡ receive_of s octets
+unfolding frame_turn_of receive_of
+told_frame s octets = told_by_lem s (leb s.count largest_channels) _
+
+pub told_release : (s : Channels) (n : ℕ) → told (release_turn_of s n) s ≡ released_of s n
+unfolding release_turn_of released_of
+told_release s n = told_by_lem s (leb s.count largest_channels) _

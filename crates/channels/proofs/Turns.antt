@@ -1,7 +1,8 @@
 -- What an event comes to, by cases (`frame_case`, `release_case`), so that each law goes over the cases and unfolds no definition again: 12; a
 -- frame refused, with its number; a frame of a channel that is there, as that channel answers it; a release with 7, 13 or done. The address of no channel is
 -- never a frame's, so what is not refused names a channel that is there.
-use mathlib.Core.Path.{◌≡◌, refl, sym, ap, ◌∙◌}
+use Rattle.std.specs.Prelude.{Ok, Err}
+use mathlib.Core.Path.{◌≡◌, refl, sym, ap, subst, ◌∙◌}
 use mathlib.Core.Bool.{Bool, true, false}
 use mathlib.Core.List.{List}
 use Prim.Native.Nat.{ℕ, ◌-◌}
@@ -12,14 +13,16 @@ use lib.ListN.{length}
 use lib.Seq.{set_out}
 use Rattle.base.specs.Choice.{must}
 use Rattle.base.specs.Octets.{Octets}
+use Rattle.base.specs.Refusals.{refusal_number, frame_refusal}
 use Rattle.base.specs.Outcome.{Outcome}
 use Rattle.farm.specs.declared.Event.TheVariants.{E10}
 use Rattle.frame.specs.Answers.{fields_of, reading_of}
 use Rattle.frame.specs.Frame.{refusal_of, kind_of}
 use Rattle.frame.proofs.Accepted.{reading_frame, reading_refused}
+use Rattle.frame.proofs.Named.{reading_told}
 use Rattle.receiver.specs.declared.Channel.{Channel}
 use Rattle.receiver.specs.declared.ChannelAnswer.{ChannelAnswer}
-use Rattle.receiver.specs.declared.ChannelReleased.TheVariants.{Done, NoneHeld}
+use Rattle.base.specs.declared.Refusal.TheVariants.{Release}
 use Rattle.receiver.specs.Channel.{become, answered, arrived, may_release, release_of}
 use Rattle.channels.specs.Table.{is_in, table_holds, has_room, record_of, Turn, nothing, turned, records_after, addressed, by_reading, frame_turn, by_release, release_turn, word_writing}
 use Rattle.channels.specs.Isolation.{named}
@@ -35,7 +38,7 @@ given_back c = answered E10 0 (become (c.held - 1) c.variables c)
 
 -- a release that names n, by whether n is there and may release
 abbrev pub released_by : ℕ → Bool → Bool → Channel → List Channel → Turn
-released_by n there may c cs = must there (nothing 7 0 cs) (by_release n cs (must may NoneHeld (Done (given_back c))))
+released_by n there may c cs = must there (nothing 7 0 cs) (by_release n cs (must may (Err Release) (Ok (given_back c))))
 
 module _ (spacecraft pool : ℕ) (cs : List Channel) where
   -- 12 is judged first
@@ -76,7 +79,9 @@ module _ (spacecraft pool : ℕ) (cs : List Channel) where
       read h true false z e = absurd (absent_refused cs octets spacecraft lent e (eqb-true (refusal_of octets spacecraft (addressed cs octets)) 0 z))
       read h false there z e =
           let d = eqb-false (refusal_of octets spacecraft (addressed cs octets)) 0 z in
-          rw (reading_refused octets spacecraft (addressed cs octets) d) (refused h d)
+          let number : refusal_number (frame_refusal (refusal_of octets spacecraft (addressed cs octets))) ≡ refusal_of octets spacecraft (addressed cs octets) =
+          rw (reading_refused octets spacecraft (addressed cs octets) d) at (reading_told octets spacecraft (addressed cs octets)) in
+          rw (reading_refused octets spacecraft (addressed cs octets) d) (subst (λ (n : ℕ). FrameCase octets (nothing n 9 cs)) (sym number) (refused h d))
 
       judged : (b : Bool) → table_holds spacecraft pool cs ≡ b
           → FrameCase octets (must b (nothing 12 0 cs) (by_reading pool cs (addressed cs octets) (reading_of octets spacecraft (addressed cs octets))))

@@ -1,5 +1,6 @@
 -- Wait with a free buffer, in the place of "Wait means every buffer taken", which stays with the single receiver: a channel begins to wait only while every buffer
 -- is taken, discards frames while it waits, an expected one as E2 whatever the room, and a release that names it opens it (`waiting`). By table 7-9's column Wait.
+use Rattle.std.specs.Prelude.{None}
 use mathlib.Core.Path.{◌≡◌, refl, sym, ap, ◌∙◌}
 use mathlib.Core.Bool.{Bool, true, false}
 use mathlib.Core.Logic.{⊎_elim}
@@ -19,7 +20,6 @@ use Rattle.farm.specs.declared.State.TheVariants.{Open, Wait}
 use Rattle.farm.specs.declared.Event.{Event as FarmEvent}
 use Rattle.farm.specs.declared.Event.TheVariants.{E2, E6, E7, E8, E10}
 use Rattle.farm.specs.declared.Variables.{Variables}
-use Rattle.farm.specs.declared.AcceptedUnit.TheVariants.{None}
 use Rattle.farm.proofs.Cells.{told, same, differ}
 use Rattle.farm.proofs.Sound.{waited}
 use Rattle.farm.proofs.Windows.{Case, expected, stopped, ahead, behind, outside, case_of, e2_full}

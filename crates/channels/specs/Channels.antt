@@ -1,14 +1,15 @@
 -- Document 02, order 8, "Records by value first": an array of eight, of which the first `count` are records; what each event makes of it is specs/Table.
-use Rattle.std.specs.Prelude.{ℕ, List, ◌++◌, leb, take, drop}
+use Rattle.std.specs.Prelude.{ℕ, List, ◌++◌, leb, take, drop, Option, None, Result}
 use Rattle.base.specs.Choice.{must}
 use Rattle.base.specs.Outcome.{Outcome, Outcome.refused}
-use Rattle.farm.specs.declared.AcceptedUnit.TheVariants.{None}
+use Rattle.farm.specs.declared.AcceptedUnit.{AcceptedUnit}
 use Rattle.receiver.specs.declared.Channel.{Channel}
 use Rattle.channels.specs.declared.Channels.{Channels}
-use Rattle.channels.specs.declared.Turned.{Turned}
+use Rattle.channels.specs.declared.Change.{Change}
+use Rattle.channels.specs.declared.Refused.{Refused}
 use Rattle.channels.specs.Limits.{largest_channels}
 use Rattle.channels.specs.Table as table
-use Rattle.channels.specs.Table.{Turn, nothing_of, records_after, frame_turn, release_turn, word_writing}
+use Rattle.channels.specs.Table.{Turn, nothing_of, turn_of, records_after, frame_turn, release_turn, word_writing}
 
 -- its records
 abbrev pub records_in : Channels → List Channel
@@ -17,6 +18,24 @@ records_in s = take s.count s.records
 -- with other records in their place
 abbrev pub with_records : List Channel → Channels → Channels
 with_records cs s = record { spacecraft = s.spacecraft; pool = s.pool; count = s.count; records = cs ++ drop s.count s.records }
+
+-- What an event gives: what it comes to but for the record that changes, with the receiver next.
+pub record Turned : Type 0 where
+  pub refusal : ℕ
+  pub event : ℕ
+  pub channel : ℕ
+  pub unit : Option AcceptedUnit
+  pub next : Channels
+
+-- in code
+abbrev pub turned_of : Result Change Refused × Channels → Turned
+turned_of x = record {
+  refusal = (turn_of x.1.count x.0).refusal;
+  event = (turn_of x.1.count x.0).event;
+  channel = (turn_of x.1.count x.0).channel;
+  unit = (turn_of x.1.count x.0).unit;
+  next = x.1;
+}
 
 -- what an event comes to, with the receiver next
 abbrev pub told : Turn → Channels → Turned

@@ -1,6 +1,7 @@
 -- Document 02, order 8, what holds of the channels beside each other: isolation, the shared pool, Wait with a free buffer, and the single receiver as a case.
 -- Statements on any receiver of several channels, whatever it is (`Machine`); quoted sentences are order 8's, where no other paper is named. Ours meets them
 -- (proofs/Isolation, Agree, Runs, Pool, Waiting, Single), wrong ones do not (proofs/Refuted).
+use Rattle.std.specs.Prelude.{Option, None, Result, Ok, Err}
 use Rattle.std.specs.Prelude.{ℕ, ◌+◌, ◌<◌, ◌≤◌, ◌≡◌, ◌⊎◌, Bool, true, false, not, List, [], ◌∷◌, map, ltb, eqb, length}
 use Rattle.base.specs.Choice.{pick, must, both}
 use Rattle.base.specs.Fields.{field_at}
@@ -14,15 +15,15 @@ use Rattle.farm.specs.Window.{not_wait}
 use Rattle.farm.specs.declared.State.{State}
 use Rattle.farm.specs.declared.State.TheVariants.{Open, Wait, Lockout}
 use Rattle.farm.specs.declared.AcceptedUnit.{AcceptedUnit}
-use Rattle.farm.specs.declared.AcceptedUnit.TheVariants.{None}
 use Rattle.frame_header.specs.Header.{virtual_channel_identifier}
 use Rattle.frame.specs.Frame.{refusal_of, kind_of}
 use Rattle.frame.specs.declared.Kind.{Kind}
 use Rattle.frame.specs.declared.Kind.TheVariants.{Ad, Bd, Unlock, SetVr}
 use Rattle.receiver.specs.declared.Channel.{Channel}
 use Rattle.receiver.specs.declared.Receiver.{Receiver}
-use Rattle.receiver.specs.declared.Released.{Released}
-use Rattle.receiver.specs.declared.Released.TheVariants.{Done, NoneTaken}
+use Rattle.base.specs.declared.Refusal.{Refusal}
+use Rattle.base.specs.Refusals.{refusal_number, optional_number}
+use Rattle.receiver.specs.declared.Received.{Received}
 use Rattle.receiver.specs.Channel.{takes}
 use Rattle.receiver.specs.Receiver as single
 use Rattle.channels.specs.Table.{is_in, held_in, table_holds, has_room, record_of, Turn, records_after, frame_turn, unit_part, release_turn, word_writing}
@@ -59,7 +60,7 @@ channel_of (report_word n room) = n
 
 -- what an event is told: of a frame or release all but the record that changes, with the part handed out; or the control word
 pub data Told : Type 0 where
-  turn : ℕ → ℕ → ℕ → AcceptedUnit → List ℕ → Told
+  turn : ℕ → ℕ → ℕ → Option AcceptedUnit → List ℕ → Told
   word : Outcome (Unit {0}) → Told
 
 abbrev pub told_of : Turn → List ℕ → Told
@@ -243,13 +244,13 @@ pub record Waiting (m : Machine) (spacecraft pool : ℕ) (cs : List Channel) : T
 -- The single receiver (receiver/specs/Receiver) as a case: one channel, its buffers the pool.
 
 -- what a release answers there, and the channel after it
-abbrev pub release_told : Receiver → Released → Told
-release_told r (Done x) = turn x.refusal (event_number x.event) r.farm.channel.number x.unit []
-release_told r NoneTaken = turn 13 0 0 None []
+abbrev pub release_told : Receiver → Result Received Refusal → Told
+release_told r (Ok x) = turn (optional_number x.refusal) (event_number x.event) r.farm.channel.number x.unit []
+release_told r (Err refusal) = turn (refusal_number refusal) 0 0 None []
 
-abbrev pub release_next : Receiver → Released → Channel
-release_next r (Done x) = x.next.farm.channel
-release_next r NoneTaken = r.farm.channel
+abbrev pub release_next : Receiver → Result Received Refusal → Channel
+release_next r (Ok x) = x.next.farm.channel
+release_next r (Err refusal) = r.farm.channel
 
 -- a receiver of several channels answers with this one as the single receiver does, but that a refused frame is "of no channel"
 module _ (m : Machine) (r : Receiver) where
@@ -262,8 +263,8 @@ module _ (m : Machine) (r : Receiver) where
   pub record Single : Type 0 where
     pub frames : (octets : List ℕ) (lent : Octets octets)
         → alone (frame_arrives octets lent)
-        ≡ turn (single.receive_of r octets).refusal (event_number (single.receive_of r octets).event)
-        (must (eqb (single.receive_of r octets).refusal 0) 0 r.farm.channel.number) (single.receive_of r octets).unit (single.unit_part r octets)
+        ≡ turn (optional_number (single.receive_of r octets).refusal) (event_number (single.receive_of r octets).event)
+        (must (eqb (optional_number (single.receive_of r octets).refusal) 0) 0 r.farm.channel.number) (single.receive_of r octets).unit (single.unit_part r octets)
     pub frames_after : (octets : List ℕ) (lent : Octets octets) → alone_after (frame_arrives octets lent) ≡ (single.receive_of r octets).next.farm.channel ∷ []
     pub releases : alone (release_buffer r.farm.channel.number) ≡ release_told r (single.release_of r)
     pub releases_after : alone_after (release_buffer r.farm.channel.number) ≡ release_next r (single.release_of r) ∷ []

@@ -3,4 +3,3 @@ pub mod Table
 pub mod Channels
 pub mod Isolation
 pub mod Rows
-pub mod Answers

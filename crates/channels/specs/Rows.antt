@@ -1,6 +1,7 @@
 -- Document 02, order 8: "each with its own window, V(R), flags and counter". An event that is done makes of its channel's record what its row of table 7-9 says, for
 -- every record of a table that is not 12, whatever the others hold: also of one that waits and holds none, or that holds more than a single receiver can. On any
 -- receiver of several channels, as specs/Isolation.
+use Rattle.std.specs.Prelude.{Option}
 use Rattle.std.specs.Prelude.{ℕ, ◌+◌, ◌-◌, ◌≡◌, true, false, List}
 use Rattle.base.specs.Octets.{Octets}
 use Rattle.clcw.specs.Clcw.{writing}
@@ -22,7 +23,7 @@ own_of cs octets = record_of (named octets) cs
 abbrev pub row_of : ℕ → List Channel → List ℕ → FarmEvent
 row_of pool cs octets = event_of (has_room pool cs) (own_of cs octets) (kind_of octets)
 
-abbrev pub handed : ℕ → List Channel → List ℕ → AcceptedUnit
+abbrev pub handed : ℕ → List Channel → List ℕ → Option AcceptedUnit
 handed pool cs octets = unit_of (row_of pool cs octets) (own_of cs octets).variables.state
 
 pub record Rows (m : Machine) (spacecraft pool : ℕ) (cs : List Channel) : Type 0 where

@@ -1,28 +1,28 @@
 -- Document 02, order 8: the records of up to eight virtual channels and the pool that they share, and what each event makes of them. A record is crate
 -- receiver's (specs/Channel): "each with its own window, V(R), flags and counter", and the AD units that it holds.
-use Rattle.std.specs.Prelude.{ℕ, suc, ◌+◌, ◌%◌, Bool, true, false, not, ◌||◌, List, [], ◌∷◌, leb, ltb, eqb, length, get_or, set}
+use Rattle.std.specs.Prelude.{ℕ, suc, ◌+◌, ◌%◌, Bool, true, false, not, ◌||◌, List, [], ◌∷◌, leb, ltb, eqb, length, get_or, set, Option, Some, None, Result, Ok, Err}
 use Rattle.base.specs.Choice.{pick, must, both}
 use Rattle.base.specs.Fields.{field_at}
 use Rattle.base.specs.Limits.{largest_spacecraft, largest_channel}
 use Rattle.base.specs.Outcome.{Outcome, Outcome.refused}
+use Rattle.base.specs.Refusals.{refusal_number}
+use Rattle.base.specs.declared.Refusal.{Refusal}
 use Rattle.clcw.specs.declared.Clcw.{Clcw}
 use Rattle.clcw.specs.Clcw.{writing}
 use Rattle.farm.specs.Table.{event_number}
 use Rattle.farm.specs.declared.State.TheVariants.{Open}
-use Rattle.farm.specs.declared.AcceptedUnit.TheVariants.{None}
+use Rattle.farm.specs.declared.Event.{Event}
+use Rattle.farm.specs.declared.AcceptedUnit.{AcceptedUnit}
 use Rattle.frame_header.specs.Header.{virtual_channel_identifier}
-use Rattle.frame.specs.Answers.{reading_of, part_of}
-use Rattle.frame.specs.declared.FrameReading.{FrameReading}
-use Rattle.frame.specs.declared.FrameReading.TheVariants.{Frame, Refused}
+use Rattle.frame.specs.Answers.{FrameReading, reading_of, part_of}
 use Rattle.receiver.specs.declared.Channel.{Channel}
 use Rattle.receiver.specs.declared.ChannelAnswer.{ChannelAnswer}
-use Rattle.receiver.specs.declared.ChannelReleased.{ChannelReleased}
-use Rattle.receiver.specs.declared.ChannelReleased.TheVariants.{Done, NoneHeld}
 use Rattle.receiver.specs.Channel.{arrived, release_of}
 use Rattle.receiver.specs.Receiver.{part_for}
 use Rattle.receiver.specs.State.{flags_hold}
 use Rattle.channels.specs.Limits.{largest_channels, largest_pool}
-pub use Rattle.channels.specs.declared.Turn.{Turn}
+use Rattle.channels.specs.declared.Change.{Change}
+use Rattle.channels.specs.declared.Refused.{Refused}
 
 -- The records.
 
@@ -89,6 +89,14 @@ record_of n cs = get_or cs (place_of n cs) no_record
 -- What an event comes to (`Turn`): document 01's refusal, 0 for done; the event's number in table 7-9, 0 where it is none; the channel that it is of, 0
 -- where it is of none; the unit accepted; and the one record that changes, with its place: the count of records where none does.
 
+pub record Turn : Type 0 where
+  pub refusal : ℕ
+  pub event : ℕ
+  pub channel : ℕ
+  pub unit : Option AcceptedUnit
+  pub place : ℕ
+  pub next : Channel
+
 -- nothing changes, of so many records
 abbrev pub nothing_of : ℕ → ℕ → ℕ → Turn
 nothing_of refusal event count = record { refusal = refusal; event = event; channel = 0; unit = None; place = count; next = no_record }
@@ -102,6 +110,16 @@ turned_at place n a = record { refusal = 0; event = event_number a.event; channe
 
 abbrev pub turned : ℕ → ChannelAnswer → List Channel → Turn
 turned n a cs = turned_at (place_of n cs) n a
+
+-- what it comes to in code, of so many records
+abbrev pub number_or_none : Option Event → ℕ
+number_or_none (Some event) = event_number event
+number_or_none None = 0
+
+abbrev pub turn_of : ℕ → Result Change Refused → Turn
+turn_of count (Ok change) =
+    record { refusal = 0; event = event_number change.event; channel = change.channel; unit = change.unit; place = change.place; next = change.next }
+turn_of count (Err nothing_done) = nothing_of (refusal_number nothing_done.refusal) (number_or_none nothing_done.event) count
 
 -- the records after it
 abbrev pub records_after : Turn → List Channel → List Channel
@@ -120,8 +138,8 @@ addressed cs octets = pick (is_in (field_at virtual_channel_identifier octets) c
 
 -- "A refused frame is E9 of no channel and changes no record."
 abbrev pub by_reading : ℕ → List Channel → ℕ → FrameReading → Turn
-by_reading pool cs n (Frame fields) = turned n (arrived (has_room pool cs) (record_of n cs) fields.kind) cs
-by_reading pool cs n (Refused number) = nothing number 9 cs
+by_reading pool cs n (Ok fields) = turned n (arrived (has_room pool cs) (record_of n cs) fields.kind) cs
+by_reading pool cs n (Err refusal) = nothing (refusal_number refusal) 9 cs
 
 unfoldable pub frame_turn : ℕ → ℕ → List Channel → List ℕ → Turn
 frame_turn spacecraft pool cs octets =
@@ -134,9 +152,9 @@ unit_part spacecraft pool cs octets = part_for (frame_turn spacecraft pool cs oc
 
 -- A release, "each release naming its channel": absent is 7; "A release naming a channel that holds a buffer gives one back and is E10. Naming one that
 -- holds none is 13, except for a channel in Wait while the pool has room: that is E10 and the pool stays as it was." (receiver/specs/Channel, `release_of`)
-abbrev pub by_release : ℕ → List Channel → ChannelReleased → Turn
-by_release n cs (Done a) = turned n a cs
-by_release n cs NoneHeld = nothing 13 0 cs
+abbrev pub by_release : ℕ → List Channel → Result ChannelAnswer Refusal → Turn
+by_release n cs (Ok a) = turned n a cs
+by_release n cs (Err refusal) = nothing (refusal_number refusal) 0 cs
 
 unfoldable pub release_turn : ℕ → ℕ → List Channel → ℕ → Turn
 release_turn spacecraft pool cs n =

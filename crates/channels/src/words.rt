@@ -1,58 +1,36 @@
 // Document 02, order 8: the control word of a channel.
 ghost use Rattle.std.specs.Prelude.{◌≡◌, length};
 ghost use Rattle.base.specs.Outcome.{answer, after};
-ghost use Rattle.clcw.specs.Answers.{written_answer};
-ghost use Rattle.channels.specs.Answers.{word_answer};
-ghost use Rattle.channels.specs.Table.{word_of};
+ghost use Rattle.base.specs.Refusals.{written_answer};
+ghost use Rattle.channels.specs.Table.{word_writing};
 ghost use Rattle.channels.specs.Channels as channels;
 
-use crate::{ChannelWordWritten, Channels};
-use clcw::{Clcw, WordWritten};
-use receiver::Channel;
+use crate::records::place_of;
+use crate::{Channels, Table};
+use base::Refusal;
 
-// The control word of a channel.
-pub fn word_of(channel: Channel) -> Clcw
-    ensures { result ≡ word_of channel }
-{
-    let v = channel.variables;
-    Clcw {
-        channel: channel.number,
-        lockout: v.lockout,
-        wait: v.wait,
-        retransmit: v.retransmit,
-        counter: v.counter,
-        report: v.vr,
-    }
-}
-
-// The answer of writing it.
-pub fn told_written(written: WordWritten) -> ChannelWordWritten
-    ensures { word_answer result ≡ written_answer written }
-{
-    match written {
-        WordWritten::Done(count) => ChannelWordWritten::Done(count),
-        WordWritten::Setting => ChannelWordWritten::Setting,
-        WordWritten::Room => ChannelWordWritten::Room,
+impl Table<'_> {
+    // The control word of a channel, at the front of the output (E11). A refusal changes nothing.
+    pub fn word(self, number: u8, out: &mut [u8]) -> Result<usize, Refusal>
+        ensures answer { written_answer result ≡ answer (word_writing self.entry.spacecraft self.entry.pool self.entry.records.now number (length out.old)) }
+        ensures memory { out.new ≡ after (word_writing self.entry.spacecraft self.entry.pool self.entry.records.now number (length out.old)) out.old }
+    {
+        if !self.holds() {
+            return Err(Refusal::Setting);
+        }
+        let Some(place) = place_of(self.records, number) else {
+            return Err(Refusal::Address);
+        };
+        self.records[place].word().write(out)
     }
 }
 
 impl Channels {
-    // The control word of a channel, at the front of the output (E11). A refusal changes nothing.
-    pub fn word(self, number: u8, out: &mut [u8]) -> ChannelWordWritten
-        ensures answer { word_answer result ≡ answer (channels.word_of self number (length out.old)) }
+    // The same of a receiver by value.
+    pub fn word(self, number: u8, out: &mut [u8]) -> Result<usize, Refusal>
+        ensures answer { written_answer result ≡ answer (channels.word_of self number (length out.old)) }
         ensures memory { out.new ≡ after (channels.word_of self number (length out.old)) out.old }
     {
-        if !self.holds() {
-            return ChannelWordWritten::Setting;
-        }
-        let place = self.place(number);
-        if self.count <= place {
-            return ChannelWordWritten::Address;
-        }
-        let records = self.records;
-        let channel = records[place];
-        let word = word_of(channel);
-        let written = word.write(out);
-        told_written(written)
+        self.table()?.word(number, out)
     }
 }

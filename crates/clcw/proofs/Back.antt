@@ -16,12 +16,12 @@ use Rattle.base.specs.Flags.{bit_of}
 use Rattle.base.specs.Octets.{Octets}
 use Rattle.base.specs.Limits.{largest_channel}
 use Rattle.clcw.specs.declared.Clcw.{Clcw}
-use Rattle.clcw.specs.declared.WordReading.{WordReading}
-use Rattle.clcw.specs.declared.WordReading.TheVariants.{Word, Invalid, Address, Length as NotFour}
 use Rattle.clcw.specs.Clcw.{status_field, virtual_channel, no_rf_available, no_bit_lock, lockout_flag, wait_flag, retransmit_flag, farm_bcounter, report_value, word_fields, clcw_of, is_valid, word_of}
-use Rattle.clcw.specs.Answers.{received_of, reading_of}
+use Rattle.std.specs.Prelude.{Some, None, Ok, Err}
+use Rattle.base.specs.declared.Refusal.TheVariants.{Address, Length}
+use Rattle.clcw.specs.Answers.{WordReading, received_of, reading_of}
 use Rattle.clcw.proofs.Word.{channel_is}
-use Rattle.clcw.proofs.Outcomes.{reading_length, reading_invalid, reading_address, reading_word}
+use Rattle.clcw.proofs.Outcomes.{a_word, reading_length, reading_invalid, reading_address, reading_word}
 
 -- a flag is its bit
 flag_back : (b : Bool) → eqb (value_of 0 (digits_of 1 (bit_of b))) 1 ≡ b
@@ -61,20 +61,20 @@ module _ (word : Clcw) where
         let v : field_at report_value (clcw_of word) ≡ word.report = field_back report_value ∙ value_field 8 word.report hr in
         simp (channel_back, l, w, r, n, v, field_back status_field, field_back no_rf_available, field_back no_bit_lock)
 
-    pub word_back : reading_of (clcw_of word) word.channel ≡ Word (record { word = word; status = 0; no_rf = false; no_bit_lock = false })
-    word_back = reading_word (clcw_of word) word.channel length_word valid_back channel_back ∙ ap Word received_back
+    pub word_back : reading_of (clcw_of word) word.channel ≡ Ok (Some (record { word = word; status = 0; no_rf = false; no_bit_lock = false }))
+    word_back = reading_word (clcw_of word) word.channel length_word valid_back channel_back ∙ ap a_word received_back
 
-    pub other_channel : (channel : ℕ) → (word.channel ≡ channel → ⊥) → reading_of (clcw_of word) channel ≡ Address
+    pub other_channel : (channel : ℕ) → (word.channel ≡ channel → ⊥) → reading_of (clcw_of word) channel ≡ Err Address
     other_channel channel h = reading_address (clcw_of word) channel length_word valid_back (λ e. h (sym channel_back ∙ e))
 
 -- the reading, with what holds of the octets; each condition excludes those before it
 pub data Case (octets : List ℕ) (channel : ℕ) : Type 0 where
-  not_four : (length octets ≡ 4 → ⊥) → reading_of octets channel ≡ NotFour → Case octets channel
-  invalid : length octets ≡ 4 → is_valid octets ≡ false → reading_of octets channel ≡ Invalid → Case octets channel
+  not_four : (length octets ≡ 4 → ⊥) → reading_of octets channel ≡ Err Length → Case octets channel
+  invalid : length octets ≡ 4 → is_valid octets ≡ false → reading_of octets channel ≡ Ok None → Case octets channel
   address : length octets ≡ 4 → is_valid octets ≡ true → (field_at virtual_channel octets ≡ channel → ⊥)
-      → reading_of octets channel ≡ Address → Case octets channel
+      → reading_of octets channel ≡ Err Address → Case octets channel
   ours : length octets ≡ 4 → is_valid octets ≡ true → field_at virtual_channel octets ≡ channel
-      → reading_of octets channel ≡ Word (received_of octets) → Case octets channel
+      → reading_of octets channel ≡ Ok (Some (received_of octets)) → Case octets channel
 
 module _ (octets : List ℕ) (channel : ℕ) where
   at_channel : (b : Bool) → eqb (field_at virtual_channel octets) channel ≡ b → length octets ≡ 4 → is_valid octets ≡ true → Case octets channel
@@ -97,10 +97,9 @@ module _ (octets : List ℕ) (channel : ℕ) where
   reading_cases = at_length (eqb (length octets) 4) refl
 
 abbrev is_word : WordReading → Bool
-is_word (Word received) = true
-is_word Invalid = false
-is_word Address = false
-is_word NotFour = false
+is_word (Ok (Some received)) = true
+is_word (Ok None) = false
+is_word (Err refusal) = false
 
 -- "an own address beyond these matches no frame or word"
 pub own_beyond : (octets : List ℕ) (channel : ℕ) → Octets octets → largest_channel < channel → is_word (reading_of octets channel) ≡ false

@@ -7,7 +7,8 @@ use Rattle.base.specs.Fields.{digits_of, value_of, packed, octets_of, field_at}
 use Rattle.base.specs.Outcome.{answer, number_of}
 use Rattle.clcw.specs.declared.Clcw.{Clcw}
 use Rattle.clcw.specs.Clcw.{word_fields, clcw_of, writing, is_valid}
-use Rattle.clcw.specs.Answers.{reading_of, reading_number}
+use Rattle.base.specs.Refusals.{result_number}
+use Rattle.clcw.specs.Answers.{reading_of}
 
 -- the three flags alone
 abbrev pub flags : Bool → Bool → Bool → Clcw
@@ -21,7 +22,7 @@ unfolding clcw_of word_fields octets_of packed value_of digits_of
 flag_bits = (refl, refl, refl)
 
 -- another channel's word, and three octets
-pub refused : (reading_number (reading_of (0x01 ∷ 0x0C ∷ 0x04 ∷ 0x11 ∷ []) 4) ≡ 7) × (reading_number (reading_of (0x01 ∷ 0x0C ∷ 0x04 ∷ []) 3) ≡ 10)
+pub refused : (result_number (reading_of (0x01 ∷ 0x0C ∷ 0x04 ∷ 0x11 ∷ []) 4) ≡ 7) × (result_number (reading_of (0x01 ∷ 0x0C ∷ 0x04 ∷ []) 3) ≡ 10)
 unfolding reading_of is_valid field_at value_of octet_bits bits_of
 refused = (refl, refl)
 

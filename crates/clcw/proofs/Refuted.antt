@@ -12,15 +12,14 @@ use Rattle.base.proofs.Tests.{apart, both_false}
 use Rattle.base.specs.Flags.{bit_of}
 use Rattle.clcw.specs.declared.Clcw.{Clcw}
 use Rattle.clcw.specs.declared.ReceivedWord.{ReceivedWord}
-use Rattle.clcw.specs.declared.WordReading.{WordReading}
-use Rattle.clcw.specs.declared.WordReading.TheVariants.{Word}
 use Rattle.clcw.specs.Clcw.{first_spare, wait_flag, second_spare, word_fields, clcw_of, is_valid, word_of}
-use Rattle.clcw.specs.Answers.{received_of, reading_of}
+use Rattle.std.specs.Prelude.{Ok, Some}
+use Rattle.clcw.specs.Answers.{WordReading, received_of, reading_of}
 use Rattle.clcw.proofs.Back.{Case, Case.not_four, Case.invalid, Case.address, Case.ours, reading_cases, word_back}
 use Rattle.clcw.proofs.Examples.{flags}
 
 -- a reader that refuses all: one that takes no octets for a word
-pub refuses_all : (reader : List ℕ → ℕ → WordReading) → ((octets : List ℕ) (channel : ℕ) (received : ReceivedWord) → reader octets channel ≡ Word received → ⊥)
+pub refuses_all : (reader : List ℕ → ℕ → WordReading) → ((octets : List ℕ) (channel : ℕ) (received : ReceivedWord) → reader octets channel ≡ Ok (Some received) → ⊥)
     → ((s : List ℕ) (k : ℕ) → reader s k ≡ reading_of s k) → ⊥
 refuses_all reader never agrees =
     let word = flags false false false in
@@ -37,10 +36,10 @@ spare_invalid octets =
 
 -- a reader that takes octets with a spare bit set for a word
 pub spare_taken : (reader : List ℕ → ℕ → WordReading) (octets : List ℕ) (channel : ℕ) (received : ReceivedWord)
-    → SpareSet octets → reader octets channel ≡ Word received → ((s : List ℕ) (k : ℕ) → reader s k ≡ reading_of s k) → ⊥
+    → SpareSet octets → reader octets channel ≡ Ok (Some received) → ((s : List ℕ) (k : ℕ) → reader s k ≡ reading_of s k) → ⊥
 spare_taken reader octets channel received spare taken agrees = go (reading_cases octets channel)
   where
-    e : reading_of octets channel ≡ Word received
+    e : reading_of octets channel ≡ Ok (Some received)
     e = sym (agrees octets channel) ∙ taken
 
     go : Case octets channel → ⊥

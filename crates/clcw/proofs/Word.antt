@@ -57,7 +57,7 @@ module _ (s : List ℕ) (four : length s ≡ 4) (octet : (i : ℕ) → get_or s 
   pub channel_is : field_at virtual_channel s ≡ get_or s 1 0 / 4
   channel_is = field 1 0 6 2 (omega arith) refl ∙ omega (arith, octet 1)
 
-  valid_is : is_valid s ≡ both (eqb (get_or s 0 0 / 32) 0) (both (eqb (get_or s 0 0 % 4) 1) (both (eqb (get_or s 1 0 % 4) 0) (eqb (get_or s 2 0 % 2) 0)))
+  pub valid_is : is_valid s ≡ both (eqb (get_or s 0 0 / 32) 0) (both (eqb (get_or s 0 0 % 4) 1) (both (eqb (get_or s 1 0 % 4) 0) (eqb (get_or s 2 0 % 2) 0)))
   unfolding is_valid
   valid_is = both_zero (field_at control_word_type s) (field_at version_number s) _ ∙ simp (front_is, cop_is, spare_is, spare_is_2)
 

@@ -1,20 +1,15 @@
 -- Document 01's number and values for each case of the answers.
-use Rattle.std.specs.Prelude.{ℕ, List, eqb, length}
+use Rattle.std.specs.Prelude.{ℕ, List, Option, Some, None, Result, Ok, Err, eqb, length}
 use Rattle.base.specs.Choice.{must}
 use Rattle.base.specs.Fields.{field_at}
-use Rattle.base.specs.Outcome.{Answer, Answer.done, Answer.refused}
+use Rattle.base.specs.declared.Refusal.{Refusal}
+use Rattle.base.specs.declared.Refusal.TheVariants.{Address, Length}
 use Rattle.clcw.specs.Clcw.{status_field, no_rf_available, no_bit_lock, virtual_channel, is_valid, word_of}
 use Rattle.clcw.specs.declared.ReceivedWord.{ReceivedWord}
-use Rattle.clcw.specs.declared.WordReading.{WordReading}
-use Rattle.clcw.specs.declared.WordReading.TheVariants.{Word, Invalid, Address, Length as NotFour}
-use Rattle.clcw.specs.declared.WordWritten.{WordWritten}
-use Rattle.clcw.specs.declared.WordWritten.TheVariants.{Done, Setting, Room}
 
--- what writing answers: the count of octets, 12 or 11
-abbrev pub written_answer : WordWritten → Answer (Unit {0})
-written_answer (Done count) = done count tt
-written_answer Setting = refused 12 0
-written_answer Room = refused 11 0
+-- what reading answers in code: a word; none where it is invalid; or a refusal
+abbrev pub WordReading : Type 0
+WordReading = Result (Option ReceivedWord) Refusal
 
 -- all fields, status and the two RF flags too, read and not judged
 unfoldable pub received_of : List ℕ → ReceivedWord
@@ -28,10 +23,10 @@ received_of octets = record {
 -- what reading answers to a channel: 10 where not four octets; an invalid CLCW, which is no refusal; 7; the word
 unfoldable pub reading_of : List ℕ → ℕ → WordReading
 reading_of octets channel =
-    must (eqb (length octets) 4) NotFour
-    (must (is_valid octets) Invalid
-    (must (eqb (field_at virtual_channel octets) channel) Address
-    (Word (received_of octets))))
+    must (eqb (length octets) 4) (Err Length)
+    (must (is_valid octets) (Ok None)
+    (must (eqb (field_at virtual_channel octets) channel) (Err Address)
+    (Ok (Some (received_of octets)))))
 
 -- document 01's refusal of octets as a word of a channel: "a CLCW not of four octets" is 10; an invalid CLCW "is no refusal"; "otherwise
 -- another channel's word is refusal 7"
@@ -40,10 +35,3 @@ refusal_of octets channel =
     must (eqb (length octets) 4) 10
     (must (is_valid octets) 0
     (must (eqb (field_at virtual_channel octets) channel) 7 0))
-
--- document 01's number of a reading, 0 where it is no refusal
-abbrev pub reading_number : WordReading → ℕ
-reading_number (Word received) = 0
-reading_number Invalid = 0
-reading_number Address = 7
-reading_number NotFour = 10

@@ -4,9 +4,10 @@ use mathlib.Core.Bool.{true}
 use mathlib.Core.List.{List}
 use Prim.Native.Nat.{ℕ, zero, suc, ◌+◌}
 use lib.ListN.{length, take, drop}
-use Rattle.codeblock.specs.Codeblock.{codeblock_of, good, bad, judged, is_good}
+use Rattle.codeblock.specs.Codeblock.{codeblock_of, good, bad, judged, is_good, information_of}
 use Rattle.codeblock.specs.declared.Mode.{Mode}
 use Rattle.codeblock.specs.declared.Mode.TheVariants.{Detecting}
+use Rattle.std.specs.Prelude.{Option}
 use Rattle.codeblock.specs.declared.Judged.{Judged}
 use Rattle.codeblock.proofs.Codeblock.{judged_codeblock, good_seven, corrects_none}
 use Rattle.encoded_data.specs.EncodedData.{corrected_in}
@@ -14,10 +15,10 @@ use Rattle.cltu.specs.Cltu.{tail_sequence}
 use Rattle.cltu.proofs.Tail.{tail_bad}
 
 -- an encoding is good with nothing corrected, the tail sequence is bad, and what is good has seven octets of information
-pub record Judge (judge : List ℕ → Judged) : Type 0 where
+pub record Judge (judge : List ℕ → Option Judged) : Type 0 where
   pub encoding : (information : List ℕ) → length information ≡ 7 → judge (codeblock_of information) ≡ good information 0
   pub tail : judge tail_sequence ≡ bad
-  pub seven : (block : List ℕ) → is_good (judge block) ≡ true → length (judge block).information ≡ 7
+  pub seven : (block : List ℕ) → is_good (judge block) ≡ true → length (information_of (judge block)) ≡ 7
 
 -- the judge in either mode
 pub judges : (mode : Mode) → Judge (judged mode)

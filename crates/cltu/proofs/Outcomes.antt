@@ -1,9 +1,10 @@
 -- What writing and, by any judge of codeblocks, reading come to, a law for each of their checks.
-use mathlib.Core.Path.{◌≡◌, sym, ap, ◌∙◌}
+use mathlib.Core.Path.{◌≡◌, refl, sym, ap, ◌∙◌}
+use mathlib.Core.Bool.{Bool, true, false}
 use mathlib.Core.List.{List, ◌++◌}
 use Prim.Native.Nat.{ℕ, ◌+◌, ◌-◌, ◌*◌, ◌/◌, ◌<◌, ◌≤◌}
 use native.Mathlib.Omega.{arith}
-use borrow.Author.Tests.{lt-ltb, le-ltb, le-leb, lt-leb}
+use borrow.Author.Tests.{lt-ltb, le-ltb, le-leb, lt-leb, leb-true}
 use lib.Dec.{leb}
 use lib.ListN.{length, take, drop, length-append}
 use lib.Seq.{drop_at, drop-append-add}
@@ -11,6 +12,7 @@ use Rattle.base.specs.Choice.{must}
 use Rattle.base.specs.Outcome.{Outcome.done, Outcome.refused}
 use Rattle.base.specs.Limits.{largest_frame, largest_input, smallest_frame}
 use Rattle.base.proofs.Lists.{rest}
+use Rattle.std.specs.Prelude.{Option}
 use Rattle.codeblock.specs.declared.Judged.{Judged}
 use Rattle.randomizer.specs.Randomizer.{randomized}
 use Rattle.start_sequence.specs.StartSequence.{start_of, Received}
@@ -19,13 +21,15 @@ use Rattle.encoded_data.specs.EncodedData.{good_run, information_in, corrected_i
 use Rattle.cltu.specs.Cltu.{need, cltu_of, writing, reading_run, reading_after, reading_by}
 
 module _ (frame : List ℕ) (room : ℕ) where
-  pub writing_short : length frame < smallest_frame → writing frame room ≡ refused 10 0
+  pub writing_length : (smallest_frame ≤ length frame → length frame ≤ largest_frame → ⊥) → writing frame room ≡ refused 10 0
   unfolding writing
-  writing_short h = simp (lt-leb smallest_frame (length frame) h)
-
-  pub writing_long : smallest_frame ≤ length frame → largest_frame < length frame → writing frame room ≡ refused 10 0
-  unfolding writing
-  writing_long l h = simp (le-leb smallest_frame (length frame) l, lt-leb (length frame) largest_frame h)
+  writing_length h = go (leb smallest_frame (length frame)) (leb (length frame) largest_frame) refl refl
+    where
+      go : (b c : Bool) → leb smallest_frame (length frame) ≡ b → leb (length frame) largest_frame ≡ c
+          → must b (refused 10 0) (must c (refused 10 0) (must (leb (need (length frame)) room) (refused 11 0) (done (cltu_of frame) (tt {0})))) ≡ refused 10 0
+      go false c d e = refl
+      go true false d e = refl
+      go true true d e = absurd (h (leb-true smallest_frame (length frame) d) (leb-true (length frame) largest_frame e))
 
   pub writing_room : smallest_frame ≤ length frame → length frame ≤ largest_frame → room < need (length frame) → writing frame room ≡ refused 11 0
   unfolding writing
@@ -36,7 +40,7 @@ module _ (frame : List ℕ) (room : ℕ) where
   unfolding writing
   writing_done l h r = simp (le-leb smallest_frame (length frame) l, le-leb (length frame) largest_frame h, le-leb (need (length frame)) room r)
 
-module _ (judge : List ℕ → Judged) (s : List ℕ) (room : ℕ) where
+module _ (judge : List ℕ → Option Judged) (s : List ℕ) (room : ℕ) where
   pub reading_long : largest_input < length s → reading_by judge s room ≡ refused 10 0
   unfolding reading_by
   reading_long h = simp (lt-leb (length s) largest_input h)
@@ -60,7 +64,7 @@ module _ (before start behind : List ℕ) (received : Received start) where
   pub length_started : length (before ++ (start ++ behind)) ≡ length before + (2 + length behind)
   length_started = length-append before (start ++ behind) ∙ ap (λ (k : ℕ). length before + k) (length-append start behind ∙ ap (λ (k : ℕ). k + length behind) received.two)
 
-  pub reading_started : (judge : List ℕ → Judged) (room : ℕ) → start_of before ≡ length before
+  pub reading_started : (judge : List ℕ → Option Judged) (room : ℕ) → start_of before ≡ length before
       → reading_by judge (before ++ (start ++ behind)) room
       ≡ must (leb (length before + (2 + length behind)) largest_input) (refused 10 0) (reading_after judge (length before + 2) behind room)
   unfolding reading_by
@@ -70,7 +74,7 @@ module _ (before start behind : List ℕ) (received : Received start) where
       rw (found, after, length_started, lt-ltb (length before) (length before + (2 + length behind)) (omega arith))
 
 -- after the start sequence, with the run of good codeblocks as the code has it
-module _ (judge : List ℕ → Judged) (offset : ℕ) (s : List ℕ) (room n : ℕ) (e : n ≡ good_run judge (length s / 8) s) where
+module _ (judge : List ℕ → Option Judged) (offset : ℕ) (s : List ℕ) (room n : ℕ) (e : n ≡ good_run judge (length s / 8) s) where
   run_is : reading_after judge offset s room ≡ reading_run judge offset s room n
   run_is = ap (reading_run judge offset s room) (sym e)
 

@@ -14,8 +14,9 @@ use lib.Seq.{take_at, drop_at}
 use Rattle.base.specs.Choice.{pick, must}
 use Rattle.base.specs.Outcome.{Outcome.done, Outcome.refused}
 use Rattle.base.specs.Limits.{largest_input}
-use Rattle.codeblock.specs.Codeblock.{codeblock_of, good, is_good}
+use Rattle.codeblock.specs.Codeblock.{codeblock_of, good, is_good, information_of, corrected_of}
 use Rattle.codeblock.specs.declared.Mode.{Mode}
+use Rattle.std.specs.Prelude.{Option}
 use Rattle.codeblock.specs.declared.Judged.{Judged}
 use Rattle.randomizer.specs.Randomizer.{randomized}
 use Rattle.randomizer.proofs.Randomized.{randomized_twice}
@@ -41,20 +42,20 @@ module _ (n : ℕ) (information t : List ℕ) (h : 7 * suc n ≤ length informat
   unfolding encoded
   other_blocks = rw append_assoc (drop_at (codeblock_of (take 7 information)) (encoded n (drop 7 information) ++ t) 8 (length_block information n h))
 
-  first_judged : {judge : List ℕ → Judged} → Judge judge → judge (take 8 (encoded (suc n) information ++ t)) ≡ good (take 7 information) 0
+  first_judged : {judge : List ℕ → Option Judged} → Judge judge → judge (take 8 (encoded (suc n) information ++ t)) ≡ good (take 7 information) 0
   first_judged {judge} laws = ap judge first_block ∙ laws.encoding (take 7 information) seven
 
   fewer : 7 * n ≤ length (drop 7 information)
   fewer = simp length-drop (omega (arith, mul-suc 7 n))
 
-module _ {judge : List ℕ → Judged} (laws : Judge judge) where
+module _ {judge : List ℕ → Option Judged} (laws : Judge judge) where
   run_encoded : (n m : ℕ) (information behind : List ℕ) → 7 * n ≤ length information → n < m
       → good_run judge m (encoded n information ++ (tail_sequence ++ behind)) ≡ n
   unfolding good_run encoded
   run_encoded n zero information behind h l = absurd (not-suc-le-zero l)
-  run_encoded zero (suc m) information behind h l = ap (λ (j : Judged). pick (is_good j) (suc (good_run judge m behind)) 0) laws.tail
+  run_encoded zero (suc m) information behind h l = ap (λ (j : Option Judged). pick (is_good j) (suc (good_run judge m behind)) 0) laws.tail
   run_encoded (suc n) (suc m) information behind h l =
-      ap₂ (λ (j : Judged) (k : ℕ). pick (is_good j) (suc k) 0)
+      ap₂ (λ (j : Option Judged) (k : ℕ). pick (is_good j) (suc k) 0)
       (first_judged n information (tail_sequence ++ behind) h laws)
       (ap (good_run judge m) (other_blocks n information (tail_sequence ++ behind) h)
       ∙ run_encoded n m (drop 7 information) behind (fewer n information (tail_sequence ++ behind) h) (omega arith))
@@ -64,7 +65,7 @@ module _ {judge : List ℕ → Judged} (laws : Judge judge) where
   information_encoded zero [] t e = refl
   information_encoded zero (x ∷ xs) t e = absurd (omega arith)
   information_encoded (suc n) information t e =
-      ap₂ (λ (j : Judged) (l : List ℕ). j.information ++ l)
+      ap₂ (λ (j : Option Judged) (l : List ℕ). information_of j ++ l)
       (first_judged n information t (omega arith) laws)
       (ap (information_in judge n) (other_blocks n information t (omega arith)) ∙ information_encoded n (drop 7 information) t (simp length-drop (omega (arith, mul-suc 7 n))))
       ∙ take-append-drop 7 information
@@ -73,7 +74,7 @@ module _ {judge : List ℕ → Judged} (laws : Judge judge) where
   unfolding corrected_in
   corrected_encoded zero information t e = refl
   corrected_encoded (suc n) information t e =
-      ap₂ (λ (j : Judged) (k : ℕ). j.corrected + k)
+      ap₂ (λ (j : Option Judged) (k : ℕ). corrected_of j + k)
       (first_judged n information t (omega arith) laws)
       (ap (corrected_in judge n) (other_blocks n information t (omega arith)) ∙ corrected_encoded n (drop 7 information) t (simp length-drop (omega (arith, mul-suc 7 n))))
 
@@ -100,7 +101,7 @@ module _ (before frame behind : List ℕ) (room : ℕ) where
       ∙ (omega arith)
 
   -- as many codeblocks are good as the frame takes, whatever the room: 10, then 11
-  pub read_back : {judge : List ℕ → Judged} → Judge judge → start_of before ≡ length before → 1 ≤ length frame
+  pub read_back : {judge : List ℕ → Option Judged} → Judge judge → start_of before ≡ length before → 1 ≤ length frame
       → reading_by judge (before ++ (cltu_of frame ++ behind)) room
       ≡ must (leb (length (before ++ (cltu_of frame ++ behind))) largest_input) (refused 10 0)
       (must (leb (7 * codeblocks (length frame)) room) (refused 11 0)
@@ -115,7 +116,7 @@ module _ (before frame behind : List ℕ) (room : ℕ) where
       (reading_started before start_sequence body sequence_received judge room none
       ∙ rw (run, lt-ltb n (length body / 8) (omega (arith, length_body)), lt-ltb 0 n (omega arith), octets, corrected, length_started before start_sequence body sequence_received))
 
-  pub round_trip_by : {judge : List ℕ → Judged} → Judge judge
+  pub round_trip_by : {judge : List ℕ → Option Judged} → Judge judge
       → start_of before ≡ length before → 1 ≤ length frame → length (before ++ (cltu_of frame ++ behind)) ≤ largest_input
       → 7 * codeblocks (length frame) ≤ room
       → reading_by judge (before ++ (cltu_of frame ++ behind)) room
@@ -123,7 +124,7 @@ module _ (before frame behind : List ℕ) (room : ℕ) where
   round_trip_by laws none l h r = read_back laws none l ∙ rw (le-leb (length input) largest_input h, le-leb (7 * codeblocks (length frame)) room r)
 
   -- in too short a room it is refused with 11
-  pub no_room_by : {judge : List ℕ → Judged} → Judge judge
+  pub no_room_by : {judge : List ℕ → Option Judged} → Judge judge
       → start_of before ≡ length before → 1 ≤ length frame → length (before ++ (cltu_of frame ++ behind)) ≤ largest_input
       → room < 7 * codeblocks (length frame) → reading_by judge (before ++ (cltu_of frame ++ behind)) room ≡ refused 11 0
   no_room_by laws none l h r = read_back laws none l ∙ rw (le-leb (length input) largest_input h, lt-leb (7 * codeblocks (length frame)) room r)

@@ -16,9 +16,10 @@ use Rattle.base.specs.Outcome.{Outcome, Outcome.done, Outcome.refused}
 use Rattle.base.specs.Limits.{largest_input}
 use Rattle.base.specs.Octets.{Octets}
 use Rattle.base.proofs.Lists.{below_take, below_drop, rest}
-use Rattle.codeblock.specs.Codeblock.{codeblock_of, judged, is_good}
+use Rattle.codeblock.specs.Codeblock.{codeblock_of, judged, is_good, information_of}
 use Rattle.codeblock.specs.declared.Mode.{Mode}
 use Rattle.codeblock.specs.declared.Mode.TheVariants.{Detecting}
+use Rattle.std.specs.Prelude.{Option}
 use Rattle.codeblock.specs.declared.Judged.{Judged}
 use Rattle.codeblock.proofs.Codeblock.{good_is, good_judged}
 use Rattle.codeblock.proofs.Received.{NearEncoding, good_near}
@@ -37,15 +38,15 @@ abbrev after_start : List ℕ → List ℕ
 after_start input = drop (start_of input + 2) input
 
 -- how many good codeblocks stand there
-abbrev run : (List ℕ → Judged) → List ℕ → ℕ
+abbrev run : (List ℕ → Option Judged) → List ℕ → ℕ
 run judge input = good_run judge (length (after_start input) / 8) (after_start input)
 
 -- the offset of the codeblock behind the run
-abbrev behind_run : (List ℕ → Judged) → List ℕ → ℕ
+abbrev behind_run : (List ℕ → Option Judged) → List ℕ → ℕ
 behind_run judge input = start_of input + 2 + 8 * run judge input
 
 -- the outcome by a judge, with what holds of the input; so many codeblocks were corrected where reading is done
-pub data CaseBy (judge : List ℕ → Judged) (corrected : ℕ) (input : List ℕ) (room : ℕ) : Type 0 where
+pub data CaseBy (judge : List ℕ → Option Judged) (corrected : ℕ) (input : List ℕ) (room : ℕ) : Type 0 where
   too_long : largest_input < length input → reading_by judge input room ≡ refused 10 0 → CaseBy judge corrected input room
   no_start : length input ≤ largest_input → length input ≤ start_of input → reading_by judge input room ≡ refused 1 (length input)
       → CaseBy judge corrected input room
@@ -65,7 +66,7 @@ pub data CaseBy (judge : List ℕ → Judged) (corrected : ℕ) (input : List �
 abbrev pub Case : List ℕ → ℕ → Type 0
 Case = CaseBy (judged Detecting) 0
 
-module _ (judge : List ℕ → Judged) (input : List ℕ) (room : ℕ) where
+module _ (judge : List ℕ → Option Judged) (input : List ℕ) (room : ℕ) where
   -- how many codeblocks of the run were corrected
   abbrev corrections : ℕ
   corrections = corrected_in judge (run judge input) (after_start input)
@@ -113,7 +114,7 @@ cases input room = subst (λ (k : ℕ). CaseBy (judged Detecting) k input room) 
 
 -- what a reading that is done says of its input by any judge: so many good codeblocks from the first start sequence on, whose
 -- information the octets are, the block behind them bad
-pub record SoundBy (judge : List ℕ → Judged) (input octets : List ℕ) (found : Found) : Type 0 where
+pub record SoundBy (judge : List ℕ → Option Judged) (input octets : List ℕ) (found : Found) : Type 0 where
   pub start : ℕ
   pub first : start ≡ start_of input
   pub starting : starts (drop start input) ≡ true
@@ -136,7 +137,7 @@ pub record Sound (input octets : List ℕ) (found : Found) : Type 0 where
 refused_not : {o : Outcome Found} {n p : ℕ} {octets : List ℕ} {f : Found} → o ≡ refused n p → o ≡ done octets f → ⊥
 refused_not a b = let z : ◌≡◌ {A = ℕ} 0 1 = cc in omega arith
 
-module _ {judge : List ℕ → Judged} (laws : Judge judge) (input : List ℕ) where
+module _ {judge : List ℕ → Option Judged} (laws : Judge judge) (input : List ℕ) where
   -- what the definition hands out and tells
   abbrev handed : List ℕ
   handed = randomized 0 (information_in judge (run judge input) (after_start input))
@@ -194,7 +195,7 @@ unfolding encoded information_in
 encodings zero s l h = refl
 encodings (suc n) s l h =
     let g : is_good (judged Detecting (take 8 s)) ≡ true = h 0 (omega arith) in
-    let i : (judged Detecting (take 8 s)).information ≡ take 7 s = ap (λ (j : Judged). j.information) (good_judged (take 8 s) g) ∙ take-take 7 8 s (omega arith) in
+    let i : information_of (judged Detecting (take 8 s)) ≡ take 7 s = ap information_of (good_judged (take 8 s) g) ∙ take-take 7 8 s (omega arith) in
     let e : take 8 s ≡ codeblock_of (take 7 s) = good_is (take 8 s) g ∙ ap codeblock_of (take-take 7 8 s (omega arith)) in
     let k : 8 * suc n ≡ 8 + 8 * n = omega (arith, mul-suc 8 n) in
     let t : length (take 7 s) ≡ 7 = simp length-take (omega (arith, mul-suc 8 n)) in

@@ -18,6 +18,7 @@ use Rattle.base.specs.Outcome.{Outcome.done, Outcome.refused}
 use Rattle.base.proofs.Computed.{below, is_true}
 use Rattle.codeblock.specs.Codeblock.{judged}
 use Rattle.codeblock.specs.declared.Mode.{Mode}
+use Rattle.std.specs.Prelude.{Option}
 use Rattle.codeblock.specs.declared.Judged.{Judged}
 use Rattle.start_sequence.specs.StartSequence.{start_sequence, starts, start_of, Received}
 use Rattle.start_sequence.proofs.Search.{sequence_received, none_earlier, none_found}
@@ -28,7 +29,7 @@ use Rattle.cltu.proofs.RoundTrip.{round_trip_by}
 use Rattle.cltu.proofs.Sound.{CaseBy, CaseBy.too_long, CaseBy.no_start, CaseBy.no_block, CaseBy.no_end, CaseBy.no_room, CaseBy.read, cases_by}
 
 -- octets received for a start sequence read as it does, behind octets that hold no near place
-module _ (judge : List ℕ → Judged) (before octets behind : List ℕ) (room : ℕ) (received : Received octets) (none : start_of before ≡ length before) where
+module _ (judge : List ℕ → Option Judged) (before octets behind : List ℕ) (room : ℕ) (received : Received octets) (none : start_of before ≡ length before) where
   pub received_start : reading_by judge (before ++ (octets ++ behind)) room ≡ reading_by judge (before ++ (start_sequence ++ behind)) room
   received_start =
       reading_started before octets behind received judge room none ∙ sym (reading_started before start_sequence behind sequence_received judge room none)
@@ -53,7 +54,7 @@ flipped_start mode before frame behind room k h none =
     received_start (judged mode) before (flipped k) (drop 2 (cltu_of frame) ++ behind) room (flipped_received k h) none
 
 -- a CLTU whose start sequence was received with at most one wrong bit reads back
-pub round_trip_received : (judge : List ℕ → Judged) → Judge judge → (before octets frame behind : List ℕ) (room : ℕ) → Received octets
+pub round_trip_received : (judge : List ℕ → Option Judged) → Judge judge → (before octets frame behind : List ℕ) (room : ℕ) → Received octets
     → start_of before ≡ length before → 1 ≤ length frame → length (before ++ (cltu_of frame ++ behind)) ≤ largest_input → 7 * codeblocks (length frame) ≤ room
     → reading_by judge (before ++ (octets ++ (drop 2 (cltu_of frame) ++ behind))) room
     ≡ done (filled frame) (record { place = length before + 2 + 8 * codeblocks (length frame); corrected = 0 })
@@ -62,7 +63,7 @@ round_trip_received judge laws before octets frame behind room received none l h
     received_start judge before octets (drop 2 (cltu_of frame) ++ behind) room received none ∙ round_trip_by before frame behind room laws none l h r
 
 -- refusal 1 where nothing starts, and only there
-module _ (judge : List ℕ → Judged) (input : List ℕ) (room : ℕ) where
+module _ (judge : List ℕ → Option Judged) (input : List ℕ) (room : ℕ) where
   pub no_start_given : length input ≤ largest_input → ((i : ℕ) → i < length input → starts (drop i input) ≡ false)
       → reading_by judge input room ≡ refused 1 (length input)
   no_start_given h none = reading_none judge input room h (omega (arith, none_found input none))

@@ -1,5 +1,5 @@
 -- Clauses 8.3, 8.6 and 8.7, and document 01, "Codeblock and CLTU": the CLTU of a frame, and the reading of a CLTU.
-use Rattle.std.specs.Prelude.{ℕ, ◌+◌, ◌-◌, ◌*◌, ◌/◌, List, [], ◌∷◌, ◌++◌, ltb, leb, length, drop, replicate}
+use Rattle.std.specs.Prelude.{ℕ, ◌+◌, ◌-◌, ◌*◌, ◌/◌, List, [], ◌∷◌, ◌++◌, ltb, leb, length, drop, replicate, Option}
 use Rattle.base.specs.Choice.{must}
 use Rattle.base.specs.Limits.{smallest_frame, largest_frame, largest_input}
 use Rattle.base.specs.Outcome.{Outcome, Outcome.done, Outcome.refused}
@@ -52,7 +52,7 @@ pub record Found : Type 0 where
   pub corrected : ℕ
 
 -- clause 8.7, over any judge of codeblocks
-module _ (judge : List ℕ → Judged) where
+module _ (judge : List ℕ → Option Judged) where
   -- reading on after the start sequence, where the rest of the input stands at an offset and n of its codeblocks are good:
   -- 3 where none of its whole codeblocks is bad, 2 where the first is, then 11
   unfoldable pub reading_run : ℕ → List ℕ → ℕ → ℕ → Outcome Found

@@ -2,21 +2,13 @@
 ghost use Rattle.std.specs.Prelude.{◌≡◌, ◌+◌, ◌*◌, ◌/◌, ◌≤◌, ◌++◌, length};
 ghost use Rattle.base.specs.Limits.{largest_frame};
 ghost use Rattle.base.specs.Outcome.{answer, after};
+ghost use Rattle.base.specs.Refusals.{written_answer};
 ghost use Rattle.encoded_data.specs.EncodedData.{encoded};
 ghost use Rattle.memory.specs.Placed.{placed};
 ghost use Rattle.start_sequence.specs.StartSequence.{start_sequence};
 ghost use Rattle.cltu.specs.Cltu.{codeblocks, information_for, tail_sequence, writing};
-ghost use Rattle.cltu.specs.Answers.{written_answer};
 
-use base::{LARGEST_FRAME, SMALLEST_FRAME};
-
-// The count of octets written, or document 01's refusal 10 or 11.
-#[derive(Clone, Copy)]
-pub enum CltuWritten {
-    Done(usize),
-    Length,
-    Room,
-}
+use base::{LARGEST_FRAME, Refusal, SMALLEST_FRAME};
 
 // The information of the largest frame: its octets and the fill of the last codeblock.
 const LARGEST_INFORMATION: usize = (LARGEST_FRAME + 6) / 7 * 7;
@@ -33,7 +25,7 @@ fn put_information(frame: &[u8], count: usize, information: &mut [u8])
 {
     let mut filled = [0x55u8; LARGEST_INFORMATION];
     memory::put(&mut filled, 0, frame);
-    randomizer::randomize(&filled[0..count], information);
+    randomizer::randomize(&filled[..count], information);
 }
 
 // Puts the CLTU of the information to the front of the output: start sequence, codeblocks up to a place, tail sequence.
@@ -46,26 +38,22 @@ fn put_cltu(information: &[u8], end: usize, out: &mut [u8])
     memory::put(out, end, &TAIL);
 }
 
-// Writes the CLTU of a frame of SMALLEST_FRAME to LARGEST_FRAME octets. A refusal changes nothing.
-pub fn write(frame: &[u8], out: &mut [u8]) -> CltuWritten
+// Writes the CLTU of a frame of SMALLEST_FRAME to LARGEST_FRAME octets: the count of octets written, or refusal 10 or 11. A refusal changes nothing.
+pub fn write(frame: &[u8], out: &mut [u8]) -> Result<usize, Refusal>
     ensures answer { written_answer result ≡ answer (writing frame.now (length out.old)) }
     ensures memory { out.new ≡ after (writing frame.now (length out.old)) out.old }
 {
-    let n = frame.len();
-    if n < SMALLEST_FRAME {
-        return CltuWritten::Length;
+    if !matches!(frame.len(), SMALLEST_FRAME..=LARGEST_FRAME) {
+        return Err(Refusal::Length);
     }
-    if LARGEST_FRAME < n {
-        return CltuWritten::Length;
-    }
-    let blocks = (n + 6) / 7;
+    let blocks = (frame.len() + 6) / 7;
     let need = 2 + 8 * blocks + 8;
     if out.len() < need {
-        return CltuWritten::Room;
+        return Err(Refusal::Room);
     }
     let count = 7 * blocks;
     let mut information = [0u8; LARGEST_INFORMATION];
     put_information(frame, count, &mut information);
-    put_cltu(&information[0..count], need - 8, out);
-    CltuWritten::Done(need)
+    put_cltu(&information[..count], need - 8, out);
+    Ok(need)
 }

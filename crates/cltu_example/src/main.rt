@@ -1,8 +1,8 @@
 // Writes the CLTU of a small frame, reads it back, damages it and reads it again, and prints what each reading found.
 #![tactic(auto)]
 
+use base::Refusal;
 use cltu::reader::CltuReading;
-use cltu::writer::CltuWritten;
 use codeblock::Mode;
 use std::io;
 
@@ -96,9 +96,8 @@ fn others(rt: &impl Print, sent: [u8; 26]) -> io::Result<()> {
 fn write(rt: &impl Print, label: &str, frame: &[u8], output: &mut [u8]) -> io::Result<()> {
     print!(rt; "{label}")?;
     match cltu::writer::write(frame, output) {
-        CltuWritten::Done(count) => done(rt, count)?,
-        CltuWritten::Length => refusal(rt, 10, "length")?,
-        CltuWritten::Room => refusal(rt, 11, "room")?,
+        Ok(count) => done(rt, count)?,
+        Err(refusal) => refused(rt, refusal)?,
     }
     println!(rt;)
 }
@@ -113,19 +112,17 @@ fn read(
 ) -> io::Result<()> {
     print!(rt; "{label}")?;
     match cltu::reader::read(input, mode, output) {
-        CltuReading::Done {
-            count,
-            place,
-            corrected,
-        } => {
+        Ok(
+            CltuReading {
+                count,
+                place,
+                corrected,
+            },
+        ) => {
             done(rt, count)?;
             print!(rt; ", bad codeblock (the tail) at {place}, corrected {corrected}")?;
         }
-        CltuReading::NoStart(place) => refusal_at(rt, 1, "no start", place)?,
-        CltuReading::NoBlock(place) => refusal_at(rt, 2, "no block", place)?,
-        CltuReading::NoEnd(place) => refusal_at(rt, 3, "no end", place)?,
-        CltuReading::Length => refusal(rt, 10, "length")?,
-        CltuReading::Room => refusal(rt, 11, "room")?,
+        Err(refusal) => refused(rt, refusal)?,
     }
     println!(rt;)
 }
@@ -134,13 +131,22 @@ fn done(rt: &impl Print, count: usize) -> io::Result<()> {
     print!(rt; " done: {count} octets")
 }
 
-fn refusal(rt: &impl Print, number: u64, name: &str) -> io::Result<()> {
-    print!(rt; " refusal {number}, {name}")
-}
-
-fn refusal_at(rt: &impl Print, number: u64, name: &str, place: usize) -> io::Result<()> {
-    refusal(rt, number, name)?;
-    print!(rt; ", at {place}")
+// A refusal by its number and name, with the place that the first three return.
+fn refused(rt: &impl Print, refusal: Refusal) -> io::Result<()> {
+    let (name, place) = match refusal {
+        Refusal::NoStart(place) => ("no start", Some(place)),
+        Refusal::NoBlock(place) => ("no block", Some(place)),
+        Refusal::NoEnd(place) => ("no end", Some(place)),
+        Refusal::Length => ("length", None),
+        Refusal::Room => ("room", None),
+        _ => ("none of a CLTU's", None),
+    };
+    let number = refusal.number();
+    print!(rt; " refusal {number}, {name}")?;
+    if let Some(place) = place {
+        print!(rt; ", at {place}")?;
+    }
+    Ok(())
 }
 
 // A line of octets in hexadecimal digits.

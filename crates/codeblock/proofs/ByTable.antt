@@ -1,30 +1,28 @@
 -- The tables by which a codeblock goes. Each has its rule by one computed test over the whole table (`share_table`, `bit_table`). The first
 -- holds the shares of octets, which add up to the error control octet (`next_parity`, `next_two`); the second the search for the wrong
--- bit (`bit_found`), whose number tells the judgement in either mode (`none_judged`, `detecting_judged`, `correcting_judged`).
+-- bit, which tells the judgement in either mode (`none_judged`, `detecting_judged`, `correcting_judged`).
 use mathlib.Core.Path.{◌≡◌, refl, sym, ap, ap₂, ◌∙◌}
 use mathlib.Core.Bool.{Bool, true, false}
 use mathlib.Core.List.{List, [], ◌∷◌}
-use mathlib.Core.Logic.{◌⊎◌, inl, inr, ⊎_elim}
 use Prim.Native.Nat.{ℕ, zero, suc, ◌+◌, ◌*◌, ◌/◌, ◌%◌, ◌<◌, ◌≤◌}
 use native.Mathlib.Nat.{mul-one}
 use native.Mathlib.Omega.{arith}
-use borrow.Author.Tests.{eq-eqb, ne_eqb}
 use lib.Bits.{bit_xor, xor_lt, xor_comm, xor_zero_r}
 use lib.Dec.{T, eqb}
-use lib.ListN.{length, take, get_or, replicate, length-take}
-use lib.Seq.{set_out}
+use lib.ListN.{length, take, get_or, replicate}
+use Rattle.std.specs.Prelude.{Option, Some, None}
+use Rattle.std.specs.Option.{option_map}
 use Rattle.base.specs.Choice.{pick}
 use Rattle.base.specs.Octets.{Octets}
 use Rattle.base.specs.Register.{shift_bit, shift_bits, register}
 use Rattle.base.proofs.Computed.{follows, tabulate, table_follows}
 use Rattle.base.proofs.Register.{shift_bits_lt}
 use Rattle.base.proofs.Table.{shifts, shifts_xor, eight}
-use Rattle.base.proofs.Tests.{yes, no}
 use Rattle.codeblock.specs.declared.Mode.{Mode}
 use Rattle.codeblock.specs.declared.Mode.TheVariants.{Detecting, Correcting}
 use Rattle.codeblock.specs.Codeblock.{generator, parity, error_control, codeblock_of, syndrome_of, flipped, good, bad, otherwise, judged}
-use Rattle.codeblock.specs.Table.{share_of, ShareTable, single_syndrome, no_bit, none_wrong, bit_for, BitTable, judged_at}
-use Rattle.codeblock.proofs.Codeblock.{take_flipped}
+use Rattle.codeblock.specs.Table.{share_of, ShareTable, single_syndrome, no_bit, bit_for, BitTable, numbered, righted, judged_by}
+use Rattle.codeblock.proofs.Codeblock.{take_flipped, length_flipped}
 use Rattle.codeblock.proofs.Sums.{moved_by, control_is}
 use Rattle.codeblock.proofs.SingleBits.{column_of, columns63, place_in}
 use Rattle.codeblock.proofs.Syndrome.{syndrome_flipped, mended_at, mended_search, none_found, odd_none, judged_zero, judged_other}
@@ -113,20 +111,6 @@ bit_in columns i = place_in 0 columns (i * 2)
 pub bit_table : (table : List ℕ) → length table ≡ 128 → T (follows (bit_in columns63) 0 table) → BitTable table
 bit_table table l t = record { rule = λ i h. table_follows table (bit_in columns63) t i (omega arith) ∙ sym (bit_place 63 0 (i * 2) (omega arith)) }
 
--- it is one of the first 63, or none
-pub bit_found : (n i v : ℕ) → i + n ≤ 63 → (bit_for n i v < 63) ⊎ (bit_for n i v ≡ no_bit)
-unfolding bit_for
-bit_found zero i v k = inr refl
-bit_found (suc n) i v k = go (eqb (single_syndrome i) v) (bit_found n (suc i) v (omega arith))
-  where
-    go : (b : Bool) → (bit_for n (suc i) v < 63) ⊎ (bit_for n (suc i) v ≡ no_bit)
-        → (pick b i (bit_for n (suc i) v) < 63) ⊎ (pick b i (bit_for n (suc i) v) ≡ no_bit)
-    go true later = inl (omega arith)
-    go false later = later
-
-pub bit_most : (v : ℕ) → bit_for 63 0 v ≤ no_bit
-bit_most v = ⊎_elim (λ h. omega arith) (λ e. omega arith) (bit_found 63 0 v (omega arith))
-
 -- by the table, where the filler bit of the syndrome is zero; no bit gives another syndrome
 pub bit_even : (table : List ℕ) (v : ℕ) → BitTable table → v < 256 → v % 2 ≡ 0 → get_or table (v / 2) 0 ≡ bit_for 63 0 v
 bit_even table v t h e =
@@ -136,38 +120,32 @@ bit_even table v t h e =
 pub bit_odd : (v : ℕ) → v % 2 ≡ 1 → bit_for 63 0 v ≡ no_bit
 bit_odd v o = bit_place 63 0 v (omega arith) ∙ none_found v (odd_none v o)
 
--- the judgement by the number of the wrong bit: bad, or good with the bit inverted
-pub bad_at : (bit : ℕ) (block : List ℕ) → bit ≡ no_bit → judged_at bit block ≡ bad
-unfolding judged_at
-bad_at bit block e = yes _ _ _ (eq-eqb bit no_bit e)
+-- the information of a good codeblock, and its length
+pub righted_seven : (wrong : Option ℕ) (block : List ℕ) → take 7 (righted wrong block) ≡ righted wrong (take 7 block)
+righted_seven None block = refl
+righted_seven (Some bit) block = sym (take_flipped 7 bit block)
 
-pub good_at : (bit : ℕ) (block : List ℕ) → (bit ≡ no_bit → ⊥) → judged_at bit block ≡ good (flipped bit (take 7 block)) (pick (eqb bit none_wrong) 0 1)
-unfolding judged_at
-good_at bit block n = no _ _ _ (ne_eqb bit no_bit n) ∙ ap (λ (x : List ℕ). good x (pick (eqb bit none_wrong) 0 1)) (sym (take_flipped 7 bit block))
-
-same_seven : (block : List ℕ) → take 7 (flipped none_wrong block) ≡ take 7 block
-unfolding flipped
-same_seven block =
-    sym (take_flipped 7 none_wrong block) ∙ set_out (take 7 block) 7 _ (omega (arith, length-take 7 block))
+pub length_righted : (wrong : Option ℕ) (octets : List ℕ) → length (righted wrong octets) ≡ length octets
+length_righted None octets = refl
+length_righted (Some bit) octets = length_flipped bit octets
 
 module _ (block : List ℕ) (l : length block ≡ 8) {v : ℕ} (e : v ≡ syndrome_of block) where
-  pub none_judged : (mode : Mode) → v ≡ 0 → judged mode block ≡ judged_at none_wrong block
-  unfolding judged_at
-  none_judged mode z = judged_zero block l e mode z ∙ ap (λ (x : List ℕ). good x 0) (sym (same_seven block))
+  pub none_judged : (mode : Mode) → v ≡ 0 → judged mode block ≡ judged_by (Some None) block
+  none_judged mode z = judged_zero block l e mode z
 
-  pub detecting_judged : (v ≡ 0 → ⊥) → judged Detecting block ≡ judged_at no_bit block
-  unfolding judged_at otherwise
+  pub detecting_judged : (v ≡ 0 → ⊥) → judged Detecting block ≡ judged_by None block
+  unfolding otherwise
   detecting_judged n = judged_other block l e Detecting n
 
-  pub correcting_judged : Octets block → (v ≡ 0 → ⊥) → judged Correcting block ≡ judged_at (bit_for 63 0 v) block
-  unfolding otherwise judged_at
+  pub correcting_judged : Octets block → (v ≡ 0 → ⊥) → judged Correcting block ≡ judged_by (option_map Some (numbered (bit_for 63 0 v))) block
+  unfolding otherwise
   correcting_judged h n =
       judged_other block l e Correcting n
       ∙ mended_search block l h
       ∙ ap (λ (i : ℕ). mended_at i block) (ap (place_in 0 columns63) (sym e) ∙ sym (bit_place 63 0 v (omega arith)))
-      ∙ counted (bit_for 63 0 v) (bit_found 63 0 v (omega arith))
+      ∙ by_number (eqb (bit_for 63 0 v) no_bit)
     where
-      counted : (i : ℕ) → (i < 63) ⊎ (i ≡ no_bit) → mended_at i block ≡ judged_at i block
-      counted i f =
-          let m : eqb i none_wrong ≡ false = ne_eqb i none_wrong (λ z. ⊎_elim (λ k. absurd (omega arith)) (λ k. absurd (omega arith)) f) in
-          ap (λ (c : ℕ). pick (eqb i no_bit) bad (good (take 7 (flipped i block)) c)) (sym (ap (λ (b : Bool). pick b 0 1) m))
+      by_number : (b : Bool) → pick b bad (good (take 7 (flipped (bit_for 63 0 v) block)) 1)
+          ≡ judged_by (option_map Some (pick b None (Some (bit_for 63 0 v)))) block
+      by_number true = refl
+      by_number false = refl

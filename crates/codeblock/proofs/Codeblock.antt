@@ -14,10 +14,11 @@ use Rattle.base.specs.Octets.{Octets, same}
 use Rattle.base.proofs.Register.{register_lt}
 use Rattle.base.proofs.Tests.{apart, yes, no}
 use Rattle.base.proofs.Lists.{same_equal, same_self, same_last, take_next, below_append}
+use Rattle.std.specs.Prelude.{Option}
 use Rattle.codeblock.specs.declared.Judged.{Judged}
 use Rattle.codeblock.specs.declared.Mode.{Mode}
 use Rattle.codeblock.specs.declared.Mode.TheVariants.{Detecting, Correcting}
-use Rattle.codeblock.specs.Codeblock.{generator, parity, error_control, codeblock_of, good, bad, is_encoding, flipped, mended, otherwise, judged, is_good}
+use Rattle.codeblock.specs.Codeblock.{generator, parity, error_control, codeblock_of, good, bad, is_encoding, flipped, mended, otherwise, judged, is_good, information_of, corrected_of}
 
 pub length_codeblock : (information : List ℕ) → length (codeblock_of information) ≡ length information + 1
 unfolding codeblock_of
@@ -80,7 +81,7 @@ judged_codeblock mode information h =
     ∙ ap (λ (l : List ℕ). good l 0) (take_at information (error_control information ∷ []) 7 h)
 
 -- what holds of a bad block, of an encoding, and of a block that one of its first 63 bits, inverted, makes an encoding, holds of every judgement
-module _ (block : List ℕ) (P : Judged → Type 0) (of-bad : P bad) (of_one : (i : ℕ) → i < 63 → is_encoding (flipped i block) ≡ true → P (good (take 7 (flipped i block)) 1)) where
+module _ (block : List ℕ) (P : Option Judged → Type 0) (of-bad : P bad) (of_one : (i : ℕ) → i < 63 → is_encoding (flipped i block) ≡ true → P (good (take 7 (flipped i block)) 1)) where
   of_mended : (n i : ℕ) → i + n ≤ 63 → P (mended n i block)
   unfolding mended
   of_mended zero i k = of-bad
@@ -110,19 +111,19 @@ flipped_eight : (block : List ℕ) (i : ℕ) → is_encoding (flipped i block) �
 flipped_eight block i e = sym (length_flipped i block) ∙ encoding_length (flipped i block) e
 
 -- the information of a good codeblock has seven octets
-pub good_seven : (mode : Mode) (block : List ℕ) → is_good (judged mode block) ≡ true → length (judged mode block).information ≡ 7
+pub good_seven : (mode : Mode) (block : List ℕ) → is_good (judged mode block) ≡ true → length (information_of (judged mode block)) ≡ 7
 good_seven mode block =
-    of_judged block (λ (j : Judged). is_good j ≡ true → length j.information ≡ 7) (λ e. absurd (apart e))
+    of_judged block (λ (j : Option Judged). is_good j ≡ true → length (information_of j) ≡ 7) (λ e. absurd (apart e))
     (λ i k e g. seven_first (flipped i block) (encoding_length (flipped i block) e)) (λ e g. seven_first block (encoding_length block e)) mode
 
 -- at most one bit is corrected
-pub corrects_few : (mode : Mode) (block : List ℕ) → (judged mode block).corrected ≤ 1
-corrects_few mode block = of_judged block (λ (j : Judged). j.corrected ≤ 1) (omega arith) (λ i k e. omega arith) (λ e. omega arith) mode
+pub corrects_few : (mode : Mode) (block : List ℕ) → corrected_of (judged mode block) ≤ 1
+corrects_few mode block = of_judged block (λ (j : Option Judged). corrected_of j ≤ 1) (omega arith) (λ i k e. omega arith) (λ e. omega arith) mode
 
 -- other lengths than eight are bad
 pub judged_length : (mode : Mode) (block : List ℕ) → (length block ≡ 8 → ⊥) → judged mode block ≡ bad
 judged_length mode block h =
-    of_judged block (λ (j : Judged). j ≡ bad) refl (λ i k e. absurd (h (flipped_eight block i e))) (λ e. absurd (h (encoding_length block e))) mode
+    of_judged block (λ (j : Option Judged). j ≡ bad) refl (λ i k e. absurd (h (flipped_eight block i e))) (λ e. absurd (h (encoding_length block e))) mode
 
 -- the detecting mode: an encoding, or bad
 good_by : (b : Bool) (information : List ℕ) → is_good (pick b (good information 0) bad) ≡ b
@@ -145,11 +146,11 @@ unfolding otherwise
 bad_judged block e = other_judged Detecting block (sym (detected block) ∙ e)
 
 -- nothing is corrected
-none_by : (b : Bool) (information : List ℕ) → (pick b (good information 0) bad).corrected ≡ 0
+none_by : (b : Bool) (information : List ℕ) → corrected_of (pick b (good information 0) bad) ≡ 0
 none_by true information = refl
 none_by false information = refl
 
-pub corrects_none : (block : List ℕ) → (judged Detecting block).corrected ≡ 0
+pub corrects_none : (block : List ℕ) → corrected_of (judged Detecting block) ≡ 0
 unfolding judged otherwise
 corrects_none block = none_by (is_encoding block) (take 7 block)
 

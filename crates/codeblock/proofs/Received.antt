@@ -13,11 +13,12 @@ use lib.Dec.{eqb}
 use lib.ListN.{length, take, get_or}
 use Rattle.base.specs.Octets.{Octets}
 use Rattle.base.proofs.Tests.{apart}
+use Rattle.std.specs.Prelude.{Option}
 use Rattle.codeblock.specs.declared.Judged.{Judged}
 use Rattle.codeblock.specs.declared.Mode.{Mode}
 use Rattle.codeblock.specs.declared.Mode.TheVariants.{Detecting, Correcting}
 use Rattle.base.specs.Distance.{wrong_bits}
-use Rattle.codeblock.specs.Codeblock.{good, bad, is_encoding, flipped, judged, is_good}
+use Rattle.codeblock.specs.Codeblock.{good, bad, is_encoding, flipped, judged, is_good, corrected_of}
 use Rattle.codeblock.proofs.Bits.{self_wrong}
 use Rattle.codeblock.proofs.Codeblock.{encoding_length, encoding_judged, of_judged, length_flipped}
 use Rattle.codeblock.proofs.Flipped.{octets_flipped, none_flipped, flipped_wrong}
@@ -58,13 +59,13 @@ module _ (sent received : List ℕ) (g : is_encoding sent ≡ true) (l : length 
       go (suc (suc (suc n))) w = absurd (omega arith)
 
 -- an encoding of which so many bits were corrected, one at the most
-abbrev pub NearEncoding : List ℕ → Judged → Type 0
+abbrev pub NearEncoding : List ℕ → Option Judged → Type 0
 NearEncoding block j =
-    (sent : List ℕ) × (is_encoding sent ≡ true) × Octets sent × (wrong_bits sent block ≡ j.corrected) × (j.corrected ≤ 1)
-    × (j ≡ good (take 7 sent) j.corrected)
+    (sent : List ℕ) × (is_encoding sent ≡ true) × Octets sent × (wrong_bits sent block ≡ corrected_of j) × (corrected_of j ≤ 1)
+    × (j ≡ good (take 7 sent) (corrected_of j))
 
 pub good_near : (mode : Mode) (block : List ℕ) → Octets block → is_good (judged mode block) ≡ true → NearEncoding block (judged mode block)
 good_near mode block h =
-    of_judged block (λ (j : Judged). is_good j ≡ true → NearEncoding block j) (λ e. absurd (apart e))
+    of_judged block (λ (j : Option Judged). is_good j ≡ true → NearEncoding block j) (λ e. absurd (apart e))
     (λ i k e t. (flipped i block, e, octets_flipped i block h, flipped_wrong i block (omega arith) (sym (length_flipped i block) ∙ encoding_length (flipped i block) e), omega arith, refl))
     (λ e t. (block, e, h, self_wrong block, omega arith, refl)) mode

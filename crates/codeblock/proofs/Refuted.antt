@@ -10,10 +10,11 @@ use Rattle.base.specs.Octets.{Octets, bits_of, octet_bits}
 use Rattle.base.specs.Register.{shift_bit, shift_bits, register}
 use Rattle.base.proofs.Lists.{same_not}
 use Rattle.base.proofs.Tests.{apart}
+use Rattle.std.specs.Prelude.{Option}
 use Rattle.codeblock.specs.declared.Judged.{Judged}
 use Rattle.codeblock.specs.declared.Mode.TheVariants.{Correcting}
 use Rattle.base.specs.Distance.{differing, wrong_bits}
-use Rattle.codeblock.specs.Codeblock.{parity, error_control, codeblock_of, syndrome_of, good, flipped, judged, is_good}
+use Rattle.codeblock.specs.Codeblock.{parity, error_control, codeblock_of, syndrome_of, good, flipped, judged, is_good, information_of, corrected_of}
 use Rattle.codeblock.proofs.Codeblock.{judged_codeblock, is_encoding_lem}
 use Rattle.codeblock.proofs.SingleBits.{tail_syndrome}
 use Rattle.codeblock.proofs.Modes.{one_flip_mended, filler_bad, tail_syndrome_bad}
@@ -39,21 +40,21 @@ pub met : (wrong_bits sent (flipped 62 sent) ≡ 1) × (get_or (flipped 62 sent)
 unfolding wrong_bits differing octet_bits bits_of flipped codeblock_of error_control parity register shift_bits shift_bit
 met = (refl, refl, refl)
 
-module _ (judge : List ℕ → Judged) (agrees : (block : List ℕ) → judge block ≡ judged Correcting block) where
+module _ (judge : List ℕ → Option Judged) (agrees : (block : List ℕ) → judge block ≡ judged Correcting block) where
   -- a judge that does not count a parity bit it corrected
-  pub parity_uncounted : ((block : List ℕ) → (judge block).information ≡ take 7 block → (judge block).corrected ≡ 0) → ⊥
+  pub parity_uncounted : ((block : List ℕ) → information_of (judge block) ≡ take 7 block → corrected_of (judge block) ≡ 0) → ⊥
   unfolding flipped codeblock_of
   parity_uncounted uncounted =
       let e : judge (flipped 62 sent) ≡ good (take 7 sent) 1 = agrees (flipped 62 sent) ∙ mended 62 (omega arith) in
-      let z : ◌≡◌ {A = ℕ} 1 0 = sym (ap (λ (j : Judged). j.corrected) e) ∙ uncounted (flipped 62 sent) (ap (λ (j : Judged). j.information) e) in
+      let z : ◌≡◌ {A = ℕ} 1 0 = sym (ap corrected_of e) ∙ uncounted (flipped 62 sent) (ap information_of e) in
       omega arith
 
   -- one that corrects the bit behind the wrong one
-  pub one_place_off : ((i : ℕ) → i < 62 → (judge (flipped i sent)).information ≡ take 7 (flipped (suc i) (flipped i sent))) → ⊥
+  pub one_place_off : ((i : ℕ) → i < 62 → information_of (judge (flipped i sent)) ≡ take 7 (flipped (suc i) (flipped i sent))) → ⊥
   unfolding flipped codeblock_of
   one_place_off off =
       same_not (take 7 sent) (take 7 (flipped 1 (flipped 0 sent))) refl
-      (sym (ap (λ (j : Judged). j.information) (agrees (flipped 0 sent) ∙ mended 0 (omega arith))) ∙ off 0 (omega arith))
+      (sym (ap information_of (agrees (flipped 0 sent) ∙ mended 0 (omega arith))) ∙ off 0 (omega arith))
 
   -- one that does not look at the filler bit
   pub filler_ignored : ((information : List ℕ) (control : ℕ) → judge (information ++ ((control * 2) ∷ [])) ≡ judge (information ++ ((control * 2 + 1) ∷ []))) → ⊥

@@ -15,6 +15,7 @@ use Rattle.base.specs.Octets.{Octets}
 use Rattle.base.proofs.Computed.{tabulate}
 use Rattle.base.proofs.Lists.{below_take}
 use Rattle.base.proofs.Xor.{xor_assoc, xor_equal, swap}
+use Rattle.std.specs.Prelude.{Option}
 use Rattle.codeblock.specs.declared.Judged.{Judged}
 use Rattle.codeblock.specs.declared.Mode.{Mode}
 use Rattle.codeblock.specs.Codeblock.{parity, error_control, syndrome_of, good, bad, is_encoding, flipped, mended, otherwise, judged}
@@ -72,7 +73,7 @@ module _ (block : List ℕ) (l : length block ≡ 8) (h : Octets block) where
       ∙ xor_test (column_of i) (syndrome_of block)
 
 -- the judgement by the bit that was found
-abbrev pub mended_at : ℕ → List ℕ → Judged
+abbrev pub mended_at : ℕ → List ℕ → Option Judged
 mended_at i block = pick (eqb i 64) bad (good (take 7 (flipped i block)) 1)
 
 module _ (block : List ℕ) (l : length block ≡ 8) (h : Octets block) where

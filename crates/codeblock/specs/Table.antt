@@ -1,5 +1,5 @@
 -- Document 02, order 13: "Codeblocks go by table". What the entries of the tables are, and what the number of a wrong bit tells.
-use Rattle.std.specs.Prelude.{◌≡◌, List, ◌∷◌, ℕ, zero, suc, ◌*◌, ◌/◌, ◌%◌, ◌<◌, eqb, take, get_or, replicate}
+use Rattle.std.specs.Prelude.{◌≡◌, List, ◌∷◌, ℕ, zero, suc, ◌*◌, ◌/◌, ◌%◌, ◌<◌, eqb, take, get_or, replicate, Option, Some, None}
 use Rattle.base.specs.Choice.{pick}
 use Rattle.codeblock.specs.declared.Judged.{Judged}
 use Rattle.codeblock.specs.Codeblock.{parity, codeblock_of, syndrome_of, flipped, good, bad}
@@ -17,12 +17,9 @@ pub record ShareTable (table : List ℕ) : Type 0 where
 unfoldable pub single_syndrome : ℕ → ℕ
 single_syndrome i = syndrome_of (flipped i (codeblock_of (replicate 7 0)))
 
--- where no bit gives a syndrome, and where no bit is wrong: numbers that none of the 63 bits has
+-- where no bit gives a syndrome: a number that none of the 63 bits has
 abbrev pub no_bit : ℕ
 no_bit = 64
-
-abbrev pub none_wrong : ℕ
-none_wrong = 63
 
 -- of the n bits from bit i on, the first that alone gives the syndrome
 unfoldable pub bit_for : ℕ → ℕ → ℕ → ℕ
@@ -33,6 +30,21 @@ bit_for (suc n) i syndrome = pick (eqb (single_syndrome i) syndrome) i (bit_for 
 pub record BitTable (table : List ℕ) : Type 0 where
   pub rule : (i : ℕ) → i < 128 → get_or table i 0 ≡ bit_for 63 0 (i * 2)
 
--- document 02, order 3, "that bit is corrected and counted": the judgement by the number of the wrong bit; where none is wrong, nothing of the information changes
-unfoldable pub judged_at : ℕ → List ℕ → Judged
-judged_at bit block = pick (eqb bit no_bit) bad (good (take 7 (flipped bit block)) (pick (eqb bit none_wrong) 0 1))
+-- the bit of a number, if it is one
+abbrev pub numbered : ℕ → Option ℕ
+numbered bit = pick (eqb bit no_bit) None (Some bit)
+
+-- document 02, order 3, "that bit is corrected and counted": octets with the wrong bit inverted, where there is one
+abbrev pub righted : Option ℕ → List ℕ → List ℕ
+righted None octets = octets
+righted (Some bit) octets = flipped bit octets
+
+-- and how many bits are corrected
+abbrev pub corrections : Option ℕ → ℕ
+corrections None = 0
+corrections (Some bit) = 1
+
+-- the judgement by the wrong bit: of a good codeblock it is known whether there is one
+abbrev pub judged_by : Option (Option ℕ) → List ℕ → Option Judged
+judged_by None block = bad
+judged_by (Some wrong) block = good (take 7 (righted wrong block)) (corrections wrong)

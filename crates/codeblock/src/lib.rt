@@ -8,10 +8,9 @@ pub enum Mode {
     Correcting,
 }
 
-// A received codeblock: whether it is good, its information, and how many of its bits were corrected (at most one).
+// A received codeblock that is good: its information, and how many of its bits were corrected (at most one). A bad one is None.
 #[derive(Clone, Copy)]
 pub struct Judged {
-    pub good: bool,
     pub information: [u8; 7],
     pub corrected: u8,
 }

@@ -9,7 +9,9 @@ use lib.ListN.{length, take, drop, length-drop}
 use lib.Seq.{take-add, drop-drop}
 use Rattle.base.specs.Choice.{pick}
 use Rattle.base.specs.Octets.{same}
+use Rattle.std.specs.Prelude.{Option}
 use Rattle.codeblock.specs.declared.Judged.{Judged}
+use Rattle.codeblock.specs.Codeblock.{information_of, corrected_of}
 use Rattle.encoded_data.specs.EncodedData.{information_in, corrected_in}
 use Rattle.damage.specs.Few.{eight, changed_in}
 
@@ -20,28 +22,28 @@ later n k j s e = ap (take k) (drop-drop n k s ∙ ap (λ (i : ℕ). drop i s) e
 next : (b : ℕ) (s : List ℕ) → eight b (drop 8 s) ≡ eight (suc b) s
 next b s = later (8 * b) 8 (8 * suc b) s (omega (arith, mul-suc 8 b))
 
-module _ (judge : List ℕ → Judged) where
+module _ (judge : List ℕ → Option Judged) where
   pub information_sent : (m : ℕ) (information s : List ℕ) → 7 * m ≤ length information
-      → ((b : ℕ) → b < m → (judge (eight b s)).information ≡ take 7 (drop (7 * b) information)) → information_in judge m s ≡ take (7 * m) information
+      → ((b : ℕ) → b < m → information_of (judge (eight b s)) ≡ take 7 (drop (7 * b) information)) → information_in judge m s ≡ take (7 * m) information
   unfolding information_in
   information_sent zero information s l h = refl
   information_sent (suc m) information s l h =
       let e : 7 + 7 * m ≡ 7 * suc m = omega (arith, mul-suc 7 m) in
       ap₂ (λ (x y : List ℕ). x ++ y) (h 0 (omega arith))
       (information_sent m (drop 7 information) (drop 8 s) (simp length-drop (omega arith)) (λ b k.
-      ap (λ (x : List ℕ). (judge x).information) (next b s)
+      ap (λ (x : List ℕ). information_of (judge x)) (next b s)
       ∙ h (suc b) (omega arith)
       ∙ sym (later (7 * b) 7 (7 * suc b) information (omega (arith, mul-suc 7 b)))))
       ∙ sym (take-add 7 (7 * m) information)
       ∙ ap (λ (j : ℕ). take j information) e
 
-  pub corrected_sent : (m : ℕ) (sent s : List ℕ) → ((b : ℕ) → b < m → (judge (eight b s)).corrected ≡ pick (same (eight b sent) (eight b s)) 0 1)
+  pub corrected_sent : (m : ℕ) (sent s : List ℕ) → ((b : ℕ) → b < m → corrected_of (judge (eight b s)) ≡ pick (same (eight b sent) (eight b s)) 0 1)
       → corrected_in judge m s ≡ changed_in m sent s
   unfolding corrected_in changed_in
   corrected_sent zero sent s h = refl
   corrected_sent (suc m) sent s h =
       ap₂ (λ (x y : ℕ). x + y) (h 0 (omega arith))
       (corrected_sent m (drop 8 sent) (drop 8 s) (λ b k.
-      ap (λ (x : List ℕ). (judge x).corrected) (next b s)
+      ap (λ (x : List ℕ). corrected_of (judge x)) (next b s)
       ∙ h (suc b) (omega arith)
       ∙ ap₂ (λ (x y : List ℕ). pick (same x y) 0 1) (sym (next b sent)) (sym (next b s))))

@@ -14,7 +14,8 @@ use Rattle.base.specs.Choice.{must}
 use Rattle.base.specs.Limits.{largest_input}
 use Rattle.base.specs.Outcome.{Outcome, Outcome.done, Outcome.refused}
 use Rattle.base.proofs.Tests.{apart, not_so}
-use Rattle.codeblock.specs.Codeblock.{is_good}
+use Rattle.codeblock.specs.Codeblock.{is_good, information_of}
+use Rattle.std.specs.Prelude.{Option}
 use Rattle.codeblock.specs.declared.Judged.{Judged}
 use Rattle.randomizer.specs.Randomizer.{octet, randomized}
 use Rattle.randomizer.proofs.Randomized.{randomized_twice}
@@ -38,10 +39,10 @@ abbrev pub information_at : List ℕ → ℕ → List ℕ
 information_at frame b = take 7 (drop (7 * b) (information_for frame))
 
 -- of what is received behind the start sequence of a frame's CLTU
-pub record Known (judge : List ℕ → Judged) (frame body : List ℕ) : Type 0 where
+pub record Known (judge : List ℕ → Option Judged) (frame body : List ℕ) : Type 0 where
   pub whole : 8 * codeblocks (length frame) + 8 ≤ length body
   pub sent : (b : ℕ) → b < codeblocks (length frame) → is_good (judge (eight b body)) ≡ true
-      → (judge (eight b body)).information ≡ information_at frame b
+      → information_of (judge (eight b body)) ≡ information_at frame b
   pub tail : is_good (judge (eight (codeblocks (length frame)) body)) ≡ false
 
 -- what reading gives that ends behind n codeblocks of the frame, which begin at an offset and of which so many are corrected
@@ -51,7 +52,7 @@ front_at frame offset n corrected room =
     (must (leb (7 * n) room) (refused 11 0)
     (done (take (7 * n) (filled frame)) (record { place = offset + 8 * n; corrected = corrected })))
 
-module _ {judge : List ℕ → Judged} {frame body : List ℕ} (known : Known judge frame body) where
+module _ {judge : List ℕ → Option Judged} {frame body : List ℕ} (known : Known judge frame body) where
   abbrev n : ℕ
   n = codeblocks (length frame)
 

@@ -18,8 +18,7 @@ use Rattle.base.specs.Outcome.{Outcome.done}
 use Rattle.base.specs.Distance.{wrong_bits}
 use Rattle.base.proofs.Lists.{same_equal, same_self}
 use Rattle.base.proofs.Tests.{apart}
-use Rattle.codeblock.specs.Codeblock.{codeblock_of, good, judged, is_good}
-use Rattle.codeblock.specs.declared.Judged.{Judged}
+use Rattle.codeblock.specs.Codeblock.{codeblock_of, good, judged, is_good, corrected_of}
 use Rattle.codeblock.specs.declared.Mode.{Mode}
 use Rattle.codeblock.specs.declared.Mode.TheVariants.{Detecting, Correcting}
 use Rattle.codeblock.proofs.Bits.{none_wrong_lem, self_wrong}
@@ -83,7 +82,7 @@ module _ (frame body : List ℕ) (h : Octets frame) (high : length frame ≤ lar
         (octets_codeblock (information b) (octets_seven frame h high b)) (eight_octets frame h high body w b) (few_sent frame h high body w b l) (kept b l)) in
         let all = run_all mended (λ b l. ap is_good (near b l)) in
         let counted = corrected_sent (judged Correcting) n (drop 2 (cltu_of frame)) body (λ b l.
-        ap (λ (j : Judged). j.corrected) (near b l)
+        ap corrected_of (near b l)
         ∙ changed_one (codeblock_of (information b)) (eight b body)
         (omega (arith, length_codeblock (information b), length_seven frame b l, eight_length frame h high body w b (omega arith)))
         (octets_codeblock (information b) (octets_seven frame h high b)) (eight_octets frame h high body w b) (few_sent frame h high body w b l)

@@ -14,10 +14,9 @@ use Rattle.base.specs.Octets.{Octets}
 use Rattle.base.specs.Distance.{wrong_bits}
 use Rattle.base.proofs.Lists.{below_append, below_take, below_drop}
 use Rattle.base.proofs.Tests.{apart}
-use Rattle.codeblock.specs.Codeblock.{error_control, codeblock_of, bad, judged, is_good}
+use Rattle.codeblock.specs.Codeblock.{error_control, codeblock_of, bad, judged, is_good, information_of}
 use Rattle.codeblock.specs.declared.Mode.{Mode}
 use Rattle.codeblock.specs.declared.Mode.TheVariants.{Detecting, Correcting}
-use Rattle.codeblock.specs.declared.Judged.{Judged}
 use Rattle.codeblock.proofs.Codeblock.{is_encoding_lem, judged_codeblock, length_codeblock, octets_codeblock}
 use Rattle.codeblock.proofs.Bits.{none_wrong_lem}
 use Rattle.codeblock.proofs.Received.{two_at_most}
@@ -121,12 +120,12 @@ module _ (frame : List ℕ) (h : Octets frame) (high : length frame ≤ largest_
 
     -- in either mode a codeblock that is good has the information sent, and the tail is bad
     good_sent : (mode : Mode) → most ≤ most_wrong mode → (b : ℕ) → b < n → is_good (judged mode (eight b body)) ≡ true
-        → (judged mode (eight b body)).information ≡ information b
+        → information_of (judged mode (eight b body)) ≡ information b
     good_sent Detecting m b l g =
-        ap (λ (x : List ℕ). (judged Detecting x).information) (good_intact m b l g)
-        ∙ ap (λ (j : Judged). j.information) (judged_codeblock Detecting (information b) (length_seven frame b l))
+        ap (λ (x : List ℕ). information_of (judged Detecting x)) (good_intact m b l g)
+        ∙ ap information_of (judged_codeblock Detecting (information b) (length_seven frame b l))
     good_sent Correcting m b l g =
-        ⊎_elim (λ e. absurd (apart (sym (ap is_good e) ∙ g))) (λ e. ap (λ (j : Judged). j.information) e ∙ front_seven (information b) (length_seven frame b l))
+        ⊎_elim (λ e. absurd (apart (sym (ap is_good e) ∙ g))) (λ e. ap information_of e ∙ front_seven (information b) (length_seven frame b l))
         (two_at_most (codeblock_of (information b)) (eight b body) (is_encoding_lem (information b) (length_seven frame b l)) (eight_length b (omega arith))
         (octets_codeblock (information b) (octets_seven b)) (eight_octets b) Correcting (omega (arith, few_sent b l)))
 

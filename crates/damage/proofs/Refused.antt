@@ -15,13 +15,15 @@ use Rattle.base.specs.Choice.{must}
 use Rattle.base.specs.Limits.{largest_input}
 use Rattle.base.specs.Outcome.{Outcome.done, Outcome.refused}
 use Rattle.base.proofs.Lists.{octets_at_lem, below_take}
+use Rattle.std.specs.Prelude.{Option}
 use Rattle.codeblock.specs.declared.Judged.{Judged}
 use Rattle.codeblock.specs.declared.Mode.TheVariants.{Detecting}
 use Rattle.start_sequence.specs.StartSequence.{start_of, Received}
 use Rattle.cltu.specs.Cltu.{codeblocks, filled, cltu_of, Found, reading_by, reading}
 use Rattle.cltu.proofs.Places.{length_filled, filled_frame, octets_filled}
 use Rattle.frame.specs.Frame.{total_of, refusal_of}
-use Rattle.frame.specs.declared.FrameReading.TheVariants.{Refused}
+use Rattle.std.specs.Prelude.{Err}
+use Rattle.base.specs.Refusals.{frame_refusal}
 use Rattle.frame.proofs.Octets.{total_is, length_checks_lem}
 use Rattle.frame.proofs.Accepted.{reading_refused}
 use Rattle.damage.specs.Damage.{eight_at, Damaged, reading_front, ReadToDamage, WholeFrame, TooShort}
@@ -66,7 +68,7 @@ module _ {frame : List ℕ} (w : WholeFrame frame) where
     pub front_refused : TooShort (take (7 * m) (filled frame))
     front_refused spacecraft channel =
         let e = refusal_front spacecraft channel in
-        reading_refused front spacecraft channel (λ z. omega arith) ∙ ap Refused e
+        reading_refused front spacecraft channel (λ z. omega arith) ∙ ap (λ (n : ℕ). Err (frame_refusal n)) e
 
   -- what a reading hands out is the front of the frame: all of it, or too short
   handed : (fits : Bool) (offset m corrected room : ℕ) (octets : List ℕ) (found : Found)
@@ -90,7 +92,7 @@ module _ {frame : List ℕ} (w : WholeFrame frame) where
           inl (sym e ∙ take_all (7 * m) (filled frame) (omega (arith, length_filled frame)))
 
   -- by any judge, where it is known of each codeblock that it is bad or has the information sent, and of the tail that it is bad
-  pub refused_or_sent : {judge : List ℕ → Judged} {body : List ℕ} → Known judge frame body → (before start : List ℕ) → Received start → start_of before ≡ length before
+  pub refused_or_sent : {judge : List ℕ → Option Judged} {body : List ℕ} → Known judge frame body → (before start : List ℕ) → Received start → start_of before ≡ length before
       → (room : ℕ) (octets : List ℕ) (found : Found) → reading_by judge (before ++ (start ++ body)) room ≡ done octets found → (octets ≡ filled frame) ⊎ TooShort octets
   refused_or_sent {judge} {body} known before start received none room octets found e =
       sent_or_short (run known) (run_within known)

@@ -7,7 +7,8 @@ use Rattle.base.specs.Distance.{wrong_bits}
 use Rattle.base.specs.Outcome.{Outcome, Outcome.done, Outcome.refused}
 use Rattle.frame.specs.Frame.{total_of}
 use Rattle.frame.specs.Answers.{reading_of, part_of}
-use Rattle.frame.specs.declared.FrameReading.TheVariants.{Refused}
+use Rattle.std.specs.Prelude.{Err}
+use Rattle.base.specs.declared.Refusal.TheVariants.{Short}
 use Rattle.codeblock.specs.declared.Mode.TheVariants.{Detecting}
 use Rattle.start_sequence.specs.StartSequence.{Received}
 use Rattle.cltu.specs.Cltu.{Found, codeblocks, filled, cltu_of, reading}
@@ -57,7 +58,7 @@ Sendable (units.Refused r) = ⊥
 
 -- octets that the frame reader refuses with 4, too short, whatever the own address
 abbrev pub TooShort : List ℕ → Type 0
-TooShort octets = (spacecraft channel : ℕ) → reading_of octets spacecraft channel ≡ Refused 4
+TooShort octets = (spacecraft channel : ℕ) → reading_of octets spacecraft channel ≡ Err Short
 
 -- octets that the frame reader reads as it reads the frame, whatever the own address: the answer and the data field
 abbrev pub ReadsAs : List ℕ → List ℕ → Type 0

@@ -1,25 +1,26 @@
 -- The run of good codeblocks by any judge, one codeblock at a time as the loop takes them (`Taken`).
-use mathlib.Core.Path.{◌≡◌, refl, sym, ap, ap₂, ◌∙◌}
+use mathlib.Core.Path.{◌≡◌, refl, sym, ap, ap₂, subst, ◌∙◌}
 use mathlib.Core.Bool.{Bool, true, false}
 use mathlib.Core.List.{List, ◌++◌, append_assoc, append-nil}
 use Prim.Native.Nat.{ℕ, zero, suc, ◌+◌, ◌-◌, ◌*◌, ◌/◌, ◌<◌, ◌≤◌}
 use native.Mathlib.Nat.{not-suc-le-zero, zero-add, add-zero, add_assoc, mul-suc}
 use native.Mathlib.Numerals.{add-one}
 use native.Mathlib.Omega.{arith}
-use borrow.Author.Tests.{le-leb, lt-leb, leb-true}
-use lib.Dec.{leb}
-use lib.ListN.{length, take, drop, length-append}
+use borrow.Author.Tests.{le-leb, lt-leb}
+use borrow.Rule.Slice.PartMut.{put_mid}
+use lib.ListN.{length, take, drop, length-append, length-drop}
 use lib.Seq.{take_at, drop-drop}
 use Rattle.base.specs.Choice.{pick}
-use Rattle.codeblock.specs.Codeblock.{is_good}
+use Rattle.std.specs.Prelude.{Option}
+use Rattle.codeblock.specs.Codeblock.{good, is_good, information_of, corrected_of}
 use Rattle.codeblock.specs.declared.Judged.{Judged}
-use Rattle.memory.specs.Placed.{placed}
-use Rattle.memory.proofs.Laws.{placed_behind}
+use Rattle.memory.proofs.Laws.{placed_mid, placed_behind}
 use Rattle.encoded_data.specs.EncodedData.{good_run, information_in, corrected_in, whole_in}
+use Rattle.encoded_data.proofs.Encoded.{cut_front, cut_back}
 
-module _ (judge : List ℕ → Judged) where
+module _ (judge : List ℕ → Option Judged) where
   -- codeblock n
-  abbrev pub block_at : List ℕ → ℕ → Judged
+  abbrev pub block_at : List ℕ → ℕ → Option Judged
   block_at s n = judge (take 8 (drop (8 * n) s))
 
   -- codeblock n of all but the first
@@ -88,91 +89,111 @@ module _ (judge : List ℕ → Judged) where
       go true e h ih = ap is_good (sym (block_next s (good_run judge m (drop 8 s)))) ∙ ih (omega arith)
 
   -- one codeblock more: its information behind the others', its corrections with theirs
-  information_more : (n : ℕ) (s : List ℕ) → information_in judge (suc n) s ≡ information_in judge n s ++ (block_at s n).information
+  information_more : (n : ℕ) (s : List ℕ) → information_in judge (suc n) s ≡ information_in judge n s ++ information_of (block_at s n)
   unfolding information_in
-  information_more zero s = append-nil (judge (take 8 s)).information
+  information_more zero s = append-nil (information_of (judge (take 8 s)))
   information_more (suc n) s =
-      ap (λ (l : List ℕ). (judge (take 8 s)).information ++ l)
-      (information_more n (drop 8 s) ∙ ap (λ (j : Judged). information_in judge n (drop 8 s) ++ j.information) (block_next s n))
-      ∙ sym (append_assoc (judge (take 8 s)).information (information_in judge n (drop 8 s)) (block_at s (suc n)).information)
+      ap (λ (l : List ℕ). information_of (judge (take 8 s)) ++ l)
+      (information_more n (drop 8 s) ∙ ap (λ (j : Option Judged). information_in judge n (drop 8 s) ++ information_of j) (block_next s n))
+      ∙ sym (append_assoc (information_of (judge (take 8 s))) (information_in judge n (drop 8 s)) (information_of (block_at s (suc n))))
 
-  corrected_more : (n : ℕ) (s : List ℕ) → corrected_in judge (suc n) s ≡ corrected_in judge n s + (block_at s n).corrected
+  corrected_more : (n : ℕ) (s : List ℕ) → corrected_in judge (suc n) s ≡ corrected_in judge n s + corrected_of (block_at s n)
   unfolding corrected_in
-  corrected_more zero s = add-zero (judge (take 8 s)).corrected ∙ sym (zero-add (judge (take 8 s)).corrected)
+  corrected_more zero s = add-zero (corrected_of (judge (take 8 s))) ∙ sym (zero-add (corrected_of (judge (take 8 s))))
   corrected_more (suc n) s =
-      ap (λ (k : ℕ). (judge (take 8 s)).corrected + k)
-      (corrected_more n (drop 8 s) ∙ ap (λ (j : Judged). corrected_in judge n (drop 8 s) + j.corrected) (block_next s n))
-      ∙ sym (add_assoc (judge (take 8 s)).corrected (corrected_in judge n (drop 8 s)) (block_at s (suc n)).corrected)
+      ap (λ (k : ℕ). corrected_of (judge (take 8 s)) + k)
+      (corrected_more n (drop 8 s) ∙ ap (λ (j : Option Judged). corrected_in judge n (drop 8 s) + corrected_of j) (block_next s n))
+      ∙ sym (add_assoc (corrected_of (judge (take 8 s))) (corrected_in judge n (drop 8 s)) (corrected_of (block_at s (suc n))))
 
-  -- n codeblocks of s are taken: they are good, and their information stands at the front of a memory that was `old`
-  pub record Taken (whole : ℕ) (s old memory : List ℕ) (corrected n : ℕ) : Type 0 where
-    pub within : n ≤ whole
-    pub run : good_run judge whole s ≡ n + good_run judge (whole - n) (drop (8 * n) s)
+  -- n codeblocks of s are taken: they are good, and their information stands at the front of a memory that was `old`; the rest is left, to be cut by the size
+  pub record Taken (s old memory rest : List ℕ) (size corrected n : ℕ) : Type 0 where
+    pub eight : size ≡ 8
+    pub left : rest ≡ drop (8 * n) s
+    pub within : 8 * n ≤ length s
+    pub run : good_run judge (length s / 8) s ≡ n + good_run judge (length s / 8 - n) (drop (8 * n) s)
     pub count : corrected ≡ corrected_in judge n s
     pub few : corrected ≤ n
     pub long : length (information_in judge n s) ≡ 7 * n
     pub front : memory ≡ information_in judge n s ++ drop (length (information_in judge n s)) old
 
-  pub taken_none : (whole : ℕ) (s old : List ℕ) → Taken whole s old old 0 0
+  pub taken_none : (s old rest : List ℕ) (size n : ℕ) → rest ≡ s → size ≡ 8 → n ≡ 0 → Taken s old old rest size 0 n
   unfolding information_in corrected_in
-  taken_none whole s old =
-      let e : whole ≡ whole - 0 = omega arith in
-      record {
+  taken_none s old rest size n r z none =
+      let e : length s / 8 ≡ length s / 8 - 0 = omega arith in
+      subst (Taken s old old rest size 0) (sym none) (record {
+        eight = z;
+        left = r;
         within = omega arith;
-        run = ap (λ (j : ℕ). good_run judge j s) e ∙ sym (zero-add (good_run judge (whole - 0) s));
+        run = ap (λ (j : ℕ). good_run judge j s) e ∙ sym (zero-add (good_run judge (length s / 8 - 0) s));
         count = refl;
         few = omega arith;
         long = refl;
         front = refl;
-      }
+      })
 
-  module _ {whole : ℕ} {s old memory : List ℕ} {corrected n : ℕ} (t : Taken whole s old memory corrected n) where
-    -- the codeblock as the loop's part of s, from 8 * n to 8 * n + 8
-    block_is : (j : Judged) → j ≡ judge (take (8 * n + 8 - 8 * n) (drop (8 * n) s)) → j ≡ block_at s n
-    block_is j e =
-        let k : 8 * n + 8 - 8 * n ≡ 8 = omega arith in
-        e ∙ ap (λ (i : ℕ). judge (take i (drop (8 * n) s))) k
+  module _ {s old memory rest : List ℕ} {size corrected n : ℕ} (t : Taken s old memory rest size corrected n) where
+    -- no whole codeblock is left
+    pub all_taken : length rest < size → n ≡ length s / 8
+    all_taken h = omega (arith, t.eight, t.within, ap length t.left, length-drop (8 * n) s)
 
-    pub taken_bad : (j : Judged) → j ≡ judge (take (8 * n + 8 - 8 * n) (drop (8 * n) s)) → is_good j ≡ false → good_run judge whole s ≡ n
-    taken_bad j e b =
-        let r = run_stop (whole - n) (drop (8 * n) s) (ap is_good (sym (block_is j e)) ∙ b) in
-        omega (arith, t.run)
-
-    pub taken_all : whole ≤ n → good_run judge whole s ≡ n
+    pub taken_all : length rest < size → good_run judge (length s / 8) s ≡ length s / 8
     unfolding good_run
     taken_all h =
-        let z : whole - n ≡ 0 = omega arith in
-        let r : good_run judge (whole - n) (drop (8 * n) s) ≡ 0 = ap (λ (j : ℕ). good_run judge j (drop (8 * n) s)) z in
+        let whole = all_taken h in
+        let z : length s / 8 - n ≡ 0 = omega arith in
+        let r : good_run judge (length s / 8 - n) (drop (8 * n) s) ≡ 0 = ap (λ (j : ℕ). good_run judge j (drop (8 * n) s)) z in
         omega (arith, t.run)
 
-    pub taken_more : (j : Judged) → j ≡ judge (take (8 * n + 8 - 8 * n) (drop (8 * n) s)) → is_good j ≡ true → n < whole
-        → length j.information ≡ 7 → j.corrected ≤ 1 → 7 * whole ≤ length old
-        → Taken whole s old (placed memory (7 * n) j.information) (corrected + j.corrected) (n + 1)
-    taken_more j e g h seven one room =
-        let b : j ≡ block_at s n = block_is j e in
-        let o : information_in judge n s ++ j.information ≡ information_in judge (n + 1) s =
-        ap (λ (x : Judged). information_in judge n s ++ x.information) b
-        ∙ sym (information_more n s)
-        ∙ ap (λ (k : ℕ). information_in judge k s) (sym (add-one n)) in
-        record {
-          within = omega arith;
-          run = t.run ∙ ap (λ (k : ℕ). n + k) (run_step s whole n h (ap is_good (sym b) ∙ g)) ∙ (omega arith);
-          count = ap₂ (λ (k : ℕ) (x : Judged). k + x.corrected) t.count b ∙ sym (corrected_more n s) ∙ ap (λ (k : ℕ). corrected_in judge k s) (sym (add-one n));
-          few = omega (arith, t.few);
-          long = ap length (sym o) ∙ length-append (information_in judge n s) j.information ∙ (omega (arith, seven, t.long));
-          front = placed_behind old (information_in judge n s) j.information memory (7 * n) t.front (sym t.long) (omega arith)
-              ∙ ap (λ (x : List ℕ). x ++ drop (length x) old) o;
-        }
+    -- the next codeblock, cut from the rest
+    module _ (block more : List ℕ) (e : (rest ≡ block ++ more) × (length block ≡ size)) where
+      block_is : judge block ≡ block_at s n
+      block_is = ap judge (cut_front rest block more 8 e.0 (e.1 ∙ t.eight) ∙ ap (take 8) t.left)
+
+      pub taken_bad : is_good (judge block) ≡ false → good_run judge (length s / 8) s ≡ n
+      taken_bad b =
+          let r = run_stop (length s / 8 - n) (drop (8 * n) s) (ap is_good (sym block_is) ∙ b) in
+          omega (arith, t.run)
+
+      pub there : n < length s / 8
+      there = omega (arith, ap length e.0, length-append block more, e.1, t.eight, t.within, ap length t.left, length-drop (8 * n) s)
+
+      pub taken_more : (information : List ℕ) (one size' : ℕ) → judge block ≡ good information one → length information ≡ 7 → one ≤ 1 → size' ≡ size
+          → length memory ≡ length old → 7 * (length s / 8) ≤ length old
+          → (written : List ℕ) (at k n' : ℕ) → written ≡ information → at ≡ 7 * n → k ≡ 7 → n' ≡ n + 1 → Taken s old (put_mid at k memory written) more size' (corrected + one) n'
+      taken_more information one size' g seven few z same room written at k n' w a eight next = subst (Taken s old (put_mid at k memory written) more size' (corrected + one)) (sym next) (record {
+        eight = z ∙ t.eight;
+        left = cut_back rest block more 8 e.0 (e.1 ∙ t.eight) ∙ ap (drop 8) t.left ∙ drop-drop 8 (8 * n) s ∙ ap (λ (j : ℕ). drop j s) next_eight;
+        within = omega (arith, there);
+        run = t.run ∙ ap (λ (j : ℕ). n + j) (run_step s (length s / 8) n there (ap is_good b)) ∙ (omega arith);
+        count = ap₂ (λ (j : ℕ) (x : Option Judged). j + corrected_of x) t.count (sym b) ∙ sym (corrected_more n s) ∙ ap (λ (j : ℕ). corrected_in judge j s) (sym (add-one n));
+        few = omega (arith, t.few);
+        long = ap length (sym o) ∙ length-append (information_in judge n s) information ∙ (omega (arith, seven, t.long));
+        front = placed_mid memory at k information written w (eight ∙ sym seven) (omega (arith, there))
+            ∙ placed_behind old (information_in judge n s) information memory at t.front (a ∙ sym t.long) (omega (arith, there))
+            ∙ ap (λ (x : List ℕ). x ++ drop (length x) old) o;
+      })
+        where
+          b : block_at s n ≡ good information one
+          b = sym block_is ∙ g
+
+          next_eight : 8 * n + 8 ≡ 8 * (n + 1)
+          next_eight = omega arith
+
+          o : information_in judge n s ++ information ≡ information_in judge (n + 1) s
+          o =
+              ap (λ (x : Option Judged). information_in judge n s ++ information_of x) (sym b)
+              ∙ sym (information_more n s)
+              ∙ ap (λ (j : ℕ). information_in judge j s) (sym (add-one n))
 
   -- where what is good has seven octets of information, n codeblocks of a run have seven each
-  module _ (seven : (block : List ℕ) → is_good (judge block) ≡ true → length (judge block).information ≡ 7) where
+  module _ (seven : (block : List ℕ) → is_good (judge block) ≡ true → length (information_of (judge block)) ≡ 7) where
     pub length_information_in : (m n : ℕ) (s : List ℕ) → n ≤ good_run judge m s → length (information_in judge n s) ≡ 7 * n
     unfolding information_in
     length_information_in m zero s h = refl
     length_information_in zero (suc n) s h = absurd (omega (arith, run_le 0 s))
     length_information_in (suc m) (suc n) s h =
         let f = run_first m n s h in
-        length-append (judge (take 8 s)).information (information_in judge n (drop 8 s))
+        length-append (information_of (judge (take 8 s))) (information_in judge n (drop 8 s))
         ∙ ap₂ ◌+◌ (seven (take 8 s) f.0) (length_information_in m n (drop 8 s) f.1)
         ∙ (omega (arith, mul-suc 7 n))
 
@@ -183,21 +204,11 @@ whole_room octets room h = simp (le-leb (7 * (octets / 8)) room h)
 pub whole_none : (octets room : ℕ) → room < 7 * (octets / 8) → whole_in octets room ≡ 0
 whole_none octets room h = simp (lt-leb (7 * (octets / 8)) room h)
 
--- they are there, and there is room for them
-pub whole_fits : (octets room : ℕ) → (8 * whole_in octets room ≤ octets) × (7 * whole_in octets room ≤ room)
-whole_fits octets room = go (leb (7 * (octets / 8)) room) refl
-  where
-    go : (b : Bool) → leb (7 * (octets / 8)) room ≡ b → (8 * pick b (octets / 8) 0 ≤ octets) × (7 * pick b (octets / 8) 0 ≤ room)
-    go true e = (omega arith, leb-true (7 * (octets / 8)) room e)
-    go false e = (omega arith, omega arith)
-
 -- the run of all whole codeblocks, where there is room
-pub run_whole : (judge : List ℕ → Judged) (s : List ℕ) {n room : ℕ} → n ≡ good_run judge (whole_in (length s) room) s → 7 * (length s / 8) ≤ room
+pub run_whole : (judge : List ℕ → Option Judged) (s : List ℕ) {n room : ℕ} → n ≡ good_run judge (whole_in (length s) room) s → 7 * (length s / 8) ≤ room
     → n ≡ good_run judge (length s / 8) s
 run_whole judge s {n} {room} e h = e ∙ ap (λ (k : ℕ). good_run judge k s) (whole_room (length s) room h)
 
--- the octets at the front of a memory, as the part from 0 to their count
-pub part_front : (octets behind memory : List ℕ) (k : ℕ) → memory ≡ octets ++ behind → k ≡ length octets → take (k - 0) (drop 0 memory) ≡ octets
-part_front octets behind memory k e l =
-    let z : k - 0 ≡ k = omega arith in
-    ap₂ (λ (j : ℕ) (m : List ℕ). take j m) z e ∙ take_at octets behind k (sym l)
+-- the octets at the front of a memory, as the part up to their count
+pub part_front : (octets behind memory : List ℕ) (k : ℕ) → memory ≡ octets ++ behind → k ≡ length octets → take k memory ≡ octets
+part_front octets behind memory k e l = ap (take k) e ∙ take_at octets behind k (sym l)

@@ -9,7 +9,8 @@ use lib.ListN.{length, take, drop, replicate}
 use lib.Seq.{take_all}
 use Rattle.base.specs.Choice.{pick}
 use Rattle.base.proofs.Tests.{apart}
-use Rattle.codeblock.specs.Codeblock.{good, bad, judged, is_good}
+use Rattle.std.specs.Prelude.{Option, Some, None}
+use Rattle.codeblock.specs.Codeblock.{good, bad, judged, is_good, information_of, corrected_of}
 use Rattle.codeblock.specs.declared.Judged.{Judged}
 use Rattle.codeblock.specs.declared.Mode.{Mode}
 use Rattle.codeblock.proofs.Codeblock.{of_judged, good_seven}
@@ -18,7 +19,7 @@ use Rattle.encoded_data.specs.EncodedData.{good_run, information_in, corrected_i
 -- what is not good is bad, and nothing of it is used
 bad_judged : (mode : Mode) (block : List ℕ) → is_good (judged mode block) ≡ false → judged mode block ≡ bad
 bad_judged mode block =
-    of_judged block (λ (j : Judged). is_good j ≡ false → j ≡ bad) (λ e. refl) (λ i k e g. absurd (apart (sym g))) (λ e g. absurd (apart (sym g))) mode
+    of_judged block (λ (j : Option Judged). is_good j ≡ false → j ≡ bad) (λ e. refl) (λ i k e g. absurd (apart (sym g))) (λ e g. absurd (apart (sym g))) mode
 
 module _ (mode : Mode) (block : List ℕ) (l : length block ≡ 8) {n : ℕ} (e : n ≡ good_run (judged mode) (whole_in (length block) 7) block) where
   all : take 8 block ≡ block
@@ -52,13 +53,16 @@ module _ (mode : Mode) (block : List ℕ) (l : length block ≡ 8) {n : ℕ} (e 
   single_good {corrected} {memory} z c m =
       let g : is_good (judged mode block) ≡ true = is_good_lem z in
       let one : n ≡ 1 = run_is ∙ ap (λ (b : Bool). pick b 1 0) g in
-      let i : information_in (judged mode) n block ≡ (judged mode block).information =
-      ap (λ (k : ℕ). information_in (judged mode) k block) one ∙ append-nil (judged mode (take 8 block)).information ∙ ap (λ (b : List ℕ). (judged mode b).information) all in
-      let v : memory ≡ (judged mode block).information =
+      let i : information_in (judged mode) n block ≡ information_of (judged mode block) =
+      ap (λ (k : ℕ). information_in (judged mode) k block) one ∙ append-nil (information_of (judged mode (take 8 block))) ∙ ap (λ (b : List ℕ). information_of (judged mode b)) all in
+      let v : memory ≡ information_of (judged mode block) =
       m
       ∙ ap₂ (λ (x : List ℕ) (k : ℕ). x ++ drop k (replicate 7 0)) i (ap length i ∙ good_seven mode block g)
-      ∙ append-nil (judged mode block).information in
-      let k : corrected ≡ (judged mode block).corrected =
-      c ∙ ap (λ (k : ℕ). corrected_in (judged mode) k block) one ∙ add-zero (judged mode (take 8 block)).corrected ∙ ap (λ (b : List ℕ). (judged mode b).corrected) all in
-      ap (λ (b : Bool). record { good = b; information = (judged mode block).information; corrected = (judged mode block).corrected }) g
-      ∙ ap₂ good (sym v) (sym k)
+      ∙ append-nil (information_of (judged mode block)) in
+      let k : corrected ≡ corrected_of (judged mode block) =
+      c ∙ ap (λ (k : ℕ). corrected_in (judged mode) k block) one ∙ add-zero (corrected_of (judged mode (take 8 block))) ∙ ap (λ (b : List ℕ). corrected_of (judged mode b)) all in
+      told (judged mode block) g ∙ ap₂ good (sym v) (sym k)
+    where
+      told : (j : Option Judged) → is_good j ≡ true → j ≡ good (information_of j) (corrected_of j)
+      told None e = absurd (apart e)
+      told (Some j) e = refl

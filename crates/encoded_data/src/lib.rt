@@ -5,14 +5,13 @@ pub mod block;
 mod table;
 pub mod writer;
 
-ghost use Rattle.std.specs.Prelude.{◌≡◌, ◌+◌, ◌*◌, ◌≤◌, ◌++◌, length, drop};
-ghost use Rattle.codeblock.specs.Codeblock.{flipped, judged};
-ghost use Rattle.codeblock.specs.Table.{ShareTable, BitTable};
-ghost use Rattle.memory.specs.Placed.{placed};
+ghost use Rattle.std.specs.Prelude.{◌≡◌, ◌*◌, ◌/◌, ◌≤◌, ◌++◌, length, drop};
+ghost use Rattle.codeblock.specs.Codeblock.{judged};
+ghost use Rattle.codeblock.specs.Table.{righted};
 ghost use Rattle.encoded_data.specs.EncodedData.{good_run, information_in, corrected_in, whole_in};
 
-use crate::block::{corrections, invert, wrong_bit};
-use crate::table::{BITS, BITS_LENGTH, NO_BIT, SHARES, SHARES_LENGTH};
+use crate::block::invert;
+use crate::table::Tables;
 use codeblock::{Judged, Mode};
 
 // The good codeblocks at the front of an input: how many, and how many of them were corrected.
@@ -22,107 +21,43 @@ pub struct Run {
     pub corrected: usize,
 }
 
-// Seven octets as an array, all read before any is put.
-fn seven_of(information: &[u8]) -> [u8; 7]
-    requires { length information.now ≡ 7 }
-    ensures { result ≡ information.now }
+// Puts the information of a codeblock in the place of as many octets, the wrong bit inverted where there is one. All are read before any is put, so that
+// nothing asks whether they overlap.
+fn put_information(place: &mut [u8], information: &[u8], wrong: Option<u8>)
+    requires { (length place.old ≡ 7) × (length information.now ≡ 7) }
+    ensures { place.new ≡ righted wrong information.now }
 {
-    [
-        information[0],
-        information[1],
-        information[2],
-        information[3],
-        information[4],
-        information[5],
-        information[6],
-    ]
+    let mut seven = [0; 7];
+    seven.copy_from_slice(information);
+    place.copy_from_slice(&seven);
+    if let Some(bit) = wrong {
+        invert(place, bit);
+    }
 }
 
-// Puts seven octets into memory at a place.
-fn put_seven(memory: &mut [u8], place: usize, seven: [u8; 7])
-    requires { place + 7 ≤ length memory.old }
-    ensures { memory.new ≡ placed memory.old place seven }
-{
-    memory[place] = seven[0];
-    memory[place + 1] = seven[1];
-    memory[place + 2] = seven[2];
-    memory[place + 3] = seven[3];
-    memory[place + 4] = seven[4];
-    memory[place + 5] = seven[5];
-    memory[place + 6] = seven[6];
-}
-
-// Puts the information of a codeblock into memory at a place, the wrong bit inverted.
-fn put_information(memory: &mut [u8], place: usize, information: &[u8], bit: u8)
-    requires { (length information.now ≡ 7) × (place + 7 ≤ length memory.old) }
-    ensures { memory.new ≡ placed memory.old place (flipped bit information.now) }
-{
-    put_seven(memory, place, seven_of(information));
-    let end = place + 7;
-    invert(&mut memory[place..end], bit);
-}
-
-// Takes the good ones of so many codeblocks, each judged once in the mode; their information to the front of the lent memory.
-fn take(
-    shares: &[u8; SHARES_LENGTH],
-    bits: &[u8; BITS_LENGTH],
-    input: &[u8],
-    mode: Mode,
-    whole: usize,
-    information: &mut [u8],
-) -> Run
-    requires { ShareTable shares.now × BitTable bits.now × (8 * whole ≤ length input.now) × (7 * whole ≤ length information.old) }
-    ensures run { (result.blocks ≡ good_run (judged mode) whole input.now) × (result.corrected ≡ corrected_in (judged mode) result.blocks input.now) }
-    ensures memory { information.new ≡ information_in (judged mode) result.blocks input.now ++ drop (length (information_in (judged mode) result.blocks input.now)) information.old }
-{
-    let mut corrected: usize = 0;
-    let mut n: usize = 0;
-    while n < whole {
-        let at = 8 * n;
-        let end = at + 8;
-        let bit = wrong_bit(shares, bits, &input[at..end], mode);
-        if bit == NO_BIT {
-            return Run {
-                blocks: n,
-                corrected: corrected,
+impl Tables<'_> {
+    // Takes the good codeblocks at the front of the input, each judged once in the mode; their information to the front of the lent memory.
+    fn take(self, input: &[u8], mode: Mode, information: &mut [u8]) -> Run
+        requires { 7 * (length input.now / 8) ≤ length information.old }
+        ensures run { (result.blocks ≡ good_run (judged mode) (length input.now / 8) input.now) × (result.corrected ≡ corrected_in (judged mode) result.blocks input.now) }
+        ensures memory { information.new ≡ information_in (judged mode) result.blocks input.now ++ drop (length (information_in (judged mode) result.blocks input.now)) information.old }
+    {
+        let mut corrected = 0;
+        for (n, block) in input.chunks_exact(8).enumerate() {
+            let Some(wrong) = self.wrong_bit(block, mode) else {
+                return Run {
+                    blocks: n,
+                    corrected,
+                };
             };
+            put_information(&mut information[7 * n..7 * n + 7], &block[..7], wrong);
+            corrected += usize::from(wrong.is_some());
         }
-        let seven = at + 7;
-        put_information(information, 7 * n, &input[at..seven], bit);
-        corrected += corrections(bit) as usize;
-        n += 1;
+        Run {
+            blocks: input.len() / 8,
+            corrected,
+        }
     }
-    Run {
-        blocks: n,
-        corrected: corrected,
-    }
-}
-
-// How many codeblocks are whole in so many octets; none where a room is too short for the information of all.
-fn whole_in(octets: usize, room: usize) -> usize
-    ensures { result ≡ whole_in octets room }
-{
-    let whole = octets / 8;
-    if room < 7 * whole {
-        return 0;
-    }
-    whole
-}
-
-// Takes the good ones of the whole codeblocks of the input, by the tables.
-fn take_whole(
-    shares: &[u8; SHARES_LENGTH],
-    bits: &[u8; BITS_LENGTH],
-    input: &[u8],
-    mode: Mode,
-    information: &mut [u8],
-) -> Run
-    requires { ShareTable shares.now × BitTable bits.now }
-    ensures run { (result.blocks ≡ good_run (judged mode) (whole_in (length input.now) (length information.old)) input.now) × (result.corrected ≡ corrected_in (judged mode) result.blocks input.now) }
-    ensures memory { information.new ≡ information_in (judged mode) result.blocks input.now ++ drop (length (information_in (judged mode) result.blocks input.now)) information.old }
-{
-    let whole = whole_in(input.len(), information.len());
-    take(shares, bits, input, mode, whole, information)
 }
 
 // Takes the good codeblocks at the front of the input, judged in the mode; their information to the front of the lent memory. Takes none where the memory
@@ -131,31 +66,28 @@ pub fn take_good(input: &[u8], mode: Mode, information: &mut [u8]) -> Run
     ensures run { (result.blocks ≡ good_run (judged mode) (whole_in (length input.now) (length information.old)) input.now) × (result.corrected ≡ corrected_in (judged mode) result.blocks input.now) }
     ensures memory { information.new ≡ information_in (judged mode) result.blocks input.now ++ drop (length (information_in (judged mode) result.blocks input.now)) information.old }
 {
-    take_whole(&SHARES, &BITS, input, mode, information)
+    if information.len() < input.len() / 8 * 7 {
+        return Run {
+            blocks: 0,
+            corrected: 0,
+        };
+    }
+    Tables::new().take(input, mode, information)
 }
 
-// The judgement of a codeblock that is bad: nothing of it is used.
-const BAD: Judged = Judged {
-    good: false,
-    information: [0; 7],
-    corrected: 0,
-};
-
-// Judges octets as a codeblock, of which there are eight, in the mode.
-pub fn judge(block: &[u8], mode: Mode) -> Judged
+// Judges octets as a codeblock, of which there are eight, in the mode: None where they are bad.
+pub fn judge(block: &[u8], mode: Mode) -> Option<Judged>
     ensures { result ≡ judged mode block.now }
 {
     if block.len() != 8 {
-        return BAD;
+        return None;
     }
-    let mut information = [0u8; 7];
-    let run = take_good(block, mode, &mut information);
-    if run.blocks == 0 {
-        return BAD;
-    }
-    Judged {
-        good: true,
-        information: information,
-        corrected: run.corrected as u8,
+    let mut information = [0; 7];
+    match take_good(block, mode, &mut information) {
+        Run { blocks: 0, .. } => None,
+        Run { corrected, .. } => Some(Judged {
+            information,
+            corrected: corrected as u8,
+        }),
     }
 }

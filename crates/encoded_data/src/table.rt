@@ -1,4 +1,23 @@
 // Document 02, order 13: codeblocks by table.
+ghost use Rattle.codeblock.specs.Table.{ShareTable, BitTable};
+
+// The tables, lent, so that they are not made anew for each codeblock. That their entries keep the rules is proved where the value is made.
+#[derive(Clone, Copy)]
+pub(crate) struct Tables<'a> {
+    pub(crate) shares: &'a [u8; SHARES_LENGTH],
+    pub(crate) bits: &'a [u8; BITS_LENGTH],
+    ghost share_table: { ShareTable shares.now },
+    ghost bit_table: { BitTable bits.now },
+}
+
+impl Tables<'_> {
+    pub(crate) fn new() -> Tables<'static> {
+        Tables {
+            shares: &SHARES,
+            bits: &BITS,
+        }
+    }
+}
 
 // Two tables of 256 entries, one behind the other. Entry i of table n is the share of octet i with n octets behind it in the error control octet.
 pub const SHARES: [u8; SHARES_LENGTH] = [
@@ -39,11 +58,8 @@ pub const SHARES: [u8; SHARES_LENGTH] = [
 
 pub const SHARES_LENGTH: usize = 2 * 256;
 
-// No one bit of the first 63 gives the syndrome.
+// The entry where no one bit of the first 63 gives the syndrome.
 pub const NO_BIT: u8 = 64;
-
-// No bit is wrong. (The bit of this number is the filler bit, which is never corrected.)
-pub const NONE_WRONG: u8 = 63;
 
 // Which bit of a codeblock gives each syndrome where it alone is wrong, by the seven parity bits of the syndrome.
 pub const BITS_LENGTH: usize = 128;

@@ -15,7 +15,7 @@ use Rattle.cltu.proofs.RoundTrip.{round_trip}
 use Rattle.frame.specs.Frame.{bypass_of, control_of, number_of, data_of, frame_of}
 use Rattle.frame.specs.Answers.{reading_of, part_of}
 use Rattle.frame.specs.declared.Kind.{Kind}
-use Rattle.frame.specs.declared.FrameReading.TheVariants.{Frame}
+use Rattle.std.specs.Prelude.{Ok}
 use Rattle.frame.proofs.Back.{Legal, frame_back, data_back}
 use Rattle.frame.proofs.Lengths.{length_frame}
 
@@ -26,7 +26,7 @@ pub record Through (mode : Mode) (before behind : List ℕ) (spacecraft channel 
   pub place : ℕ
   pub read : reading mode (before ++ (cltu_of (frame_of spacecraft channel kind unit) ++ behind)) room ≡ done octets (record { place = place; corrected = 0 })
   pub fields : reading_of octets spacecraft channel
-      ≡ Frame (record { kind = kind; spacecraft = spacecraft; channel = channel; total = length (data_of kind unit) + 7; field = length (data_of kind unit) })
+      ≡ Ok (record { kind = kind; spacecraft = spacecraft; channel = channel; total = length (data_of kind unit) + 7; field = length (data_of kind unit) })
   pub data_part_lem : part_of octets spacecraft channel ≡ data_of kind unit
 
 module _ (mode : Mode) (before behind : List ℕ) (spacecraft channel : ℕ) (kind : Kind) (unit : List ℕ) (room : ℕ) (hs : spacecraft ≤ largest_spacecraft) (hc : channel ≤ largest_channel) (legal : Legal kind unit) where

@@ -1,6 +1,6 @@
 -- Table 7-9, the FARM-1 state table, row by row: for each event and state the actions, in the standard's words, and the next state.
 -- The table knows no count of buffers: whether one is free is told to the choice of the event (specs/Window).
-use Rattle.std.specs.Prelude.{ℕ, ◌+◌, ◌%◌, Bool, true, false, List, [], ◌∷◌}
+use Rattle.std.specs.Prelude.{ℕ, ◌+◌, ◌%◌, Bool, true, false, List, [], ◌∷◌, Option, None, Some}
 use Rattle.base.specs.Choice.{pick}
 use Rattle.base.specs.Modulo.{advanced}
 use Rattle.farm.specs.declared.State.{State}
@@ -9,7 +9,7 @@ use Rattle.farm.specs.declared.Event.{Event}
 use Rattle.farm.specs.declared.Event.TheVariants.{E1, E2, E3, E4, E5, E6, E7, E8, E9, E10, E11}
 use Rattle.farm.specs.declared.Variables.{Variables}
 use Rattle.farm.specs.declared.AcceptedUnit.{AcceptedUnit}
-use Rattle.farm.specs.declared.AcceptedUnit.TheVariants.{None, AdUnit, BdUnit}
+use Rattle.farm.specs.declared.AcceptedUnit.TheVariants.{Ad, Bd}
 
 -- the events by their numbers
 abbrev pub event_number : Event → ℕ
@@ -165,13 +165,13 @@ unfoldable pub accepts : Event → State → Bool
 accepts e s = any_accept (table e s).actions
 
 -- the unit that an event accepts: a type-D frame's, by its type (AD in E1 to E5, BD in E6), where the cell says Accept
-abbrev pub unit_of : Event → State → AcceptedUnit
-unit_of E1 s = pick (accepts E1 s) AdUnit None
-unit_of E2 s = pick (accepts E2 s) AdUnit None
-unit_of E3 s = pick (accepts E3 s) AdUnit None
-unit_of E4 s = pick (accepts E4 s) AdUnit None
-unit_of E5 s = pick (accepts E5 s) AdUnit None
-unit_of E6 s = pick (accepts E6 s) BdUnit None
+abbrev pub unit_of : Event → State → Option AcceptedUnit
+unit_of E1 s = pick (accepts E1 s) (Some Ad) None
+unit_of E2 s = pick (accepts E2 s) (Some Ad) None
+unit_of E3 s = pick (accepts E3 s) (Some Ad) None
+unit_of E4 s = pick (accepts E4 s) (Some Ad) None
+unit_of E5 s = pick (accepts E5 s) (Some Ad) None
+unit_of E6 s = pick (accepts E6 s) (Some Bd) None
 unit_of E7 s = None
 unit_of E8 s = None
 unit_of E9 s = None

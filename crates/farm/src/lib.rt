@@ -4,16 +4,16 @@
 ghost use Rattle.std.specs.Prelude.{◌≡◌};
 ghost use Rattle.farm.specs.Table.{event_number};
 
-#[derive(Clone, Copy)]
+#[derive(Clone, Copy, Debug, PartialEq, Eq)]
 pub enum State {
-    Open,
+    Open = 1,
     Wait,
     Lockout,
 }
 
-#[derive(Clone, Copy)]
+#[derive(Clone, Copy, Debug, PartialEq, Eq)]
 pub enum Event {
-    E1,
+    E1 = 1,
     E2,
     E3,
     E4,
@@ -27,7 +27,7 @@ pub enum Event {
 }
 
 // The variables of clause 7.2.3 that table 7-9 changes.
-#[derive(Clone, Copy)]
+#[derive(Clone, Copy, Debug, PartialEq, Eq)]
 pub struct Variables {
     pub state: State,
     pub vr: u8,
@@ -37,29 +37,16 @@ pub struct Variables {
     pub counter: u8,
 }
 
-// The unit that an event accepts.
-#[derive(Clone, Copy)]
+// The unit that an event accepts, by the type of its frame.
+#[derive(Clone, Copy, Debug, PartialEq, Eq)]
 pub enum AcceptedUnit {
-    None,
-    AdUnit,
-    BdUnit,
+    Ad,
+    Bd,
 }
 
 // An event of table 7-9 by its number.
 pub fn event_number(event: Event) -> u8
     ensures { result ≡ event_number event }
 {
-    match event {
-        Event::E1 => 1,
-        Event::E2 => 2,
-        Event::E3 => 3,
-        Event::E4 => 4,
-        Event::E5 => 5,
-        Event::E6 => 6,
-        Event::E7 => 7,
-        Event::E8 => 8,
-        Event::E9 => 9,
-        Event::E10 => 10,
-        Event::E11 => 11,
-    }
+    event as u8
 }

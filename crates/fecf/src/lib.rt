@@ -15,7 +15,7 @@ use crate::entries::TABLE;
 fn place(register: u16, octet: u8) -> u16
     ensures { result ≡ bit_xor (register / 256) octet }
 {
-    (register / 256) ^ (octet as u16)
+    (register / 256) ^ u16::from(octet)
 }
 
 // The eight bits of an octet into the register: its lower octet moves up, and the entry is added.
@@ -23,7 +23,7 @@ fn shift_octet(table: &[u16; 256], register: u16, octet: u8) -> u16
     requires { Rule table.now }
     ensures { result ≡ shift_bits 15 generator 8 register octet }
 {
-    (register % 256 * 256) ^ table[place(register, octet) as usize]
+    (register % 256 * 256) ^ table[usize::from(place(register, octet))]
 }
 
 // The FECF of the octets before it. The table is lent, so that it is not made anew at each octet.
@@ -31,13 +31,11 @@ fn fecf_by_table(table: &[u16; 256], message: &[u8]) -> u16
     requires { Rule table.now }
     ensures { result ≡ fecf_of message.now }
 {
-    let mut r: u16 = 0xFFFF;
-    let mut i = 0;
-    while i < message.len() {
-        r = shift_octet(table, r, message[i]);
-        i += 1;
+    let mut register: u16 = 0xFFFF;
+    for octet in message {
+        register = shift_octet(table, register, *octet);
     }
-    r
+    register
 }
 
 // The FECF of the octets before it.

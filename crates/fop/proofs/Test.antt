@@ -9,7 +9,10 @@ use Prim.Native.Nat.{◌-◌}
 use lib.Dec.{T, ltb, eqb}
 use Rattle.fop.specs.declared.State.{State}
 use Rattle.fop.specs.declared.State.TheVariants.{S1, S2, S3, S4, S5, S6}
-use Rattle.fop.specs.Table.{Action, Cell, Row, row, cell78, FopEvent, E16, E17, E18, E104, E41, E42, E43, E44, E45, E46}
+use Rattle.fop.specs.declared.Action.{Action}
+use Rattle.fop.specs.declared.Event.{Event as FopEvent}
+use Rattle.fop.specs.declared.Event.TheVariants.{E16, E17, E18, E104, E41, E42, E43, E44, E45, E46}
+use Rattle.fop.specs.Table.{Cell, Row, row, cell78}
 use Rattle.fop.specs.Variables.{Fop, Work, begin, set_clock}
 use Rattle.fop.specs.Machine.{perform, perform_all, fop_do}
 use Rattle.fop.specs.declared.Lower.{Lower}

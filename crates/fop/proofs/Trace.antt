@@ -4,6 +4,8 @@ use mathlib.Core.Bool.{Bool, true, false}
 use mathlib.Core.List.{List, []}
 use mathlib.Core.Option.{Option, none, some}
 use Prim.Native.Nat.{ℕ}
+use Rattle.std.specs.Prelude as code
+use Rattle.std.specs.Prelude.{None, Some}
 use Rattle.base.specs.Octets as octets
 use Rattle.base.specs.Fields as fields
 use Rattle.base.specs.Register as register
@@ -19,11 +21,10 @@ use Rattle.fop.specs.Events as events
 use Rattle.fop.specs.Answers as answers
 use Rattle.fop.specs.Store as store
 use Rattle.fop.specs.declared.Alert.{Alert}
-use Rattle.fop.specs.declared.Alert.TheVariants.{None}
 use Rattle.fop.specs.declared.State.{State}
 use Rattle.fop.specs.declared.Response.{Response}
 use Rattle.fop.specs.declared.Run.{Run}
-use Rattle.fop.specs.Table.{FopEvent}
+use Rattle.fop.specs.declared.Event.{Event as FopEvent}
 use Rattle.fop.specs.Answers.{Answer}
 
 -- to unfold this is to unfold every definition that the sender's table machine computes with
@@ -63,7 +64,7 @@ abbrev pub no_event : State → Answer
 no_event s = answering none s
 
 -- the same answer but for the frame, the abort, the responses, the alert, the Suspend notification and the runs
-abbrev telling : Option (List ℕ) → Bool → List Response → Alert → Bool → Run → Run → Answer → Answer
+abbrev telling : Option (List ℕ) → Bool → List Response → code.Option Alert → Bool → Run → Run → Answer → Answer
 telling d b r l s c n a = record {
   refusal = a.refusal;
   event = a.event;
@@ -100,7 +101,7 @@ abbrev pub responding : List Response → Answer → Answer
 responding r a = telling a.down a.abort r a.alert a.suspended a.confirmed a.denied a
 
 abbrev pub alerting : Alert → Answer → Answer
-alerting r a = telling a.down a.abort a.responses r a.suspended a.confirmed a.denied a
+alerting r a = telling a.down a.abort a.responses (Some r) a.suspended a.confirmed a.denied a
 
 abbrev pub suspending : Bool → Answer → Answer
 suspending s a = telling a.down a.abort a.responses a.alert s a.confirmed a.denied a

@@ -1,15 +1,16 @@
 -- What the sender answers, and when it refuses: "Sender events are judged 10, 12, 7, 11, then by the table."
-use Rattle.std.specs.Prelude.{Bool, false, List, [], ◌∷◌, ℕ, leb, eqb, length}
+use Rattle.std.specs.Prelude.{Bool, false, List, [], ◌∷◌, ℕ, leb, eqb, length, None}
+use Rattle.std.specs.Prelude as code
 use Rattle.std.proofs.Math.Option.{Option, none, some}
 use Rattle.base.specs.Choice.{pick}
 use Rattle.fop.specs.Units.{Fdu, Frame, Own, WordReceived, valid, invalid, other, legal, written, read_word}
 use Rattle.fop.specs.declared.Alert.{Alert}
-use Rattle.fop.specs.declared.Alert.TheVariants.{None}
 use Rattle.fop.specs.declared.Response.{Response}
 use Rattle.fop.specs.declared.Response.TheVariants.{RejectDirective}
 use Rattle.fop.specs.declared.Run.{Run}
 use Rattle.fop.specs.declared.State.{State}
-use Rattle.fop.specs.Table.{FopEvent, E40}
+use Rattle.fop.specs.declared.Event.{Event as FopEvent}
+use Rattle.fop.specs.declared.Event.TheVariants.{E40}
 use Rattle.fop.specs.Variables.{Fop, Work}
 use Rattle.fop.specs.Events.{SenderEvent, request_ad, request_bd, tick, lower, directive, word_arrives, valid_directive, work}
 
@@ -28,7 +29,7 @@ pub record Answer : Type 0 where
   pub down : Option (List ℕ)
   pub abort : Bool
   pub responses : List Response
-  pub alert : Alert
+  pub alert : code.Option Alert
   pub suspended : Bool
   pub confirmed : Run
   pub denied : Run

@@ -1,13 +1,15 @@
 -- FOP-1: what each action of table 7-8 does (clause 7.9.2).
-use Rattle.std.specs.Prelude.{Bool, true, false, ◌&&◌, List, [], ◌∷◌, ◌++◌, ℕ, ◌+◌, ltb, eqb}
+use Rattle.std.specs.Prelude.{Bool, true, false, ◌&&◌, List, [], ◌∷◌, ◌++◌, ℕ, ◌+◌, ltb, eqb, Some}
 use Rattle.std.proofs.Math.Option.{Option, none, some}
 use Rattle.base.specs.Choice.{pick}
 use Rattle.base.specs.Modulo.{advanced, offset}
 use Rattle.fop.specs.Units.{Fdu, Frame, AD, BD, Unlock, SetVR}
-use Rattle.fop.specs.Table.{Action, Cell, cell, if_not_suspended, NotApplicable, table78, cell78, FopEvent}
-use Rattle.fop.specs.Table.{Ignore, Accept, Reject, Confirm, RejectAd, AcceptBd, RejectBd, AddToWaitQueue, LookForFdu, LookForDirective, RemoveAcknowledgedFrames}
-use Rattle.fop.specs.Table.{InitiateAdRetransmission, InitiateBcRetransmission, ReleaseBcFrame, CancelTimer, StartTimer, Alert, Initialise, TransmitUnlock, TransmitSetVr, TransmitBd}
-use Rattle.fop.specs.Table.{SetSuspendState, Suspend, Resume, SetVs, SetNnr, SetK, SetT1Initial, SetTransmissionLimit, SetTimeoutType, AdOutReady, BcOutReady, BdOutReady}
+use Rattle.fop.specs.declared.Action.{Action}
+use Rattle.fop.specs.declared.Event.{Event as FopEvent}
+use Rattle.fop.specs.Table.{Cell, cell, if_not_suspended, NotApplicable, table78, cell78}
+use Rattle.fop.specs.declared.Action.TheVariants.{Ignore, Accept, Reject, Confirm, RejectAd, AcceptBd, RejectBd, AddToWaitQueue, LookForFdu, LookForDirective, RemoveAcknowledgedFrames}
+use Rattle.fop.specs.declared.Action.TheVariants.{InitiateAdRetransmission, InitiateBcRetransmission, ReleaseBcFrame, CancelTimer, StartTimer, Alert, Initialise, TransmitUnlock, TransmitSetVr, TransmitBd}
+use Rattle.fop.specs.declared.Action.TheVariants.{SetSuspendState, Suspend, Resume, SetVs, SetNnr, SetK, SetT1Initial, SetTransmissionLimit, SetTimeoutType, AdOutReady, BcOutReady, BdOutReady}
 use Rattle.fop.specs.Variables.{Entry, BcEntry, Fop, set_state, set_sequence, set_suspend, set_preset, set_clock, set_out, set_wait, set_bc, with_k, with_limit, with_t1, with_timeout_type}
 use Rattle.fop.specs.declared.Response.TheVariants.{AcceptAdUnit, RejectAdUnit, AcceptBdUnit, RejectBdUnit, AcceptDirective, RejectDirective, ConfirmDirective, DenyDirective}
 use Rattle.fop.specs.Variables.{Work, on_fop, hand_down, runs, respond, tell, begin}
@@ -152,7 +154,7 @@ perform CancelTimer w = on_fop (set_clock 0 w.fop.clock.transmission_count w.fop
 perform StartTimer w = on_fop (set_clock w.fop.preset.t1_initial w.fop.clock.transmission_count w.fop) w
 perform (Alert r) w =
     let v : Work = purge w in
-    tell v.notices.abort r v.notices.suspended (on_fop (set_clock 0 v.fop.clock.transmission_count v.fop) v)
+    tell v.notices.abort (Some r) v.notices.suspended (on_fop (set_clock 0 v.fop.clock.transmission_count v.fop) v)
 perform Initialise w = let v : Work = purge w in on_fop (set_suspend 0 (set_clock v.fop.clock.timer 1 v.fop)) v
 perform TransmitUnlock w = transmit_bc Unlock w
 perform TransmitSetVr w = transmit_bc (SetVR w.asked.value) w

@@ -1,36 +1,89 @@
 -- Table 7-8, the FOP-1 state table, row by row: for each event and state the actions, in the standard's words, and the next state.
 -- E18, E31 to E34 and E104 are suspension's rows (document 02, order 9): with Timeout_Type and Suspend_State 0 no event meets them (specs/Events).
-use Rattle.std.specs.Prelude.{List, [], ◌∷◌, ℕ}
+use Rattle.std.specs.Prelude.{ℕ, ◌-◌, List, [], ◌∷◌, ltb, map, get_or}
+use Rattle.std.proofs.Math.Option.{Option, none, some}
+use Rattle.base.specs.Choice.{pick}
 use Rattle.fop.specs.declared.Alert.{Alert as Reason}
 use Rattle.fop.specs.declared.Alert.TheVariants.{Synch, Clcw, Limit, Nnr, Lockout, T1, Term, Llif}
+use Rattle.fop.specs.declared.Action.{Action}
+use Rattle.fop.specs.declared.Action.TheVariants.{Ignore, Accept, Reject, Confirm, RejectAd, AcceptBd, RejectBd, AddToWaitQueue, LookForFdu, LookForDirective, RemoveAcknowledgedFrames}
+use Rattle.fop.specs.declared.Action.TheVariants.{InitiateAdRetransmission, InitiateBcRetransmission, ReleaseBcFrame, CancelTimer, StartTimer, Alert, Initialise, TransmitUnlock, TransmitSetVr, TransmitBd}
+use Rattle.fop.specs.declared.Action.TheVariants.{SetSuspendState, Suspend, Resume, SetVs, SetNnr, SetK, SetT1Initial, SetTransmissionLimit, SetTimeoutType, AdOutReady, BcOutReady, BdOutReady}
+use Rattle.fop.specs.declared.Event.{Event as FopEvent}
+use Rattle.fop.specs.declared.Event.TheVariants.{E1, E2, E3, E4, E5, E6, E7, E8, E9, E10, E11, E12, E13, E14, E15, E16, E17, E18, E19, E20, E21, E22, E23, E24, E25, E26, E27, E28, E29, E30, E31, E32, E33, E34}
+use Rattle.fop.specs.declared.Event.TheVariants.{E35, E36, E37, E38, E39, E40, E41, E42, E43, E44, E45, E46, E101, E102, E103, E104}
 use Rattle.fop.specs.declared.State.{State}
 use Rattle.fop.specs.declared.State.TheVariants.{S1, S2, S3, S4, S5, S6}
 
--- the event numbers, in the table's order
-pub data FopEvent : Type 0 where
-  E1 E2 E3 E4 E5 E6 E7 E101 E102 E8 E9 E10 E11 E12 E103 E13 E14 E15 : FopEvent
-  E16 E104 E17 E18 : FopEvent
-  E19 E20 E21 E22 : FopEvent
-  E23 E24 E25 E26 E27 E28 E29 E30 E31 E32 E33 E34 E35 E36 E37 E38 E39 E40 : FopEvent
-  E41 E42 E43 E44 E45 E46 : FopEvent
+-- the events by their numbers
+abbrev pub event_number : FopEvent → ℕ
+event_number E1 = 1
+event_number E2 = 2
+event_number E3 = 3
+event_number E4 = 4
+event_number E5 = 5
+event_number E6 = 6
+event_number E7 = 7
+event_number E8 = 8
+event_number E9 = 9
+event_number E10 = 10
+event_number E11 = 11
+event_number E12 = 12
+event_number E13 = 13
+event_number E14 = 14
+event_number E15 = 15
+event_number E16 = 16
+event_number E17 = 17
+event_number E18 = 18
+event_number E19 = 19
+event_number E20 = 20
+event_number E21 = 21
+event_number E22 = 22
+event_number E23 = 23
+event_number E24 = 24
+event_number E25 = 25
+event_number E26 = 26
+event_number E27 = 27
+event_number E28 = 28
+event_number E29 = 29
+event_number E30 = 30
+event_number E31 = 31
+event_number E32 = 32
+event_number E33 = 33
+event_number E34 = 34
+event_number E35 = 35
+event_number E36 = 36
+event_number E37 = 37
+event_number E38 = 38
+event_number E39 = 39
+event_number E40 = 40
+event_number E41 = 41
+event_number E42 = 42
+event_number E43 = 43
+event_number E44 = 44
+event_number E45 = 45
+event_number E46 = 46
+event_number E101 = 101
+event_number E102 = 102
+event_number E103 = 103
+event_number E104 = 104
 
--- what a cell asks. The table's Accept, Reject and Confirm answer whatever the event brought: a directive (Accept, Reject, Confirm), an AD
--- unit (RejectAd) or a BD unit (AcceptBd, RejectBd).
-pub data Action : Type 0 where
-  Ignore : Action
-  Accept Reject Confirm RejectAd AcceptBd RejectBd : Action
-  AddToWaitQueue LookForFdu LookForDirective RemoveAcknowledgedFrames InitiateAdRetransmission InitiateBcRetransmission ReleaseBcFrame : Action
-  CancelTimer StartTimer : Action
-  -- with its reason; None is no reason, and no cell has it
-  Alert : Reason → Action
-  Initialise TransmitUnlock TransmitSetVr TransmitBd : Action
-  -- SS := n
-  SetSuspendState : ℕ → Action
-  Suspend Resume : Action
-  -- V(S) := V*, NN(R) := V*, and the directives' settings
-  SetVs SetNnr SetK SetT1Initial SetTransmissionLimit SetTimeoutType : Action
-  -- AD_Out_Flag = Ready and so on
-  AdOutReady BcOutReady BdOutReady : Action
+-- Back: E1 to E46 are 1 to 46, E101 to E104 are 101 to 104. Any other number is no event.
+abbrev pub place_numbered : ℕ → ℕ
+place_numbered k = pick (ltb k 47) k (pick (ltb k 101) 0 (pick (ltb k 105) (k - 54) 0))
+
+-- the events by their places
+abbrev pub events : List FopEvent
+events =
+    E1 ∷ E2 ∷ E3 ∷ E4 ∷ E5 ∷ E6 ∷ E7 ∷ E8 ∷ E9 ∷ E10
+    ∷ E11 ∷ E12 ∷ E13 ∷ E14 ∷ E15 ∷ E16 ∷ E17 ∷ E18 ∷ E19 ∷ E20
+    ∷ E21 ∷ E22 ∷ E23 ∷ E24 ∷ E25 ∷ E26 ∷ E27 ∷ E28 ∷ E29 ∷ E30
+    ∷ E31 ∷ E32 ∷ E33 ∷ E34 ∷ E35 ∷ E36 ∷ E37 ∷ E38 ∷ E39 ∷ E40
+    ∷ E41 ∷ E42 ∷ E43 ∷ E44 ∷ E45 ∷ E46 ∷ E101 ∷ E102 ∷ E103 ∷ E104 ∷ []
+
+-- the event with a number, if there is one
+unfoldable pub event_of : ℕ → Option FopEvent
+event_of k = get_or (none ∷ map some events) (place_numbered k) none
 
 -- the actions and the next state; "IF SS = 0 .. ELSE .." (E35); "Not Applicable", which has no next state
 pub data Cell : Type 0 where

@@ -1,13 +1,13 @@
 -- What FOP-1 hands down and receives: units, frames with their octets, control words.
-use Rattle.std.specs.Prelude.{Bool, true, ◌&&◌, List, [], ◌∷◌, ℕ, leb, ltb, length}
+use Rattle.std.specs.Prelude.{Bool, true, ◌&&◌, List, [], ◌∷◌, ℕ, leb, ltb, length, Some, None, Ok, Err}
 use Rattle.base.specs.Choice.{pick}
 use Rattle.base.specs.Limits.{largest_unit}
 use Rattle.frame.specs.Frame.{frame_of}
 use Rattle.frame.specs.declared.Kind.TheVariants as kind
 use Rattle.clcw.specs.Clcw.{clcw_of}
-use Rattle.clcw.specs.Answers.{reading_of}
-use Rattle.clcw.specs.declared.WordReading.{WordReading}
-use Rattle.clcw.specs.declared.WordReading.TheVariants as reading
+use Rattle.clcw.specs.Answers.{WordReading, reading_of}
+use Rattle.base.specs.Refusals.{refusal_number}
+use Rattle.base.specs.declared.Refusal.TheVariants.{Length}
 
 -- a unit (FDU): "A unit is its N(S) and octets" (document 01, "The session")
 pub record Fdu : Type 0 where
@@ -66,7 +66,7 @@ word_octets own w =
 
 -- a reading of crate clcw; status, no RF and no bit lock are "read and not judged"
 abbrev pub word_received : WordReading → WordReceived
-word_received (reading.Word r) =
+word_received (Ok (Some r)) =
     valid (record {
       lockout = r.word.lockout;
       wait = r.word.wait;
@@ -74,10 +74,9 @@ word_received (reading.Word r) =
       counter = r.word.counter;
       nr = r.word.report;
     })
-word_received reading.Invalid = invalid
-word_received reading.Address = other 7
-word_received reading.Length = other 10
+word_received (Ok None) = invalid
+word_received (Err refusal) = other (refusal_number refusal)
 
 -- any octets, read at our channel; a list with a number above 255 is no octets, and so "a CLCW not of four octets"
 unfoldable pub read_word : Own → List ℕ → WordReceived
-read_word own s = word_received (pick (are_octets s) (reading_of s own.channel) reading.Length)
+read_word own s = word_received (pick (are_octets s) (reading_of s own.channel) (Err Length))

@@ -1,13 +1,13 @@
 -- FOP-1's variables (clause 7.2.2), and what the work on an event has come to.
-use Rattle.std.specs.Prelude.{Bool, true, false, List, [], ◌∷◌, ◌++◌, ℕ}
+use Rattle.std.specs.Prelude.{Bool, true, false, List, [], ◌∷◌, ◌++◌, ℕ, None}
+use Rattle.std.specs.Prelude as code
 use Rattle.std.proofs.Math.Option.{Option, none}
 use Rattle.fop.specs.declared.Alert.{Alert}
-use Rattle.fop.specs.declared.Alert.TheVariants.{None}
 use Rattle.fop.specs.declared.Response.{Response}
 use Rattle.fop.specs.declared.State.{State}
 use Rattle.fop.specs.declared.State.TheVariants.{S6}
 use Rattle.fop.specs.Units.{Fdu, Frame}
-use Rattle.fop.specs.Table.{FopEvent}
+use Rattle.fop.specs.declared.Event.{Event as FopEvent}
 
 -- a type-AD frame on the Sent_Queue; marked is its To_Be_Retransmitted_Flag
 pub record Entry : Type 0 where
@@ -138,7 +138,7 @@ pub record Asked : Type 0 where
 -- an Abort request to the lower procedures, an Alert notification with its reason, a Suspend notification
 pub record Notices : Type 0 where
   pub abort : Bool
-  pub alert : Alert
+  pub alert : code.Option Alert
   pub suspended : Bool
 
 -- the work on an event: the variables, what is asked, and what is answered so far: the frames handed down (session, proofs/Few: at most one), the
@@ -177,7 +177,7 @@ abbrev pub respond : Response → Work → Work
 respond r w = says (w.responses ++ (r ∷ [])) w.notices w
 
 -- an Abort request, an Alert notification, a Suspend notification
-abbrev pub tell : Bool → Alert → Bool → Work → Work
+abbrev pub tell : Bool → code.Option Alert → Bool → Work → Work
 tell a r s w = says w.responses (record { abort = a; alert = r; suspended = s }) w
 
 -- the work at its start

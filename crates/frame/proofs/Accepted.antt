@@ -19,7 +19,8 @@ use Rattle.frame_header.proofs.Octets.{o, bypass_is, control_is, number_is}
 use Rattle.frame_header.proofs.Laws.{Valid, valid_told}
 use Rattle.frame.specs.Frame.{unlock_command, total_of, data_field, is_command, command_held, header_refusal, content_refusal, refusal_of, kind_of}
 use Rattle.frame.specs.declared.Kind.TheVariants.{Ad, Bd, Unlock, SetVr}
-use Rattle.frame.specs.declared.FrameReading.TheVariants.{Frame, Refused}
+use Rattle.std.specs.Prelude.{Ok, Err}
+use Rattle.base.specs.Refusals.{frame_refusal}
 use Rattle.frame.specs.Answers.{fields_of, reading_of, part_of}
 use Rattle.frame.proofs.Octets.{length_data, command_one, command_other}
 
@@ -110,13 +111,13 @@ module _ (s : List ℕ) (n : ℕ) (octets : (i : ℕ) → get_or s i 0 < 256) (l
 
 -- what reading answers
 pub reading_refused : (s : List ℕ) (spacecraft channel : ℕ) → (refusal_of s spacecraft channel ≡ 0 → ⊥)
-    → reading_of s spacecraft channel ≡ Refused (refusal_of s spacecraft channel)
+    → reading_of s spacecraft channel ≡ Err (frame_refusal (refusal_of s spacecraft channel))
 unfolding reading_of
 reading_refused s spacecraft channel d = rw (ne_eqb (refusal_of s spacecraft channel) 0 d)
 
 pub reading_frame : (s : List ℕ) (spacecraft channel : ℕ) → refusal_of s spacecraft channel ≡ 0
     → reading_of s spacecraft channel
-    ≡ Frame (record { kind = kind_of s; spacecraft = spacecraft; channel = channel; total = total_of s; field = total_of s - 7 })
+    ≡ Ok (record { kind = kind_of s; spacecraft = spacecraft; channel = channel; total = total_of s; field = total_of s - 7 })
 unfolding reading_of fields_of
 reading_frame s spacecraft channel e =
     let y = accepted s spacecraft channel e in

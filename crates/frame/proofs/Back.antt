@@ -20,7 +20,7 @@ use Rattle.frame.specs.Frame.{bypass_of, control_of, number_of, unlock_command, 
 use Rattle.frame.specs.Answers.{reading_of, part_of}
 use Rattle.frame.specs.declared.Kind.{Kind}
 use Rattle.frame.specs.declared.Kind.TheVariants.{Ad, Bd, Unlock, SetVr}
-use Rattle.frame.specs.declared.FrameReading.TheVariants.{Frame}
+use Rattle.std.specs.Prelude.{Ok}
 use Rattle.frame.proofs.Accepted.{accepted, reading_frame, part_frame}
 use Rattle.frame.proofs.Written.{Fits, fitting, total_back, field_back, refusal_left, kind_left}
 
@@ -71,7 +71,7 @@ module _ (spacecraft channel : ℕ) (kind : Kind) (unit fill : List ℕ) (hs : s
   total = total_back (bypass_of kind) (control_of kind) (number_of kind) spacecraft channel (data_of kind unit) fits fill few hf
 
   pub frame_back : reading_of (frame_of spacecraft channel kind unit ++ fill) spacecraft channel
-      ≡ Frame (record { kind = kind; spacecraft = spacecraft; channel = channel; total = length (data_of kind unit) + 7; field = length (data_of kind unit) })
+      ≡ Ok (record { kind = kind; spacecraft = spacecraft; channel = channel; total = length (data_of kind unit) + 7; field = length (data_of kind unit) })
   frame_back =
       let k : kind_of (frame_of spacecraft channel kind unit ++ fill) ≡ kind =
       kind_left (bypass_of kind) (control_of kind) (number_of kind) spacecraft channel (data_of kind unit) fits fill few hf ∙ kind_same kind unit in

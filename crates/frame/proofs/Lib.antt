@@ -1,5 +1,6 @@
 pub mod Octets
 pub mod Content
+pub mod Named
 pub mod Accepted
 pub mod Lengths
 pub mod Written

@@ -20,9 +20,10 @@ use Rattle.base.proofs.Tests.{apart, both_false}
 use Rattle.fecf.specs.Fecf.{fecf_of, syndrome_of}
 use Rattle.frame_header.specs.Header.{header_length, version, bypass_flag, control_command_flag, reserved_spare, spacecraft_identifier, virtual_channel_identifier, frame_sequence_number, valid_combination, valid_number, valid_header}
 use Rattle.frame.specs.Frame.{total_of, data_field, is_command, command_held, header_refusal, content_refusal, refusal_of}
-use Rattle.frame.specs.Answers.{fields_of, reading_of, part_of}
-use Rattle.frame.specs.declared.FrameReading.{FrameReading}
-use Rattle.frame.specs.declared.FrameReading.TheVariants.{Frame, Refused}
+use Rattle.frame.specs.Answers.{FrameReading, fields_of, reading_of, part_of}
+use Rattle.std.specs.Prelude.{Err}
+use Rattle.base.specs.Refusals.{by_number}
+use Rattle.base.specs.declared.Refusal.TheVariants.{Header}
 use Rattle.frame.proofs.Examples.{checked}
 use Rattle.frame.proofs.Refuted.{numbered}
 
@@ -57,7 +58,7 @@ former_refusal octets spacecraft channel = checks_before octets (must (former_va
 -- and with it the fields, or the refusal by its number
 unfoldable pub former_reading : List ℕ → ℕ → ℕ → FrameReading
 former_reading octets spacecraft channel =
-    pick (eqb (former_refusal octets spacecraft channel) 0) (Frame (fields_of octets)) (Refused (former_refusal octets spacecraft channel))
+    by_number (former_refusal octets spacecraft channel) (fields_of octets)
 
 -- and the data field; after a refusal it is empty
 unfoldable pub former_part : List ℕ → ℕ → ℕ → List ℕ
@@ -175,7 +176,7 @@ module _ (octets : List ℕ) where
     -- so of the whole answer: fields or number, and the data part, as they were; or 6 and an empty part
     pub bounded_answer :
         ((reading_of octets spacecraft channel ≡ former_reading octets spacecraft channel) × (part_of octets spacecraft channel ≡ former_part octets spacecraft channel))
-        ⊎ ((reading_of octets spacecraft channel ≡ Refused 6) × ((part_of octets spacecraft channel ≡ []) × (Behind (former_refusal octets spacecraft channel) × NumberedTypeB octets)))
+        ⊎ ((reading_of octets spacecraft channel ≡ Err Header) × ((part_of octets spacecraft channel ≡ []) × (Behind (former_refusal octets spacecraft channel) × NumberedTypeB octets)))
     unfolding reading_of part_of former_reading former_part
     bounded_answer = ⊎_elim (λ e. inl (rw e, rw e)) (λ h. inr (rw h.0, (rw h.0, h.1))) bounded
 

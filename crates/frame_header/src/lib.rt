@@ -15,18 +15,9 @@ pub fn valid(octets: &[u8]) -> bool
     if octets.len() < HEADER_LENGTH {
         return false;
     }
-    let first = octets[0];
-    if first / 64 != 0 {
-        return false;
-    }
-    if first / 4 % 4 != 0 {
-        return false;
-    }
-    if first / 16 % 4 == 1 {
-        return false;
-    }
-    if first / 32 % 2 == 1 {
-        return octets[4] == 0;
-    }
-    true
+    let (first, number) = (octets[0], octets[4]);
+    first / 64 == 0
+        && first / 4 % 4 == 0
+        && first / 16 % 4 != 1
+        && (first / 32 % 2 == 0 || number == 0)
 }

@@ -2,9 +2,10 @@
 use mathlib.Core.Bool.{Bool, true, false}
 use mathlib.Core.List.{List, [], ◌∷◌}
 use Rattle.base.specs.Choice.{pick}
-use Rattle.fop.specs.Table.{Action, Ignore, Accept, Reject, Confirm, RejectAd, AcceptBd, RejectBd, AddToWaitQueue, LookForFdu, LookForDirective}
-use Rattle.fop.specs.Table.{RemoveAcknowledgedFrames, InitiateAdRetransmission, InitiateBcRetransmission, ReleaseBcFrame, CancelTimer, StartTimer, Alert, Initialise, TransmitUnlock}
-use Rattle.fop.specs.Table.{TransmitSetVr, TransmitBd, SetSuspendState, Suspend, Resume, SetVs, SetNnr, SetK, SetT1Initial, SetTransmissionLimit, SetTimeoutType, AdOutReady, BcOutReady, BdOutReady}
+use Rattle.fop.specs.declared.Action.{Action}
+use Rattle.fop.specs.declared.Action.TheVariants.{Ignore, Accept, Reject, Confirm, RejectAd, AcceptBd, RejectBd, AddToWaitQueue, LookForFdu, LookForDirective}
+use Rattle.fop.specs.declared.Action.TheVariants.{RemoveAcknowledgedFrames, InitiateAdRetransmission, InitiateBcRetransmission, ReleaseBcFrame, CancelTimer, StartTimer, Alert, Initialise, TransmitUnlock}
+use Rattle.fop.specs.declared.Action.TheVariants.{TransmitSetVr, TransmitBd, SetSuspendState, Suspend, Resume, SetVs, SetNnr, SetK, SetT1Initial, SetTransmissionLimit, SetTimeoutType, AdOutReady, BcOutReady, BdOutReady}
 use Rattle.fop.specs.Variables.{Fop, Work}
 use Rattle.fop.specs.Events.{SenderEvent}
 use Rattle.ledger.proofs.Modes.{Given, unit, surplus, word, number, width, nothing, Mode, offered, queued, serving, answered, bad, view, Holding}

@@ -10,7 +10,9 @@ use borrow.Author.Tests.{eqb-true}
 use Rattle.base.specs.Choice.{pick}
 use Rattle.fop.specs.declared.State.{State}
 use Rattle.fop.specs.declared.State.TheVariants.{S1, S2, S3, S4, S5, S6}
-use Rattle.fop.specs.Table.{Action, Cell, cell, if_not_suspended, NotApplicable, Row, row, FopEvent, table78, cell78}
+use Rattle.fop.specs.declared.Action.{Action}
+use Rattle.fop.specs.declared.Event.{Event as FopEvent}
+use Rattle.fop.specs.Table.{Cell, cell, if_not_suspended, NotApplicable, Row, row, table78, cell78}
 use Rattle.fop.specs.Variables.{Fop, Work, on_fop, set_state, begin}
 use Rattle.fop.specs.Effective.{suspended_in, effective_of, effective, in_service}
 use Rattle.fop.specs.Machine.{perform_all, perform_cell}

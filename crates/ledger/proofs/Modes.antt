@@ -12,7 +12,7 @@ use Rattle.fop.specs.Limits.{largest_k, largest_number}
 use Rattle.fop.specs.Units.{Fdu, Frame, legal}
 use Rattle.fop.specs.declared.State.{State}
 use Rattle.fop.specs.declared.Response.{Response}
-use Rattle.fop.specs.Table.{FopEvent}
+use Rattle.fop.specs.declared.Event.{Event as FopEvent}
 use Rattle.fop.specs.Variables.{Entry, Fop, Work, on_fop, set_state, begin}
 use Rattle.fop.specs.Effective.{effective_of, effective, in_service}
 use Rattle.fop.specs.Machine.{fdus}

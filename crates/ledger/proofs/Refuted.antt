@@ -14,8 +14,7 @@ use lib.ListN.{length}
 use Rattle.base.specs.Choice.{pick}
 use Rattle.base.specs.Modulo.{advanced}
 use Rattle.fop.specs.Limits.{largest_number}
-use Rattle.fop.specs.declared.Alert.{Alert}
-use Rattle.fop.specs.declared.Alert.TheVariants.{None, Synch, Clcw, Limit, Nnr, Lockout, T1, Term, Llif}
+use Rattle.std.specs.Prelude.{is_some}
 use Rattle.fop.specs.declared.Response.{Response}
 use Rattle.fop.specs.declared.Response.TheVariants.{AcceptAdUnit, RejectAdUnit, AcceptBdUnit, RejectBdUnit, AcceptDirective, RejectDirective, ConfirmDirective, DenyDirective}
 use Rattle.fop.specs.Variables.{Fop, set_sequence, set_wait}
@@ -95,19 +94,8 @@ mute [] = []
 mute (r ∷ rs) = pick (is_ad r) (mute rs) (r ∷ mute rs)
 
 -- At an alert the waiting unit stays on the Wait_Queue, and nothing is said of it. It holds what it says it holds; the tables do not.
-abbrev is_alert : Alert → Bool
-is_alert None = false
-is_alert Synch = true
-is_alert Clcw = true
-is_alert Limit = true
-is_alert Nnr = true
-is_alert Lockout = true
-is_alert T1 = true
-is_alert Term = true
-is_alert Llif = true
-
 abbrev keeps_waiting : Change
-keeps_waiting e f did = pick (is_alert did.0.alert) (responding (mute did.0.responses) did.0, set_wait f.queues.wait_queue did.1) did
+keeps_waiting e f did = pick (is_some did.0.alert) (responding (mute did.0.responses) did.0, set_wait f.queues.wait_queue did.1) did
 
 refuted_keeping : AllAccounted fresh (wrong keeps_waiting) → ⊥
 unfolding computing

@@ -10,7 +10,8 @@ use borrow.Author.Tests.{leb-true, ltb-false}
 use Rattle.fop.specs.Limits.{largest_k, largest_number}
 use Rattle.fop.specs.Units.{Own, Word, WordReceived, valid, invalid, other, read_word, legal}
 use Rattle.fop.specs.declared.Lower.{Lower}
-use Rattle.fop.specs.Table.{FopEvent, NotApplicable, table78, cell78}
+use Rattle.fop.specs.declared.Event.{Event as FopEvent}
+use Rattle.fop.specs.Table.{NotApplicable, table78, cell78}
 use Rattle.fop.specs.Variables.{Fop, Work, begin}
 use Rattle.fop.specs.Effective.{effective, in_service}
 use Rattle.fop.specs.Machine.{perform_cell, fop_do}

@@ -10,7 +10,7 @@ use Rattle.fop.specs.Limits.{largest_number}
 use Rattle.fop.specs.Units.{Fdu, Frame, AD, BD}
 use Rattle.fop.specs.declared.Response.{Response}
 use Rattle.fop.specs.declared.Response.TheVariants.{AcceptAdUnit}
-use Rattle.fop.specs.Table.{TransmitBd}
+use Rattle.fop.specs.declared.Action.TheVariants.{TransmitBd}
 use Rattle.fop.specs.Variables.{Fop, Work}
 use Rattle.fop.specs.Machine.{fdus, first_marked, perform, transmit_ad, send_waiting, send_next, look_for_fdu, look_for_directive, transmit_bc}
 use Rattle.fop.specs.Events.{SenderEvent, request_ad}

@@ -1,5 +1,5 @@
 -- What `placed` comes to, by whether the octets fit.
-use mathlib.Core.Path.{◌≡◌, sym, ap, ap₂, ◌∙◌}
+use mathlib.Core.Path.{◌≡◌, refl, sym, ap, ap₂, ◌∙◌}
 use mathlib.Core.List.{List, ◌++◌}
 use Prim.Native.Nat.{ℕ, ◌+◌, ◌<◌, ◌≤◌}
 use native.Mathlib.Nat.{zero-add}
@@ -7,6 +7,8 @@ use native.Mathlib.Omega.{arith}
 use borrow.Author.Tests.{le-leb, lt-leb}
 use lib.ListN.{length, take, drop, length-append, length-drop}
 use lib.Seq.{paste, take-length, take_at, drop-append-add, drop-drop}
+use borrow.Rule.Slice.PartMut.{put_mid}
+use Rattle.std.proofs.lemmas.Slice.{put_mid-paste}
 use Rattle.memory.specs.Placed.{placed}
 
 pub placed_fits : (memory : List ℕ) (place : ℕ) (octets : List ℕ) → place + length octets ≤ length memory
@@ -22,6 +24,12 @@ placed_not memory place octets h = simp (lt-leb (place + length octets) (length 
 pub pasted : (memory : List ℕ) (place : ℕ) (octets : List ℕ) → place + length octets ≤ length memory
     → paste memory place octets (length octets) ≡ placed memory place octets
 pasted memory place octets h = rw (take-length octets, placed_fits memory place octets h)
+
+-- octets written over a part of the memory, as by `copy_from_slice`
+pub placed_mid : (memory : List ℕ) (place n : ℕ) (octets written : List ℕ) → written ≡ octets → n ≡ length octets → place + length octets ≤ length memory
+    → put_mid place n memory written ≡ placed memory place octets
+placed_mid memory place n octets written e l h =
+    put_mid-paste place n memory written octets (length octets) e (sym l) refl ∙ pasted memory place octets h
 
 -- octets placed behind those that already stand at the front
 pub placed_behind : (old front octets memory : List ℕ) (place : ℕ) → memory ≡ front ++ drop (length front) old → place ≡ length front

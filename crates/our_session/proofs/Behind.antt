@@ -4,6 +4,8 @@
 -- suffices it answers, hands down and leaves in that store what it does without them, and they stay as they were (`behind_idle`). So two stores
 -- that agree in as many octets as the need give the same answer, the same next sender and the same output, and agree again (`same_front`);
 -- the octets behind the need stay (`behind_kept`); and the need of the state after an event is no more than the one judged at it (`need_falls`).
+use Rattle.std.specs.Prelude.{None, Some, Ok, Err}
+use Rattle.std.specs.Prelude as std
 use Prim.Native.Nat.{ℕ, zero, suc, ◌+◌, ◌-◌, ◌≤◌, ◌<◌}
 use mathlib.Core.Path.{◌≡◌, refl, sym, ap, ap₂, ◌∙◌}
 use mathlib.Core.Bool.{Bool, true, false}
@@ -23,12 +25,15 @@ use Rattle.store.specs.Places.{place_offset, unit_at, unit_put, without}
 use Rattle.store.proofs.Front.{unit_front, put_front, without_front}
 use Rattle.store.proofs.Need.{larger_most, larger_second}
 use Rattle.frame.specs.Frame.{overhead, raw_frame, raw_writing}
-use Rattle.clcw.specs.Answers.{reading_of}
-use Rattle.clcw.specs.declared.WordReading.{WordReading}
-use Rattle.clcw.specs.declared.WordReading.TheVariants as reading
+use Rattle.base.specs.Refusals.{refusal_number}
+use Rattle.base.proofs.Refusals.{some_number}
+use Rattle.clcw.specs.Answers.{WordReading, reading_of}
 use Rattle.fop.specs.Units.{Own, are_octets}
 use Rattle.fop.specs.Answers as table
-use Rattle.fop.specs.Events.{SenderEvent, request_ad, request_bd, tick, lower, directive, word_arrives}
+use Rattle.fop.specs.declared.Event.{Event as FopEvent}
+use Rattle.fop.specs.declared.Event.TheVariants.{E15}
+use Rattle.fop.specs.Table.{event_number}
+use Rattle.fop.specs.Events.{lower_event, SenderEvent, request_ad, request_bd, tick, lower, directive, word_arrives}
 use Rattle.fop.specs.Store.{store_need, window_at, need_at}
 use Rattle.sender_values.specs.declared.Handed.{Handed}
 use Rattle.sender_values.specs.declared.Handed.TheVariants as handed
@@ -39,13 +44,13 @@ use Rattle.sender_values.specs.Actions.{units_held}
 use Rattle.sender_values.specs.Start.{begun}
 use Rattle.sender_view.specs.View.{entries_from}
 use Rattle.sender_view.proofs.SentQueue.{held_most}
-use Rattle.sender_table.specs.Rows.{row_numbered}
+use Rattle.sender_table.specs.Rows.{row_of, row_if}
 use Rattle.sender_rows_view.specs.State.{Good}
-use Rattle.sender_events.specs.Events.{word_number, directive_number, window_of, ad_number, bd_number, lower_number}
+use Rattle.sender_events.specs.Events.{event_of_word, event_of_directive, window_of, event_of_ad, event_of_bd}
 use Rattle.sender_frames.specs.Limits.{need_of}
 use Rattle.sender_frames.specs.Frames.{handed_writing, unit_before, unit_offered, must_be_unit}
 use Rattle.sender.specs.Answers.{Step, answered, refusing, step_by, refused_step}
-use Rattle.sender.specs.Events.{added, lengths_served, lengths_offered, served_by, served, offered_by, bypassed_by, request_ad_of, request_bd_of, directive_of, ticked, tick_number, tick_of, lower_layer_of, word_by, control_word_of}
+use Rattle.sender.specs.Events.{added, lengths_served, lengths_offered, served_by, served, offered_by, bypassed_by, request_ad_of, request_bd_of, directive_of, ticked, event_of_tick, tick_of, lower_layer_of, word_by, control_word_of}
 use Rattle.our_session.specs.Ours.{Held, step_of, handed_down, answer_by, reads}
 use Rattle.our_session.specs.Does.{Well}
 use Rattle.our_session.proofs.Events.{entries_count}
@@ -126,13 +131,13 @@ sound_raw bypass control number spacecraft channel field room =
     (sound_must (leb channel largest_channel) 12 _ (λ e. omega arith)
     (sound_must (leb (length field + overhead) room) 11 _ (λ e. omega arith) (fine (raw_frame bypass control number spacecraft channel field) tt)))))
 
-sound_handed : (g : Settings) (h : Handed) (u : List ℕ) (lent : ℕ) → Sound (handed_writing g h u lent)
+sound_handed : (g : Settings) (h : std.Option Handed) (u : List ℕ) (lent : ℕ) → Sound (handed_writing g h u lent)
 unfolding handed_writing
-sound_handed g handed.None u lent = fine [] tt
-sound_handed g (handed.Ad n i) u lent = sound_raw _ _ _ _ _ _ lent
-sound_handed g handed.Bd u lent = sound_raw _ _ _ _ _ _ lent
-sound_handed g handed.Unlock u lent = sound_raw _ _ _ _ _ _ lent
-sound_handed g (handed.SetVr n) u lent = sound_raw _ _ _ _ _ _ lent
+sound_handed g None u lent = fine [] tt
+sound_handed g (Some (handed.Ad n i)) u lent = sound_raw _ _ _ _ _ _ lent
+sound_handed g (Some handed.Bd) u lent = sound_raw _ _ _ _ _ _ lent
+sound_handed g (Some handed.Unlock) u lent = sound_raw _ _ _ _ _ _ lent
+sound_handed g (Some (handed.SetVr n)) u lent = sound_raw _ _ _ _ _ _ lent
 
 -- the frame handed down tells the octets written
 abbrev told : List ℕ → Option (List ℕ)
@@ -161,7 +166,7 @@ with_behind behind step = record { answer = step.answer; store = step.store ++ b
 -- at the most in the unit that is written.
 module _ (s : SenderState) (output front behind : List ℕ) where
   record Alike (a b : Step) : Type 0 where
-    event : ℕ
+    event : std.Option FopEvent
     work : Work
     lengths : List ℕ
     wide : Outcome (Unit {0})
@@ -173,7 +178,7 @@ module _ (s : SenderState) (output front behind : List ℕ) where
     b_is : b ≡ step_by event s work lengths narrow new front output
 
   -- steps that tell the same are the same
-  by_writing : (k : ℕ) (w : Work) (ls new : List ℕ) (p q : Outcome (Unit {0})) → Sound p → Sound q
+  by_writing : (k : std.Option FopEvent) (w : Work) (ls new : List ℕ) (p q : Outcome (Unit {0})) → Sound p → Sound q
       → answer_by (step_by k s w ls p (new ++ behind) (front ++ behind) output) ≡ answer_by (step_by k s w ls q new front output)
       → step_by k s w ls p (new ++ behind) (front ++ behind) output ≡ with_behind behind (step_by k s w ls q new front output)
   unfolding answered refusing
@@ -194,7 +199,7 @@ module _ (s : SenderState) (output front behind : List ℕ) where
 
   refused_with : (n : ℕ) → (n ≡ 0 → ⊥) → Alike (refused_step n s (front ++ behind) output) (refused_step n s front output)
   refused_with n h = record {
-    event = 0;
+    event = None;
     work = begun s;
     lengths = [];
     wide = refused n 0;
@@ -215,7 +220,7 @@ module _ (s : SenderState) (output front behind : List ℕ) where
   checked false a b c d p q = p
 
   -- the frame handed down is written, with one unit or another
-  written : (k : ℕ) (w : Work) (ls u v new wider : List ℕ) → wider ≡ new ++ behind
+  written : (k : std.Option FopEvent) (w : Work) (ls u v new wider : List ℕ) → wider ≡ new ++ behind
       → Alike (step_by k s w ls (handed_writing s.settings w.told.handed u (length output)) wider (front ++ behind) output)
       (step_by k s w ls (handed_writing s.settings w.told.handed v (length output)) new front output)
   written k w ls u v new wider e = record {
@@ -256,7 +261,7 @@ module _ (s : SenderState) (output front behind : List ℕ) where
           without_front s.lengths count front behind units (suc n)
           (omega (arith, e, room, held_most s.queues.sent s.queues.waiting, larger_second window s.queues.sent))
 
-    served_by_lem : (k : ℕ) (w : Work) → Alike (served_by k s w (front ++ behind) output) (served_by k s w front output)
+    served_by_lem : (k : std.Option FopEvent) (w : Work) → Alike (served_by k s w (front ++ behind) output) (served_by k s w front output)
     unfolding served_by
     served_by_lem k w = written k w (lengths_served s w) (unit_before s w (front ++ behind)) (unit_before s w front) _ _ (removed w.told.confirmed.count)
 
@@ -265,18 +270,18 @@ module _ (s : SenderState) (output front behind : List ℕ) where
     put true o m = put_front front behind s.queues.sent o (omega (arith, m, room, larger_second window s.queues.sent))
     put false o m = refl
 
-    offered_by_lem : (k : ℕ) (w : Work) (o : List ℕ) → length o ≤ largest_unit → Alike (offered_by k s w o (front ++ behind) output) (offered_by k s w o front output)
+    offered_by_lem : (e : FopEvent) (w : Work) (o : List ℕ) → length o ≤ largest_unit → Alike (offered_by e s w o (front ++ behind) output) (offered_by e s w o front output)
     unfolding offered_by
-    offered_by_lem k w o m =
-        written k w (lengths_offered k s (length o)) (unit_offered s w o (front ++ behind)) (unit_offered s w o front) _ _ (put (added k s) o m)
+    offered_by_lem e w o m =
+        written (Some e) w (lengths_offered e s (length o)) (unit_offered s w o (front ++ behind)) (unit_offered s w o front) _ _ (put (added e s) o m)
 
-    bypassed_by_lem : (k : ℕ) (w : Work) (o : List ℕ) → Alike (bypassed_by k s w o (front ++ behind) output) (bypassed_by k s w o front output)
+    bypassed_by_lem : (e : FopEvent) (w : Work) (o : List ℕ) → Alike (bypassed_by e s w o (front ++ behind) output) (bypassed_by e s w o front output)
     unfolding bypassed_by
-    bypassed_by_lem k w o = written k w s.lengths o o front _ refl
+    bypassed_by_lem e w o = written (Some e) w s.lengths o o front _ refl
 
-    serves : (k n : ℕ) (g : SenderState) → Alike (served window k n s g (front ++ behind) output) (served window k n s g front output)
+    serves : (k : std.Option FopEvent) (n : ℕ) (g : SenderState) → Alike (served window k n s g (front ++ behind) output) (served window k n s g front output)
     unfolding served
-    serves k n g = stored _ _ (served_by_lem k (row_numbered k n (begun g)))
+    serves k n g = stored _ _ (served_by_lem k (row_if k n (begun g)))
 
   -- by the event
   module _ (units : (i : ℕ) → get_or s.lengths i 0 ≤ largest_unit) where
@@ -295,10 +300,9 @@ module _ (s : SenderState) (output front behind : List ℕ) where
         fits false e = ten
 
       words : (r : WordReading) → Alike (word_by r s (front ++ behind) output) (word_by r s front output)
-      words (reading.Word r) = serves units s.settings.k room (word_number r.word s) r.word.report s
-      words reading.Invalid = serves units s.settings.k room 15 0 s
-      words reading.Address = refused_with 7 (λ e. omega arith)
-      words reading.Length = ten
+      words (Ok (Some r)) = serves units s.settings.k room (Some (event_of_word r.word s)) r.word.report s
+      words (Ok None) = serves units s.settings.k room (Some E15) 0 s
+      words (Err refusal) = refused_with (refusal_number refusal) (some_number refusal)
 
     abbrev window_for : SenderEvent → ℕ
     window_for (request_ad o) = s.settings.k
@@ -312,13 +316,13 @@ module _ (s : SenderState) (output front behind : List ℕ) where
         → Alike (step_of e output (held s (front ++ behind))) (step_of e output (held s front))
     unfolding step_of request_ad_of request_bd_of tick_of lower_layer_of directive_of control_word_of
     alike (request_ad o) room =
-        either (are_octets o) _ _ _ _ (asks room o _ _ (λ m. offered_by_lem units s.settings.k room (ad_number s) (row_numbered (ad_number s) 0 (begun s)) o m)) ten
+        either (are_octets o) _ _ _ _ (asks room o _ _ (λ m. offered_by_lem units s.settings.k room (event_of_ad s) (row_of (event_of_ad s) 0 (begun s)) o m)) ten
     alike (request_bd o) room =
-        either (are_octets o) _ _ _ _ (asks room o _ _ (λ m. bypassed_by_lem units s.settings.k room (bd_number s) (row_numbered (bd_number s) 0 (begun s)) o)) ten
-    alike tick room = serves units s.settings.k room (tick_number s) 0 (ticked s)
-    alike (lower l) room = serves units s.settings.k room (lower_number l) 0 s
+        either (are_octets o) _ _ _ _ (asks room o _ _ (λ m. bypassed_by_lem units s.settings.k room (event_of_bd s) (row_of (event_of_bd s) 0 (begun s)) o)) ten
+    alike tick room = serves units s.settings.k room (event_of_tick s) 0 (ticked s)
+    alike (lower l) room = serves units s.settings.k room (Some (lower_event l)) 0 s
     alike (directive d v) room =
-        either (eqb (directive_number d v s) 40) _ _ _ _ (refused_with 12 (λ e. omega arith)) (serves units (window_of d v s.settings.k) room (directive_number d v s) v s)
+        either (eqb (event_number (event_of_directive d v s)) 40) _ _ _ _ (refused_with 12 (λ e. omega arith)) (serves units (window_of d v s.settings.k) room (Some (event_of_directive d v s)) v s)
     alike (word_arrives o) room = either (are_octets o) _ _ _ _ (words room (reading_of o s.settings.channel)) ten
 
     -- the need, by the table's variables

@@ -1,4 +1,6 @@
 -- No row but E21's hands a type-BD frame down: no action but Transmit type-BD frame does, and no other row has it.
+use Rattle.std.specs.Prelude.{None, Some}
+use Rattle.std.specs.Prelude as std
 use Prim.Native.Nat.{ℕ}
 use mathlib.Core.Path.{◌≡◌, refl}
 use mathlib.Core.Bool.{Bool, true, false, true≢false}
@@ -7,12 +9,14 @@ use mathlib.Core.Option.{Option, none, some}
 use lib.Dec.{ltb, eqb}
 use Rattle.base.specs.Choice.{pick, both}
 use Rattle.base.proofs.Tests.{apart, both_left, both_right}
-use Rattle.fop.specs.Table.{Action, Cell, cell, if_not_suspended, NotApplicable, table78, cell78, FopEvent}
-use Rattle.fop.specs.Table.{Ignore, Accept, Reject, Confirm, RejectAd, AcceptBd, RejectBd, AddToWaitQueue, LookForFdu, LookForDirective, RemoveAcknowledgedFrames}
-use Rattle.fop.specs.Table.{InitiateAdRetransmission, InitiateBcRetransmission, ReleaseBcFrame, CancelTimer, StartTimer, Alert, Initialise, TransmitUnlock, TransmitSetVr, TransmitBd}
-use Rattle.fop.specs.Table.{SetSuspendState, Suspend, Resume, SetVs, SetNnr, SetK, SetT1Initial, SetTransmissionLimit, SetTimeoutType, AdOutReady, BcOutReady, BdOutReady}
-use Rattle.fop.specs.Table.{E1, E2, E3, E4, E5, E6, E7, E8, E9, E10, E11, E12, E13, E14, E15, E16, E17, E18, E19, E20, E21, E22, E23, E24, E25, E26, E27, E28, E29, E30, E31, E32, E33, E34}
-use Rattle.fop.specs.Table.{E35, E36, E37, E38, E39, E40, E41, E42, E43, E44, E45, E46, E101, E102, E103, E104}
+use Rattle.fop.specs.declared.Action.{Action}
+use Rattle.fop.specs.declared.Event.{Event as FopEvent}
+use Rattle.fop.specs.Table.{Cell, cell, if_not_suspended, NotApplicable, table78, cell78}
+use Rattle.fop.specs.declared.Action.TheVariants.{Ignore, Accept, Reject, Confirm, RejectAd, AcceptBd, RejectBd, AddToWaitQueue, LookForFdu, LookForDirective, RemoveAcknowledgedFrames}
+use Rattle.fop.specs.declared.Action.TheVariants.{InitiateAdRetransmission, InitiateBcRetransmission, ReleaseBcFrame, CancelTimer, StartTimer, Alert, Initialise, TransmitUnlock, TransmitSetVr, TransmitBd}
+use Rattle.fop.specs.declared.Action.TheVariants.{SetSuspendState, Suspend, Resume, SetVs, SetNnr, SetK, SetT1Initial, SetTransmissionLimit, SetTimeoutType, AdOutReady, BcOutReady, BdOutReady}
+use Rattle.fop.specs.declared.Event.TheVariants.{E1, E2, E3, E4, E5, E6, E7, E8, E9, E10, E11, E12, E13, E14, E15, E16, E17, E18, E19, E20, E21, E22, E23, E24, E25, E26, E27, E28, E29, E30, E31, E32, E33, E34}
+use Rattle.fop.specs.declared.Event.TheVariants.{E35, E36, E37, E38, E39, E40, E41, E42, E43, E44, E45, E46, E101, E102, E103, E104}
 use Rattle.sender_values.specs.declared.Control.{Control}
 use Rattle.sender_values.specs.declared.Control.TheVariants as control
 use Rattle.sender_values.specs.declared.Handed.{Handed}
@@ -24,18 +28,18 @@ use Rattle.sender_values.specs.Actions as act
 use Rattle.sender_values.specs.Parts.{with_settings, with_variables, with_queues, with_told}
 use Rattle.sender_values.specs.Start.{begun, none_told}
 use Rattle.sender_table.specs.Rows.{done, done_all, done_cell, row_of}
-use Rattle.sender_events.specs.Events.{event_number}
+use Rattle.fop.specs.Table.{event_number}
 use Rattle.sender_rows_view.proofs.Allowed.{every, every_in}
 use Rattle.fop.proofs.Choices.{by_pick}
 use Rattle.fop.proofs.Test.{is_there}
 
 -- a type-BD frame is handed down
-abbrev pub bypasses : Handed → Bool
-bypasses handed.None = false
-bypasses (handed.Ad n i) = false
-bypasses handed.Bd = true
-bypasses handed.Unlock = false
-bypasses (handed.SetVr n) = false
+abbrev pub bypasses : std.Option Handed → Bool
+bypasses None = false
+bypasses (Some (handed.Ad n i)) = false
+bypasses (Some handed.Bd) = true
+bypasses (Some handed.Unlock) = false
+bypasses (Some (handed.SetVr n)) = false
 
 -- none is
 abbrev Unbypassed : Work → Type 0
@@ -54,7 +58,7 @@ module _ (w : Work) (h : Unbypassed w) where
     by true false true false = h
     by true false false r = h
 
-  controlled : (x : Handed) → bypasses x ≡ false → Unbypassed (act.send_marked_control x w)
+  controlled : (x : std.Option Handed) → bypasses x ≡ false → Unbypassed (act.send_marked_control x w)
   unfolding act.send_marked_control act.send_control act.hand_down act.hold_control with_variables with_queues with_told
   controlled x k = by w.variables.bc_out w.queues.control_marked where
     by : (a m : Bool) → Unbypassed (pick a (pick m (act.send_control x w) w) w)
@@ -62,17 +66,17 @@ module _ (w : Work) (h : Unbypassed w) where
     by true false = h
     by false m = h
 
-  directed : (c : Control) → Unbypassed (act.look_for_directive_of c w)
+  directed : (c : std.Option Control) → Unbypassed (act.look_for_directive_of c w)
   unfolding act.look_for_directive_of
-  directed control.None = h
-  directed control.Unlock = controlled handed.Unlock refl
-  directed (control.SetVr n) = controlled (handed.SetVr n) refl
+  directed None = h
+  directed (Some control.Unlock) = controlled (Some handed.Unlock) refl
+  directed (Some (control.SetVr n)) = controlled (Some (handed.SetVr n)) refl
 
-  denied : (c : Control) → Unbypassed (act.deny_control c (act.emptied w))
+  denied : (c : std.Option Control) → Unbypassed (act.deny_control c (act.emptied w))
   unfolding act.deny_control act.respond act.emptied act.release_bc_frame act.hold_control with_queues with_told
-  denied control.None = h
-  denied control.Unlock = h
-  denied (control.SetVr n) = h
+  denied None = h
+  denied (Some control.Unlock) = h
+  denied (Some (control.SetVr n)) = h
 
   sent_purged_lem : Unbypassed (act.purge_sent_queue w)
   unfolding act.purge_sent_queue

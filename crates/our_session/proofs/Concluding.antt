@@ -1,5 +1,6 @@
 -- What our sender answers where an event was judged, by what the table machine's work on it is: the machine's answer and state where the
 -- frame handed down fits into the output lent, else 11, and nothing changes.
+use Rattle.std.specs.Prelude as code
 use Prim.Native.Nat.{ℕ, ◌≤◌}
 use mathlib.Core.Path.{◌≡◌, refl, sym, ap, ◌∙◌}
 use mathlib.Core.Bool.{Bool, true, false}
@@ -7,14 +8,14 @@ use mathlib.Core.List.{List, ◌++◌}
 use mathlib.Core.Option.{Option, none, some}
 use native.Mathlib.Omega.{arith}
 use borrow.Author.Tests.{ne_eqb}
-use lib.Dec.{leb}
+use lib.Dec.{leb, eqb}
 use lib.ListN.{length, take, drop}
 use lib.Seq.{take-append_seam}
 use Rattle.base.specs.Choice.{pick}
 use Rattle.base.specs.Outcome.{Outcome, Outcome.done}
 use Rattle.base.specs.Outcome as outcome
 use Rattle.fop.specs.Units.{Own, Frame}
-use Rattle.fop.specs.Table.{FopEvent}
+use Rattle.fop.specs.declared.Event.{Event as FopEvent}
 use Rattle.fop.specs.Variables as machine
 use Rattle.fop.specs.Variables.{Fop}
 use Rattle.fop.specs.declared.Run.{Run}
@@ -24,11 +25,10 @@ use Rattle.sender_values.specs.declared.Work.{Work}
 use Rattle.sender_values.specs.Actions.{responses_with}
 use Rattle.sender_values.specs.Start.{begun, sender_of}
 use Rattle.sender_view.specs.View.{responses_of, fop_of, view}
-use Rattle.sender_table.specs.Rows.{event_of}
 use Rattle.sender_rows_view.specs.State.{Good}
 use Rattle.sender.specs.Answers as sender
 use Rattle.sender.specs.Answers.{Step, step_by, refused_step}
-use Rattle.our_session.specs.Ours.{handed_down, answer_by, lent_output}
+use Rattle.our_session.specs.Ours.{handed_down, event_told, answer_by, lent_output}
 use Rattle.our_session.proofs.Writing.{octets_in, fitting}
 
 -- what a step of our sender is to the table machine: f is the machine's state before it, and m its work on the event
@@ -55,34 +55,25 @@ module _ (s : SenderState) (store output : List ℕ) where
   abbrev Refuses : ℕ → Type 0
   Refuses number = answer_by (refused_step number s store output) ≡ refused number (fop_of (begun s) s.lengths store)
 
-  pub refuses_7 : Refuses 7
-  unfolding sender.refusing event_of begun
-  refuses_7 = refl
+  pub refuses_any : (number : ℕ) → Refuses number
+  unfolding sender.refusing begun responses_with
+  refuses_any number = by (eqb number 12) refl where
+    by : (b : Bool) → eqb number 12 ≡ b → Refuses number
+    by true t = rw t refl
+    by false t = rw t refl
 
-  pub refuses_10 : Refuses 10
-  unfolding sender.refusing event_of begun
-  refuses_10 = refl
-
-  pub refuses_11 : Refuses 11
-  unfolding sender.refusing event_of begun
-  refuses_11 = refl
-
-  pub refuses_12 : Refuses 12
-  unfolding sender.refusing event_of begun responses_with
-  refuses_12 = refl
-
-module _ (own : Own) (event : Option FopEvent) (k : ℕ) (numbered : event_of k ≡ event) (o : List ℕ) (n : ℕ) (s : SenderState) (store lengths new : List ℕ) (w : Work)
-    (m : machine.Work) (lent : ℕ) (is : m ≡ view event o n m.confirmed m.denied w lengths new) (c : run_of m.confirmed ≡ w.told.confirmed)
+module _ (own : Own) (event : code.Option FopEvent) (o : List ℕ) (n : ℕ) (s : SenderState) (store lengths new : List ℕ) (w : Work)
+    (m : machine.Work) (lent : ℕ) (is : m ≡ view (event_told event) o n m.confirmed m.denied w lengths new) (c : run_of m.confirmed ≡ w.told.confirmed)
     (d : run_of m.denied ≡ w.told.denied) (after : Good own (sender_of w lengths) new) (before : Good own s store)
     (some_octets : SomeOctets (octets_down own m.frames)) where
   abbrev down : Option (List ℕ)
   down = octets_down own m.frames
 
   -- the answer's fields that are not the same by themselves
-  abbrev whole : Option FopEvent → Option (List ℕ) → Run → Run → Answer
-  whole e x p q = record {
+  abbrev whole : Option (List ℕ) → Run → Run → Answer
+  whole x p q = record {
     refusal = 0;
-    event = e;
+    event = event_told event;
     state = w.state;
     down = x;
     abort = w.told.abort;
@@ -94,16 +85,15 @@ module _ (own : Own) (event : Option FopEvent) (k : ℕ) (numbered : event_of k 
   }
 
   abbrev done_step : Step
-  done_step = step_by k s w lengths (done (octets_in down) tt) new store (lent_output lent)
+  done_step = step_by event s w lengths (done (octets_in down) tt) new store (lent_output lent)
 
   done_answer : answer_by done_step ≡ answered own m
   unfolding sender.answered
   done_answer =
-      ap (λ (e : Option FopEvent). whole e (handed_down (length (octets_in down)) (octets_in down ++ drop (length (octets_in down)) (lent_output lent))) w.told.confirmed w.told.denied) numbered
-      ∙ ap (λ (x : Option (List ℕ)). whole event x w.told.confirmed w.told.denied) (down_is down (lent_output lent) some_octets)
-      ∙ ap (λ (p : Run). whole event down p w.told.denied) (sym c)
-      ∙ ap (λ (q : Run). whole event down (run_of m.confirmed) q) (sym d)
-      ∙ ap (λ (x : List Frame). whole event (octets_down own x) (run_of m.confirmed) (run_of m.denied)) (ap (λ (y : machine.Work). y.frames) is)
+      ap (λ (x : Option (List ℕ)). whole x w.told.confirmed w.told.denied) (down_is down (lent_output lent) some_octets)
+      ∙ ap (λ (p : Run). whole down p w.told.denied) (sym c)
+      ∙ ap (λ (q : Run). whole down (run_of m.confirmed) q) (sym d)
+      ∙ ap (λ (x : List Frame). whole (octets_down own x) (run_of m.confirmed) (run_of m.denied)) (ap (λ (y : machine.Work). y.frames) is)
       ∙ sym (ap (answered own) is)
 
   done_next : fop_of (begun done_step.answer.next.fop) done_step.answer.next.fop.lengths done_step.store ≡ m.fop
@@ -112,7 +102,7 @@ module _ (own : Own) (event : Option FopEvent) (k : ℕ) (numbered : event_of k 
 
   -- by whether it fits
   abbrev step_if : Bool → Step
-  step_if b = step_by k s w lengths (pick b (done (octets_in down) tt) (outcome.Outcome.refused 11 0)) new store (lent_output lent)
+  step_if b = step_by event s w lengths (pick b (done (octets_in down) tt) (outcome.Outcome.refused 11 0)) new store (lent_output lent)
 
   abbrev AgreesIf : Bool → Type 0
   AgreesIf b =
@@ -123,9 +113,9 @@ module _ (own : Own) (event : Option FopEvent) (k : ℕ) (numbered : event_of k 
   agrees_if : (b : Bool) → AgreesIf b
   unfolding sender.answered sender.refusing
   agrees_if true = (done_answer, done_next, after)
-  agrees_if false = (refuses_11 s store (lent_output lent), refl, before)
+  agrees_if false = (refuses_any s store (lent_output lent) 11, refl, before)
 
-  pub concludes : Agrees own lent (fop_of (begun s) s.lengths store) m (step_by k s w lengths (fitting down lent) new store (lent_output lent))
+  pub concludes : Agrees own lent (fop_of (begun s) s.lengths store) m (step_by event s w lengths (fitting down lent) new store (lent_output lent))
   concludes =
       let a = agrees_if (leb (room down) lent) in
       record { answer = a.0; next = a.1; good = a.2 }

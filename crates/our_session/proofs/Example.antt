@@ -3,6 +3,7 @@
 -- Initiate with Set V(R), its frame sent twice: Transmission_Count and the FARM-B counter are 2 there (`twice_begins`, `twice_received`). And a
 -- sender at a start with two numbers far apart (`far_start`). And Set K with units outstanding, judged by the new K (`set_k_lem`);
 -- once they are confirmed a smaller store suffices (`need_after`). And a suspension and its Resume (`our_suspension`).
+use Rattle.std.specs.Prelude.{Option, Some, None}
 use mathlib.Core.Path.{◌≡◌, refl, ap, ◌∙◌}
 use mathlib.Core.Bool.{true, false}
 use mathlib.Core.List.{List, [], ◌∷◌}
@@ -12,6 +13,8 @@ use lib.Dec.{leb→le}
 use lib.ListN.{length, replicate}
 use Rattle.fop.specs.Units.{Fdu, SetVR, written}
 use Rattle.fop.specs.declared.Lower.TheVariants.{AdAccept, BcAccept}
+use Rattle.fop.specs.declared.Event.{Event as FopEvent}
+use Rattle.fop.specs.Table.{event_number}
 use Rattle.fop.specs.declared.State.{State}
 use Rattle.fop.specs.declared.State.TheVariants.{S1, S6}
 use Rattle.fop.specs.Variables.{Fop}
@@ -28,19 +31,18 @@ use Rattle.frame.specs.Frame.{raw_writing}
 use Rattle.store.specs.Places as stored
 use Rattle.store.specs.Slid as slide
 use Rattle.memory.specs.Placed as place
-use Rattle.sender_values.specs.declared.Control.TheVariants as control
 use Rattle.sender_values.specs.declared.Queues.{Queues}
 use Rattle.sender_values.specs.declared.Variables.{Variables}
 use Rattle.sender_values.specs.Actions as act
 use Rattle.sender_values.specs.Parts as parts
 use Rattle.sender_values.specs.Start as start
 use Rattle.sender_table.specs.Rows as rows
-use Rattle.sender_events.specs.Events as number
+use Rattle.sender_events.specs.Events as event
 use Rattle.sender.specs.Answers as answers
 use Rattle.sender.specs.Start as starting
 use Rattle.sender_frames.specs.Frames as frames
 use Rattle.sender.specs.Events as sender
-use Rattle.our_session.specs.Ours.{Held, sender_settings, lent_output, step_of, held_after, fresh_held, held_after_all, start_held, reads, Begins, ours}
+use Rattle.our_session.specs.Ours.{Held, sender_settings, lent_output, step_of, held_after, sender_started, fresh_held, held_after_all, start_held, reads, Begins, ours}
 use Rattle.our_session.proofs.Theorem.{next_all, tables_all, Suffices, all_suffice, begins_after, fresh_good, fresh_reads}
 
 abbrev set : Settings
@@ -61,8 +63,8 @@ units = record { ns = 254; octets = 17 ∷ [] } ∷ record { ns = 255; octets = 
 unfoldable pub computing_ours : Unit {0}
 unfolding computing raw_writing fresh_held step_of starting.starting_of start.start_of start.none_told start.begun start.sender_of frames.handed_writing sender.served_by
     sender.served sender.offered_by sender.request_ad_of sender.directive_of sender.tick_of sender.lower_layer_of sender.control_word_of answers.answered
-    answers.refusing number.word_number number.directive_number number.expiry_number number.ad_number number.lower_number rows.done rows.done_all rows.done_cell
-    rows.row_of rows.event_of rows.row_if rows.row_numbered parts.with_settings parts.with_variables parts.with_queues parts.with_told act.to_state act.start_timer
+    answers.refusing event.event_of_word event.event_of_directive event.event_of_expiry event.event_of_ad rows.done rows.done_all rows.done_cell
+    rows.row_of rows.row_if parts.with_settings parts.with_variables parts.with_queues parts.with_told act.to_state act.start_timer
     act.cancel_timer act.count_one act.ad_out_ready act.set_suspend_state act.responses_with act.respond act.hand_down act.abort act.add_to_wait_queue
     act.hold_control act.release_bc_frame act.transmit_ad_frame act.send_marked act.in_window act.look_for_fdu act.again act.initiate_ad_retransmission
     act.set_vs act.set_nnr act.notify act.alert act.remove_acknowledged_frames act.emptied act.deny_control act.purge_sent_queue act.not_waiting
@@ -144,14 +146,19 @@ module _ (lent : List ℕ) (long : store_need twice.k 0 ≤ length lent) where
 -- A start with V(S) 200 and NN(R) 0, further apart than any K: the first unit waits until Terminate; Set V(S) brings both to one number, and the
 -- next unit is handed down, in a frame of 8 octets.
 abbrev far : Held
-far = record { sender = (starting.starting_of (sender_settings set) 200 0 (length store)).sender; store = store }
+far = record { sender = sender_started (starting.starting_of (sender_settings set) 200 0 (length store)); store = store }
 
--- the number of each event in table 7-8, and the count of octets handed down
+-- the number of an event in table 7-8, 0 where there is none
+abbrev number_of : Option FopEvent → ℕ
+number_of None = 0
+number_of (Some event) = event_number event
+
+-- the number of each event, and the count of octets handed down
 abbrev events_of : List SenderEvent → Held → List (ℕ × ℕ)
 events_of [] x = []
 events_of (e ∷ es) x =
     let step = step_of e (lent_output 256) x in
-    (step.answer.event, step.answer.down) ∷ events_of es (held_after step)
+    (number_of step.answer.event, step.answer.down) ∷ events_of es (held_after step)
 
 abbrev offering : SenderEvent
 offering = request_ad (17 ∷ [])
@@ -231,7 +238,7 @@ standing state suspend_state timer = (
     bd_out = true;
     suspend_state = suspend_state;
   },
-  record { sent = 1; marked = 1; waiting = true; control = control.None; control_marked = false },
+  record { sent = 1; marked = 1; waiting = true; control = None; control_marked = false },
 )
 
 pub our_suspension : (seen left ≡ standing S1 0 1)

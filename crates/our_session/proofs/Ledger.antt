@@ -2,6 +2,7 @@
 -- state and store read as, so crate ledger's theorem holds of it. A store lent that begins with the units held reads as the one that the host has; one
 -- that is too short for them is refused at every event, which looks at no unit. A refused event leaves what the host had; one that is done leaves a store
 -- that suffices.
+use Rattle.std.specs.Prelude.{Result}
 use Prim.Native.Nat.{ℕ, ◌≤◌, ◌<◌}
 use mathlib.Core.Logic.{⊎_elim}
 use mathlib.Core.Path.{◌≡◌, refl, sym, ap, subst, ◌∙◌}
@@ -23,9 +24,10 @@ use Rattle.ledger.proofs.Accounts.{accounted}
 use Rattle.sender_values.specs.Start.{start_of, begun}
 use Rattle.sender_view.proofs.ViewStart.{started}
 use Rattle.sender_state.specs.State.{settings_hold}
-use Rattle.sender.specs.declared.Start.{Start}
+use Rattle.base.specs.declared.Refusal.{Refusal}
+use Rattle.sender.specs.declared.Sender.{Sender}
 use Rattle.sender.specs.Answers.{Step}
-use Rattle.our_session.specs.Ours.{Held, held_after, answer_by, lent_output, reads}
+use Rattle.our_session.specs.Ours.{Held, held_after, answer_by, lent_output, sender_started, reads}
 use Rattle.our_session.specs.Does.{Does}
 use Rattle.our_session.specs.Ledger.{Lent, Fits, units_need, step_lent, next_lent, settings_of, our_ledger, AccountedOurs}
 use Rattle.our_session.proofs.Behind.{units_need_lem, reads_first}
@@ -106,7 +108,7 @@ module _ (s : Fresh) (within : Within s) (store : List ℕ) (long : store_need s
   -- it is no refusal
   pub fresh_is : (our_ledger s store).fresh ≡ record { sender = record { fop = start_of (settings_of s) s.vs s.nnr }; store = store }
   fresh_is =
-      ap (λ (x : Start). record { sender = x.sender; store = store }) (start_done (settings_of s) s.vs s.nnr limits_hold (length store) long)
+      ap (λ (x : Result Sender Refusal). record { sender = sender_started x; store = store }) (start_done (settings_of s) s.vs s.nnr limits_hold (length store) long)
 
   fresh_good : GoodHeld s.own (our_ledger s store).fresh
   fresh_good =

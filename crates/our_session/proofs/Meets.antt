@@ -13,11 +13,13 @@ use Rattle.base.proofs.Tests.{apart, yes, no}
 use Rattle.base.proofs.Computed.{is_true}
 use Rattle.fop.specs.Limits.{largest_k, largest_transmission_limit, largest_timer, largest_number, largest_timeout_type, largest_suspend_state}
 use Rattle.fop.specs.Units.{Word}
-use Rattle.fop.specs.Table.{FopEvent, E18, E25, E26, E27, E28, E36, E39, E40, E103}
+use Rattle.fop.specs.declared.Event.{Event as FopEvent}
+use Rattle.fop.specs.declared.Event.TheVariants.{E18, E25, E26, E27, E28, E36, E39, E40, E103}
 use Rattle.fop.specs.Events.{Line, when, first, seen, word_lines, word_event, expiry_lines, valid_directive, directive_lines, directive_event}
 use Rattle.sender_values.specs.declared.SenderState.{SenderState}
 use Rattle.sender_values.specs.Start.{begun}
-use Rattle.sender_events.specs.Events.{event_number, variables_of}
+use Rattle.fop.specs.Table.{event_number}
+use Rattle.sender_events.specs.Events.{variables_of}
 use Rattle.sender_rows_view.proofs.Rows.{acknowledging, Needed, Meets}
 use Rattle.fop.proofs.Choices.{by_pick, and_l, and_r, upto, ◌also◌}
 use Rattle.fop.proofs.Test.{first_all}

@@ -1,12 +1,10 @@
--- An event by its number is that event, and so is its row.
-use Prim.Native.Nat.{ℕ}
-use mathlib.Core.Path.{◌≡◌, refl, ap}
-use mathlib.Core.Option.{Option, some}
-use Rattle.fop.specs.Table.{FopEvent, E1, E2, E3, E4, E5, E6, E7, E8, E9, E10, E11, E12, E13, E14, E15, E16, E17, E18, E19, E20, E21, E22, E23, E24, E25, E26, E27, E28, E29, E30, E31, E32, E33, E34}
-use Rattle.fop.specs.Table.{E35, E36, E37, E38, E39, E40, E41, E42, E43, E44, E45, E46, E101, E102, E103, E104}
-use Rattle.sender_values.specs.declared.Work.{Work}
-use Rattle.sender_table.specs.Rows.{event_of, row_if, row_of, row_numbered}
-use Rattle.sender_events.specs.Events.{event_number}
+-- An event by its number is that event.
+use mathlib.Core.Path.{◌≡◌, refl}
+use mathlib.Core.Option.{some}
+use Rattle.fop.specs.declared.Event.{Event as FopEvent}
+use Rattle.fop.specs.declared.Event.TheVariants.{E1, E2, E3, E4, E5, E6, E7, E8, E9, E10, E11, E12, E13, E14, E15, E16, E17, E18, E19, E20, E21, E22, E23, E24, E25, E26, E27, E28, E29, E30, E31, E32, E33, E34}
+use Rattle.fop.specs.declared.Event.TheVariants.{E35, E36, E37, E38, E39, E40, E41, E42, E43, E44, E45, E46, E101, E102, E103, E104}
+use Rattle.fop.specs.Table.{event_of, event_number}
 
 pub number_event : (e : FopEvent) → event_of (event_number e) ≡ some e
 unfolding event_of
@@ -60,7 +58,3 @@ number_event E101 = refl
 number_event E102 = refl
 number_event E103 = refl
 number_event E104 = refl
-
-pub row_event : (e : FopEvent) (n : ℕ) (w : Work) → row_numbered (event_number e) n w ≡ row_of e n w
-unfolding row_numbered row_if
-row_event e n w = ap (λ (x : Option FopEvent). row_if x n w) (number_event e)

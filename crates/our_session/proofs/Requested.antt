@@ -1,4 +1,5 @@
 -- Requests to transfer a unit. The unit offered is the one handed down, or an older one that is marked; a BD unit goes straight down.
+use Rattle.std.specs.Prelude.{Option, None, Some}
 use Prim.Native.Nat.{ℕ, suc, ◌+◌, ◌-◌, ◌≤◌, ◌<◌}
 use mathlib.Core.Path.{◌≡◌, refl, sym, ap, subst, ◌∙◌}
 use mathlib.Core.Bool.{Bool, true, false, true≢false}
@@ -17,7 +18,9 @@ use Rattle.store.proofs.Laws.{put_there, put_before}
 use Rattle.store.proofs.Need.{larger_second}
 use Rattle.fop.specs.Effective.{in_service}
 use Rattle.fop.specs.Units.{Own}
-use Rattle.fop.specs.Table.{FopEvent, table78, cell78, E19, E20, E21, E22}
+use Rattle.fop.specs.declared.Event.{Event as FopEvent}
+use Rattle.fop.specs.declared.Event.TheVariants.{E19, E20, E21, E22}
+use Rattle.fop.specs.Table.{table78, cell78}
 use Rattle.fop.specs.Variables as machine
 use Rattle.fop.specs.Machine.{fop_do}
 use Rattle.sender_values.specs.declared.Handed.{Handed}
@@ -31,7 +34,6 @@ use Rattle.sender_values.specs.Parts.{with_variables, with_told}
 use Rattle.sender_values.specs.Start.{begun, none_told, sender_of}
 use Rattle.sender_view.specs.View.{fop_of}
 use Rattle.sender_table.specs.Rows.{done, done_all, done_cell, row_of}
-use Rattle.sender_events.specs.Events.{event_number}
 use Rattle.sender_rows_view.specs.State.{Good}
 use Rattle.sender_rows_view.proofs.Rows.{Meets, Shows, brings, is_offering, lengths_after}
 use Rattle.sender_rows_view.proofs.Allowed.{in_states}
@@ -52,35 +54,35 @@ module _ (n : ℕ) (s : SenderState) where
   in_state e x = done_cell (cell78 (table78 e) x) n (begun s)
 
   -- this is handed down, and no unit confirmed
-  abbrev Tells : Handed → Work → Type 0
+  abbrev Tells : Option Handed → Work → Type 0
   Tells h w = (w.told.handed ≡ h) × (w.told.confirmed.count ≡ 0)
 
-  e19_outside : in_service s.state ≡ false → (row_of E19 n (begun s)).told.handed ≡ handed.None
+  e19_outside : in_service s.state ≡ false → (row_of E19 n (begun s)).told.handed ≡ None
   unfolding row_of table78 done_cell done_all done act.respond act.to_state with_told begun none_told
   e19_outside =
-      in_states (λ x. in_service x ≡ false → (in_state E19 x).told.handed ≡ handed.None) never never never (λ t. refl) (λ t. refl) (λ t. refl) s.state
+      in_states (λ x. in_service x ≡ false → (in_state E19 x).told.handed ≡ None) never never never (λ t. refl) (λ t. refl) (λ t. refl) s.state
 
-  e20_none : Tells handed.None (row_of E20 n (begun s))
+  e20_none : Tells None (row_of E20 n (begun s))
   unfolding row_of table78 done_cell done_all done act.respond act.to_state with_told begun none_told
-  e20_none = in_states (λ x. Tells handed.None (in_state E20 x)) (refl, refl) (refl, refl) (refl, refl) (refl, refl) (refl, refl) (refl, refl) s.state
+  e20_none = in_states (λ x. Tells None (in_state E20 x)) (refl, refl) (refl, refl) (refl, refl) (refl, refl) (refl, refl) (refl, refl) s.state
 
-  e21_bd : Tells handed.Bd (row_of E21 n (begun s))
+  e21_bd : Tells (Some handed.Bd) (row_of E21 n (begun s))
   unfolding row_of table78 done_cell done_all done act.transmit_bd_frame act.hand_down act.to_state with_variables with_told begun none_told
-  e21_bd = in_states (λ x. Tells handed.Bd (in_state E21 x)) (refl, refl) (refl, refl) (refl, refl) (refl, refl) (refl, refl) (refl, refl) s.state
+  e21_bd = in_states (λ x. Tells (Some handed.Bd) (in_state E21 x)) (refl, refl) (refl, refl) (refl, refl) (refl, refl) (refl, refl) (refl, refl) s.state
 
-  e22_none : Tells handed.None (row_of E22 n (begun s))
+  e22_none : Tells None (row_of E22 n (begun s))
   unfolding row_of table78 done_cell done_all done act.respond act.to_state with_told begun none_told
-  e22_none = in_states (λ x. Tells handed.None (in_state E22 x)) (refl, refl) (refl, refl) (refl, refl) (refl, refl) (refl, refl) (refl, refl) s.state
+  e22_none = in_states (λ x. Tells None (in_state E22 x)) (refl, refl) (refl, refl) (refl, refl) (refl, refl) (refl, refl) (refl, refl) s.state
 
 less_of : (a b : ℕ) → a ≤ b → (a ≡ b → ⊥) → a < b
 less_of a b h n = omega (arith, h, n)
 
-abbrev is_none : Handed → Bool
-is_none handed.None = true
-is_none (handed.Ad n i) = false
-is_none handed.Bd = false
-is_none handed.Unlock = false
-is_none (handed.SetVr n) = false
+abbrev is_none : Option Handed → Bool
+is_none None = true
+is_none (Some (handed.Ad n i)) = false
+is_none (Some handed.Bd) = false
+is_none (Some handed.Unlock) = false
+is_none (Some (handed.SetVr n)) = false
 
 -- nothing confirmed: the store and the lengths are as they were
 same_store : (lengths : List ℕ) (count held : ℕ) (store : List ℕ) → count ≡ 0 → without lengths count (held - count) store ≡ store
@@ -142,33 +144,33 @@ module _ (own : Own) (o : List ℕ) (s : SenderState) (store : List ℕ) (lent :
         let less : i < s.queues.sent = less_of i s.queues.sent below (eqb-false i s.queues.sent q) in
         sym (put_before s.lengths store o s.queues.sent good.formed.units i less) ∙ after
 
-  carried : (h : Handed) → w.told.handed ≡ h
+  carried : (h : Option Handed) → w.told.handed ≡ h
       → Carries own s.settings good.spacecraft good.channel good.spacecraft_most good.channel_most lengths new o (unit_offered s w o store) lent h
   unfolding sender_of
-  carried handed.None q = tt
-  carried (handed.Ad k i) q =
+  carried None q = tt
+  carried (Some (handed.Ad k i)) q =
       let p : i < w.queues.sent = shows.sent k i q in
       let v : (b : Bool) → in_service s.state ≡ b → in_service s.state ≡ true = main k i q in
       let u : unit_offered s w o store ≡ unit_at lengths i new =
-      ap (λ (h : Handed). pick (eqb (place_handed h) s.queues.sent) o (unit_at s.lengths (place_handed h) store)) q ∙ unit_is (v (in_service s.state) refl) i p in
+      ap (λ (h : Option Handed). pick (eqb (place_handed h) s.queues.sent) o (unit_at s.lengths (place_handed h) store)) q ∙ unit_is (v (in_service s.state) refl) i p in
       (u, subst Fits (sym u) (held_fits own (sender_of w lengths) new i shows.good p)) where
-        main : (k i : ℕ) → w.told.handed ≡ handed.Ad k i → (b : Bool) → in_service s.state ≡ b → in_service s.state ≡ true
+        main : (k i : ℕ) → w.told.handed ≡ (Some (handed.Ad k i)) → (b : Bool) → in_service s.state ≡ b → in_service s.state ≡ true
         main k i q true t = t
-        main k i q false t = let z : handed.None ≡ handed.Ad k i = sym (e19_outside 0 s t) ∙ q in absurd (true≢false (ap is_none z))
-  carried handed.Bd q = absurd (true≢false (sym (ap bypasses q) ∙ no_bypass E19 0 s refl))
-  carried handed.Unlock q = tt
-  carried (handed.SetVr k) q = tt
+        main k i q false t = let z : None ≡ (Some (handed.Ad k i)) = sym (e19_outside 0 s t) ∙ q in absurd (true≢false (ap is_none z))
+  carried (Some handed.Bd) q = absurd (true≢false (sym (ap bypasses q) ∙ no_bypass E19 0 s refl))
+  carried (Some handed.Unlock) q = tt
+  carried (Some (handed.SetVr k)) q = tt
 
-  pub offers : Agrees own lent (fop_of (begun s) s.lengths store) m (offered_by 19 s w o store (lent_output lent))
+  pub offers : Agrees own lent (fop_of (begun s) s.lengths store) m (offered_by E19 s w o store (lent_output lent))
   unfolding offered_by
   offers = shown own E19 o 0 s store lengths new (unit_offered s w o store) lent w m good shows (carried w.told.handed refl)
 
 -- a row that hands nothing down and confirms nothing: E20, E22
 module _ (own : Own) (e : FopEvent) (o u : List ℕ) (s : SenderState) (store : List ℕ) (lent : ℕ) (good : Good own s store)
-    (none-down : (row_of e 0 (begun s)).told.handed ≡ handed.None)
+    (none-down : (row_of e 0 (begun s)).told.handed ≡ None)
     (shows : Shows own e o 0 (row_of e 0 (begun s)) s.lengths store (fop_do e o 0 (fop_of (begun s) s.lengths store))) where
   pub keeps : Agrees own lent (fop_of (begun s) s.lengths store) (fop_do e o 0 (fop_of (begun s) s.lengths store))
-      (step_by (event_number e) s (row_of e 0 (begun s)) s.lengths
+      (step_by (Some e) s (row_of e 0 (begun s)) s.lengths
       (handed_writing s.settings (row_of e 0 (begun s)).told.handed u (length (lent_output lent))) store store (lent_output lent))
   keeps =
       shown own e o 0 s store s.lengths store u lent (row_of e 0 (begun s)) (fop_do e o 0 (fop_of (begun s) s.lengths store)) good shows
@@ -188,18 +190,18 @@ module _ (own : Own) (o : List ℕ) (s : SenderState) (store : List ℕ) (lent :
       (row_view own e o 0 s store good meets))
 
   -- E20: the Wait_Queue holds a unit already
-  pub rejects_ad : Agrees own lent (fop_of (begun s) s.lengths store) (fop_do E20 o 0 (fop_of (begun s) s.lengths store)) (offered_by 20 s (row_of E20 0 (begun s)) o store (lent_output lent))
+  pub rejects_ad : Agrees own lent (fop_of (begun s) s.lengths store) (fop_do E20 o 0 (fop_of (begun s) s.lengths store)) (offered_by E20 s (row_of E20 0 (begun s)) o store (lent_output lent))
   unfolding offered_by
   rejects_ad =
       keeps own E20 o (unit_offered s (row_of E20 0 (begun s)) o store) s store lent good (e20_none 0 s).0 (kept E20 tt refl (e20_none 0 s).1)
 
   -- E22: BD_Out_Flag is Not_Ready
-  pub rejects_bd : Agrees own lent (fop_of (begun s) s.lengths store) (fop_do E22 o 0 (fop_of (begun s) s.lengths store)) (bypassed_by 22 s (row_of E22 0 (begun s)) o store (lent_output lent))
+  pub rejects_bd : Agrees own lent (fop_of (begun s) s.lengths store) (fop_do E22 o 0 (fop_of (begun s) s.lengths store)) (bypassed_by E22 s (row_of E22 0 (begun s)) o store (lent_output lent))
   unfolding bypassed_by
   rejects_bd = keeps own E22 o o s store lent good (e22_none 0 s).0 (kept E22 tt refl (e22_none 0 s).1)
 
   -- E21: the BD unit goes down
-  pub bypasses_down : Fits o → Agrees own lent (fop_of (begun s) s.lengths store) (fop_do E21 o 0 (fop_of (begun s) s.lengths store)) (bypassed_by 21 s (row_of E21 0 (begun s)) o store (lent_output lent))
+  pub bypasses_down : Fits o → Agrees own lent (fop_of (begun s) s.lengths store) (fop_do E21 o 0 (fop_of (begun s) s.lengths store)) (bypassed_by E21 s (row_of E21 0 (begun s)) o store (lent_output lent))
   unfolding bypassed_by
   bypasses_down legal =
       let w = row_of E21 0 (begun s) in

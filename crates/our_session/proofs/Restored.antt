@@ -1,6 +1,7 @@
 -- The test by which a kept state is restored (crate sender_state) holds of every state that a sender can reach, and a state of which it
 -- holds is well-formed: the test is the conjunction of what every event keeps. A start with any two numbers is well-formed, and with a store that suffices
 -- it is no refusal.
+use Rattle.std.specs.Prelude.{Ok}
 use Prim.Native.Nat.{ℕ, zero, suc, ◌≤◌, ◌<◌}
 use mathlib.Core.Path.{◌≡◌, refl, sym, ap, subst, ◌∙◌}
 use mathlib.Core.Bool.{Bool, true, false, not, true≢false}
@@ -228,6 +229,6 @@ module _ (g : Settings) (vs nnr : ℕ) (limits : settings_hold g ≡ true) where
   start_good store v n l long =
       passes_good (start_of g vs nnr) store (record { vs = v; nnr = n; limit = l; count = omega arith; lengths = length-replicate {A = ℕ} places 0 }) long start_passes
 
-  pub start_done : (lent : ℕ) → store_need g.k 0 ≤ lent → starting_of g vs nnr lent ≡ record { refusal = 0; sender = record { fop = start_of g vs nnr } }
+  pub start_done : (lent : ℕ) → store_need g.k 0 ≤ lent → starting_of g vs nnr lent ≡ Ok (record { fop = start_of g vs nnr })
   unfolding starting_of
   start_done lent long = simp (limits, le-leb (store_need g.k 0) lent long)

@@ -1,5 +1,6 @@
 -- An event that offers no unit: our sender's step agrees with the table machine's work on its row. The unit handed down stood in the store
 -- before the units confirmed left it, where the sender reads it.
+use Rattle.std.specs.Prelude.{Option, None, Some}
 use Prim.Native.Nat.{ℕ, ◌+◌, ◌-◌, ◌≤◌, ◌<◌}
 use mathlib.Core.Path.{◌≡◌, refl, sym, ap, subst, ◌∙◌}
 use mathlib.Core.Bool.{false, true≢false}
@@ -13,7 +14,7 @@ use Rattle.store.specs.Slid.{slid}
 use Rattle.store.proofs.Laws.{without_unit}
 use Rattle.store.proofs.Need.{larger_second}
 use Rattle.fop.specs.Units.{Own}
-use Rattle.fop.specs.Table.{FopEvent}
+use Rattle.fop.specs.declared.Event.{Event as FopEvent}
 use Rattle.fop.specs.Variables as machine
 use Rattle.fop.specs.Machine.{fop_do}
 use Rattle.sender_values.specs.declared.Handed.{Handed}
@@ -27,7 +28,7 @@ use Rattle.sender_values.specs.Actions.{units_held}
 use Rattle.sender_view.specs.View.{fop_of}
 use Rattle.sender_view.proofs.SentQueue.{held_least, held_most}
 use Rattle.sender_table.specs.Rows.{row_of}
-use Rattle.sender_events.specs.Events.{event_number}
+use Rattle.fop.specs.Table.{event_number}
 use Rattle.sender_rows_view.specs.State.{Good}
 use Rattle.sender_rows_view.proofs.Rows.{Brings, brings, Meets, Shows, store_by, lengths_by, is_offering}
 use Rattle.sender_rows_view.proofs.Theorem.{row_view, row_few_lem}
@@ -93,18 +94,18 @@ module _ (own : Own) (e : FopEvent) (n : ℕ) (s g : SenderState) (store : List 
       ap (λ (k : ℕ). unit_at s.lengths k store) turned
       ∙ sym (without_unit s.lengths count store good.formed.units (all_held - count) i stay few (omega (arith, held_most s.queues.sent s.queues.waiting, stay, larger_second s.settings.k s.queues.sent, good.formed.room)))
 
-  carried : (h : Handed) → w.told.handed ≡ h
+  carried : (h : Option Handed) → w.told.handed ≡ h
       → Carries own s.settings good.spacecraft good.channel good.spacecraft_most good.channel_most lengths new [] (unit_before s w store) lent h
   unfolding sender_of
-  carried handed.None q = tt
-  carried (handed.Ad k i) q =
+  carried None q = tt
+  carried (Some (handed.Ad k i)) q =
       let p : i < w.queues.sent = shows.sent k i q in
-      let u : unit_before s w store ≡ unit_at lengths i new = ap (λ (h : Handed). unit_at s.lengths (place_handed h + count) store) q ∙ unit_is i p in
+      let u : unit_before s w store ≡ unit_at lengths i new = ap (λ (h : Option Handed). unit_at s.lengths (place_handed h + count) store) q ∙ unit_is i p in
       (u, subst Fits (sym u) (held_fits own (sender_of w lengths) new i shows.good p))
-  carried handed.Bd q = absurd (true≢false (sym (ap bypasses q) ∙ no_bypass e n g unbypassed))
-  carried handed.Unlock q = tt
-  carried (handed.SetVr k) q = tt
+  carried (Some handed.Bd) q = absurd (true≢false (sym (ap bypasses q) ∙ no_bypass e n g unbypassed))
+  carried (Some handed.Unlock) q = tt
+  carried (Some (handed.SetVr k)) q = tt
 
-  pub serves : Agrees own lent (fop_of (begun s) s.lengths store) m (served_by (event_number e) s w store (lent_output lent))
+  pub serves : Agrees own lent (fop_of (begun s) s.lengths store) m (served_by (Some e) s w store (lent_output lent))
   unfolding served_by
   serves = shown own e [] n s store lengths new (unit_before s w store) lent w m good shows (carried w.told.handed refl)

@@ -1,10 +1,10 @@
 -- An event whose row shows the machine's work (crate sender_rows_view, proofs/Rows) agrees with it, by the unit that is written: the one that the
 -- machine hands down.
+use Rattle.std.specs.Prelude.{Option, None, Some}
 use Prim.Native.Nat.{ℕ, ◌≤◌, ◌<◌}
 use mathlib.Core.Path.{◌≡◌, sym, ap, subst, ◌∙◌}
 use mathlib.Core.Bool.{Bool, true, false}
 use mathlib.Core.List.{List, []}
-use mathlib.Core.Option.{some}
 use native.Mathlib.Nat.{le_trans}
 use native.Mathlib.Omega.{arith}
 use lib.ListN.{length, length-replicate}
@@ -14,7 +14,7 @@ use Rattle.frame.proofs.Lengths.{length_frame}
 use Rattle.frame.specs.declared.Kind.{Kind}
 use Rattle.frame.specs.declared.Kind.TheVariants as kind
 use Rattle.fop.specs.Units.{Own, Frame, written}
-use Rattle.fop.specs.Table.{FopEvent}
+use Rattle.fop.specs.declared.Event.{Event as FopEvent}
 use Rattle.fop.specs.Variables as machine
 use Rattle.fop.specs.Answers.{octets_down}
 use Rattle.sender_values.specs.declared.Handed.{Handed}
@@ -26,13 +26,11 @@ use Rattle.sender_view.specs.View.{fop_of, frames_of}
 use Rattle.sender_values.specs.Actions.{units_held}
 use Rattle.store.specs.Places.{unit_at}
 use Rattle.store.proofs.Need.{need_units}
-use Rattle.sender_events.specs.Events.{event_number}
 use Rattle.sender_rows_view.specs.State.{Good}
 use Rattle.sender_rows_view.proofs.Rows.{Shows}
 use Rattle.sender.specs.Answers.{step_by}
 use Rattle.sender_frames.specs.Frames.{handed_writing}
 use Rattle.our_session.specs.Ours.{lent_output}
-use Rattle.our_session.proofs.Numbers.{number_event}
 use Rattle.our_session.proofs.Writing.{Fits, fitting, unit_fits, Carries, handed_fits}
 use Rattle.our_session.proofs.Concluding.{Agrees, SomeOctets, concludes}
 
@@ -41,13 +39,13 @@ module _ (own : Own) where
   long : (k : Kind) (u : List ℕ) → 1 ≤ length (frame_of own.spacecraft own.channel k u)
   long k u = omega (arith, length_frame (bypass_of k) (control_of k) (number_of k) own.spacecraft own.channel (data_of k u))
 
-  pub frames_long : (h : Handed) (lengths store o : List ℕ) → SomeOctets (octets_down own (frames_of h lengths store o))
+  pub frames_long : (h : Option Handed) (lengths store o : List ℕ) → SomeOctets (octets_down own (frames_of h lengths store o))
   unfolding written
-  frames_long handed.None lengths store o = tt
-  frames_long (handed.Ad n i) lengths store o = long (kind.Ad n) (unit_at lengths i store)
-  frames_long handed.Bd lengths store o = long kind.Bd o
-  frames_long handed.Unlock lengths store o = long kind.Unlock []
-  frames_long (handed.SetVr n) lengths store o = long (kind.SetVr n) []
+  frames_long None lengths store o = tt
+  frames_long (Some (handed.Ad n i)) lengths store o = long (kind.Ad n) (unit_at lengths i store)
+  frames_long (Some handed.Bd) lengths store o = long kind.Bd o
+  frames_long (Some handed.Unlock) lengths store o = long kind.Unlock []
+  frames_long (Some (handed.SetVr n)) lengths store o = long (kind.SetVr n) []
 
 -- the unit at a place that holds one of the sent units
 pub held_fits : (own : Own) (s : SenderState) (store : List ℕ) (i : ℕ) → Good own s store → i < s.queues.sent → Fits (unit_at s.lengths i store)
@@ -75,7 +73,7 @@ module _ (own : Own) (e : FopEvent) (o : List ℕ) (n : ℕ) (s : SenderState) (
       (frames_long own w.told.handed lengths new o)
 
   pub shown : Agrees own lent (fop_of (begun s) s.lengths store) m
-      (step_by (event_number e) s w lengths (handed_writing s.settings w.told.handed u (length (lent_output lent))) new store (lent_output lent))
+      (step_by (Some e) s w lengths (handed_writing s.settings w.told.handed u (length (lent_output lent))) new store (lent_output lent))
   shown =
-      subst (λ (x : Outcome (Unit {0})). Agrees own lent (fop_of (begun s) s.lengths store) m (step_by (event_number e) s w lengths x new store (lent_output lent))) (sym written_is)
-      (concludes own (some e) (event_number e) (number_event e) o n s store lengths new w m lent shows.is shows.confirmed shows.denied shows.good good some_octets)
+      subst (λ (x : Outcome (Unit {0})). Agrees own lent (fop_of (begun s) s.lengths store) m (step_by (Some e) s w lengths x new store (lent_output lent))) (sym written_is)
+      (concludes own (Some e) o n s store lengths new w m lent shows.is shows.confirmed shows.denied shows.good good some_octets)

@@ -1,5 +1,6 @@
 -- Every step of our sender is concluded by what writing the frame handed down comes to (crate sender, specs/Answers), and that looks at the
 -- length of the output lent and at none of its octets. A refused event is a writing that is refused.
+use Rattle.std.specs.Prelude.{Option, Some, None, Ok, Err}
 use Prim.Native.Nat.{ℕ, suc, ◌≤◌}
 use mathlib.Core.Path.{◌≡◌, refl, ap, ◌∙◌}
 use mathlib.Core.Bool.{Bool, true, false}
@@ -14,23 +15,25 @@ use Rattle.base.specs.Outcome.{Outcome, Outcome.refused}
 use Rattle.base.specs.Outcome as outcome
 use Rattle.store.specs.Places.{unit_put, without}
 use Rattle.store.proofs.Laws.{put_length, without_length}
-use Rattle.clcw.specs.Answers.{reading_of}
-use Rattle.clcw.specs.declared.WordReading.{WordReading}
-use Rattle.clcw.specs.declared.WordReading.TheVariants as reading
+use Rattle.base.specs.Refusals.{refusal_number}
+use Rattle.clcw.specs.Answers.{WordReading, reading_of}
 use Rattle.fop.specs.Units.{are_octets}
 use Rattle.fop.specs.Store.{store_need}
-use Rattle.fop.specs.Events.{SenderEvent, request_ad, request_bd, tick, lower, directive, word_arrives}
+use Rattle.fop.specs.declared.Event.{Event as FopEvent}
+use Rattle.fop.specs.declared.Event.TheVariants.{E15}
+use Rattle.fop.specs.Table.{event_number}
+use Rattle.fop.specs.Events.{lower_event, SenderEvent, request_ad, request_bd, tick, lower, directive, word_arrives}
 use Rattle.sender_values.specs.declared.SenderState.{SenderState}
 use Rattle.sender_values.specs.declared.Work.{Work}
 use Rattle.sender_values.specs.Start.{begun}
 use Rattle.sender_view.proofs.SentQueue.{held_most}
-use Rattle.sender_table.specs.Rows.{row_numbered}
-use Rattle.sender_events.specs.Events.{word_number, directive_number, window_of, ad_number, bd_number, lower_number}
+use Rattle.sender_table.specs.Rows.{row_of, row_if}
+use Rattle.sender_events.specs.Events.{event_of_word, event_of_directive, window_of, event_of_ad, event_of_bd}
 use Rattle.sender.specs.Answers as ans
 use Rattle.sender.specs.Answers.{Step, step_by, refused_step}
 use Rattle.sender_frames.specs.Limits.{need_of}
 use Rattle.sender_frames.specs.Frames.{handed_writing, unit_before, unit_offered, must_be_unit}
-use Rattle.sender.specs.Events.{added, served_by, served, offered_by, bypassed_by, request_ad_of, request_bd_of, directive_of, ticked, tick_number, tick_of, lower_layer_of, word_by, control_word_of}
+use Rattle.sender.specs.Events.{added, served_by, served, offered_by, bypassed_by, request_ad_of, request_bd_of, directive_of, ticked, event_of_tick, tick_of, lower_layer_of, word_by, control_word_of}
 use Rattle.our_session.specs.Ours.{Held, step_of}
 
 -- the store that is left where the step is done: as it was, without its oldest units, or with the unit offered
@@ -41,7 +44,7 @@ pub data Left (x : Held) : List ℕ → Type 0 where
 
 -- a step, by the output lent: its event, its work, what writing comes to and the store after it are the same for all outputs of this length
 pub record Concluded (x : Held) (lent : ℕ) (step : List ℕ → Step) : Type 0 where
-  pub event : ℕ
+  pub event : Option FopEvent
   pub work : Work
   pub lengths : List ℕ
   pub writing : Outcome (Unit {0})
@@ -60,7 +63,7 @@ module _ (x : Held) (lent : ℕ) where
   C step = Concluded x lent step
 
   refused_with : (number : ℕ) → C (λ output. refused_step number s store output)
-  refused_with number = record { event = 0; work = begun s; lengths = []; writing = refused number 0; new = store; left = same; is = λ output l. refl }
+  refused_with number = record { event = None; work = begun s; lengths = []; writing = refused number 0; new = store; left = same; is = λ output l. refl }
 
   either : (b : Bool) (y z : List ℕ → Step) → C y → C z → C (λ output. pick b (y output) (z output))
   either true y z p q = p
@@ -71,7 +74,7 @@ module _ (x : Held) (lent : ℕ) where
   judged false y z p q = p
 
   -- the frame handed down is written with the unit u
-  written : (k : ℕ) (w : Work) (ls u new : List ℕ) → Left x new → C (λ output. step_by k s w ls (handed_writing s.settings w.told.handed u (length output)) new store output)
+  written : (k : Option FopEvent) (w : Work) (ls u new : List ℕ) → Left x new → C (λ output. step_by k s w ls (handed_writing s.settings w.told.handed u (length output)) new store output)
   written k w ls u new left = record {
     event = k;
     work = w;
@@ -82,7 +85,7 @@ module _ (x : Held) (lent : ℕ) where
     is = λ output l. ap (λ (n : ℕ). step_by k s w ls (handed_writing s.settings w.told.handed u n) new store output) l;
   }
 
-  served_by_lem : (k : ℕ) (w : Work) → C (λ output. served_by k s w store output)
+  served_by_lem : (k : Option FopEvent) (w : Work) → C (λ output. served_by k s w store output)
   unfolding served_by
   served_by_lem k w = written k w _ (unit_before s w store) _ (fewer w.told.confirmed.count _ (omega (arith, held_most s.queues.sent s.queues.waiting)))
 
@@ -90,21 +93,21 @@ module _ (x : Held) (lent : ℕ) where
   left_offered true o m = more o m
   left_offered false o m = same
 
-  offered_by_lem : (k : ℕ) (w : Work) (o : List ℕ) → length o ≤ largest_unit → C (λ output. offered_by k s w o store output)
+  offered_by_lem : (e : FopEvent) (w : Work) (o : List ℕ) → length o ≤ largest_unit → C (λ output. offered_by e s w o store output)
   unfolding offered_by
-  offered_by_lem k w o m = written k w _ (unit_offered s w o store) _ (left_offered (added k s) o m)
+  offered_by_lem e w o m = written (Some e) w _ (unit_offered s w o store) _ (left_offered (added e s) o m)
 
-  bypassed_by_lem : (k : ℕ) (w : Work) (o : List ℕ) → C (λ output. bypassed_by k s w o store output)
+  bypassed_by_lem : (e : FopEvent) (w : Work) (o : List ℕ) → C (λ output. bypassed_by e s w o store output)
   unfolding bypassed_by
-  bypassed_by_lem k w o = written k w _ o store same
+  bypassed_by_lem e w o = written (Some e) w _ o store same
 
   -- where the store is long enough
   stored : (need : ℕ) (y : List ℕ → Step) → C y → C (λ output. must (leb need (length store)) (refused_step 11 s store output) (y output))
   stored need y h = judged (leb need (length store)) (λ output. refused_step 11 s store output) y (refused_with 11) h
 
-  serves : (window k n : ℕ) (g : SenderState) → C (λ output. served window k n s g store output)
+  serves : (window : ℕ) (k : Option FopEvent) (n : ℕ) (g : SenderState) → C (λ output. served window k n s g store output)
   unfolding served
-  serves window k n g = stored (store_need window s.queues.sent) _ (served_by_lem k (row_numbered k n (begun g)))
+  serves window k n g = stored (store_need window s.queues.sent) _ (served_by_lem k (row_if k n (begun g)))
 
   -- a request, by its length
   asks : (o : List ℕ) (y : List ℕ → Step) → (length o ≤ largest_unit → C y)
@@ -119,21 +122,20 @@ module _ (x : Held) (lent : ℕ) where
 
   asks_ad : (o : List ℕ) → C (λ output. request_ad_of s o store output)
   unfolding request_ad_of
-  asks_ad o = asks o _ (offered_by_lem (ad_number s) (row_numbered (ad_number s) 0 (begun s)) o)
+  asks_ad o = asks o _ (offered_by_lem (event_of_ad s) (row_of (event_of_ad s) 0 (begun s)) o)
 
   asks_bd : (o : List ℕ) → C (λ output. request_bd_of s o store output)
   unfolding request_bd_of
-  asks_bd o = asks o _ (λ m. bypassed_by_lem (bd_number s) (row_numbered (bd_number s) 0 (begun s)) o)
+  asks_bd o = asks o _ (λ m. bypassed_by_lem (event_of_bd s) (row_of (event_of_bd s) 0 (begun s)) o)
 
   directs : (d v : ℕ) → C (λ output. directive_of d v s store output)
   unfolding directive_of
-  directs d v = either (eqb (directive_number d v s) 40) (λ output. refused_step 12 s store output) _ (refused_with 12) (serves (window_of d v s.settings.k) (directive_number d v s) v s)
+  directs d v = either (eqb (event_number (event_of_directive d v s)) 40) (λ output. refused_step 12 s store output) _ (refused_with 12) (serves (window_of d v s.settings.k) (Some (event_of_directive d v s)) v s)
 
   reads : (r : WordReading) → C (λ output. word_by r s store output)
-  reads (reading.Word r) = serves s.settings.k (word_number r.word s) r.word.report s
-  reads reading.Invalid = serves s.settings.k 15 0 s
-  reads reading.Address = refused_with 7
-  reads reading.Length = refused_with 10
+  reads (Ok (Some r)) = serves s.settings.k (Some (event_of_word r.word s)) r.word.report s
+  reads (Ok None) = serves s.settings.k (Some E15) 0 s
+  reads (Err refusal) = refused_with (refusal_number refusal)
 
   word_read : (octets : List ℕ) → C (λ output. control_word_of octets s store output)
   unfolding control_word_of
@@ -147,8 +149,8 @@ module _ (x : Held) (lent : ℕ) where
   unfolding step_of tick_of lower_layer_of
   concluded (request_ad o) = as_octets o _ (asks_ad o)
   concluded (request_bd o) = as_octets o _ (asks_bd o)
-  concluded tick = serves s.settings.k (tick_number s) 0 (ticked s)
-  concluded (lower l) = serves s.settings.k (lower_number l) 0 s
+  concluded tick = serves s.settings.k (event_of_tick s) 0 (ticked s)
+  concluded (lower l) = serves s.settings.k (Some (lower_event l)) 0 s
   concluded (directive d v) = directs d v
   concluded (word_arrives octets) = as_octets octets _ (word_read octets)
 

@@ -2,6 +2,7 @@
 -- the session. So our ends are tied to the tables from every sender that begins a session, and crate session's theorem holds of them.
 -- A sender begins a session wherever the table machine, over the same events, comes to the session's start (`begins_after`): a fresh one
 -- that is told to initiate without check is one (`fresh_begins`), with every store that suffices for its K.
+use Rattle.std.specs.Prelude.{Result, Ok}
 use Prim.Native.Nat.{ℕ, ◌%◌, ◌≤◌}
 use mathlib.Core.Path.{◌≡◌, refl, sym, ap, ap₂, subst, ◌∙◌}
 use mathlib.Core.Logic.{⊎_elim}
@@ -27,7 +28,6 @@ use Rattle.sender_values.specs.Start.{start_of, begun}
 use Rattle.sender_view.specs.View.{fop_of}
 use Rattle.sender_rows_view.specs.State.{Good}
 use Rattle.receiver.specs.Receiver as farm
-use Rattle.receiver.specs.declared.Start.TheVariants.{Ready}
 use Rattle.session.specs.Ends.{Settings, Within, Brought, Tied, start_sender, start_receiver}
 use Rattle.session.specs.Signed.{Demanded}
 use Rattle.session.specs.Beyond.{Beyond}
@@ -37,9 +37,10 @@ use Rattle.session.proofs.Strong.{stronger_claims}
 use Rattle.session.proofs.Beyond.{beyond}
 use Rattle.fop.specs.Store.{store_need, window_at, need_at, lent_next}
 use Rattle.sender_state.specs.State.{settings_hold}
-use Rattle.sender.specs.declared.Start.{Start}
+use Rattle.base.specs.declared.Refusal.{Refusal}
+use Rattle.sender.specs.declared.Sender.{Sender}
 use Rattle.sender.specs.Start.{starting_of}
-use Rattle.our_session.specs.Ours.{Held, step_of, held_after, answer_by, lent_output, sender_settings, fresh_held, held_after_all, start_held, reads, Begins, ours}
+use Rattle.our_session.specs.Ours.{Held, step_of, held_after, answer_by, lent_output, sender_settings, sender_started, fresh_held, held_after_all, start_held, reads, Begins, ours}
 use Rattle.our_session.specs.Demand.{Demand3, StrongerOurs, BeyondOurs, AlertingOurs}
 use Rattle.our_session.specs.Does.{Well, Demand2}
 use Rattle.our_session.proofs.Events.{entries_count, does}
@@ -124,7 +125,7 @@ module _ (set : Settings) (within : Within set) (v : ℕ) (octet : v ≤ largest
       settings_test (sender_settings set) (omega (arith, within.window_least)) (omega (arith, within.window_most)) within.timer_least within.limit_least within.timeout_most
       within.spacecraft within.channel
 
-  pub starts : starting_of (sender_settings set) v v (length store) ≡ record { refusal = 0; sender = record { fop = first } }
+  pub starts : starting_of (sender_settings set) v v (length store) ≡ Ok (record { fop = first })
   starts = start_done (sender_settings set) v v limits_hold (length store) long
 
   first_good : Good set.own first store
@@ -132,11 +133,11 @@ module _ (set : Settings) (within : Within set) (v : ℕ) (octet : v ≤ largest
 
   pub fresh_good : GoodHeld set.own (fresh_held set v store)
   unfolding fresh_held
-  fresh_good = subst (λ (x : Start). Good set.own x.sender.fop store) (sym starts) first_good
+  fresh_good = subst (λ (x : Result Sender Refusal). Good set.own (sender_started x).fop store) (sym starts) first_good
 
   pub fresh_reads : reads (fresh_held set v store) ≡ fop_of (begun first) first.lengths store
   unfolding fresh_held
-  fresh_reads = ap (λ (x : Start). fop_of (begun x.sender.fop) x.sender.fop.lengths store) starts
+  fresh_reads = ap (λ (x : Result Sender Refusal). fop_of (begun (sender_started x).fop) (sender_started x).fop.lengths store) starts
 
   -- the need at an event other than Set K is the start's
   pub start_need : need_at (directive 1 0) (reads (fresh_held set v store)) ≤ length store
@@ -207,7 +208,7 @@ ours_tied set x b = record {
 
 -- the receiver's start, at a FARM-B counter of 0, is what its own `new` gives
 pub receiver_starts : (set : Settings) → Within set → set.counter ≡ 0
-    → farm.start_of set.own.spacecraft set.own.channel set.w set.n set.buffers ≡ Ready (start_receiver set)
+    → farm.start_of set.own.spacecraft set.own.channel set.w set.n set.buffers ≡ Ok (start_receiver set)
 unfolding farm.start_of start_receiver
 receiver_starts set within zero =
     simp (

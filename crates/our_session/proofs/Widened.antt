@@ -1,6 +1,7 @@
 -- A well-formed sender with another store that suffices, or with another K (`widened_good`). Set K (E36) depends on the new K alone: done to a
 -- sender that has the new K already it is the same, for the struct and for the table machine; it hands nothing down and confirms nothing. So
 -- the store's need by the former K plays no part at Set K.
+use Rattle.std.specs.Prelude.{None}
 use Prim.Native.Nat.{ℕ, ◌≤◌}
 use mathlib.Core.Path.{◌≡◌, refl}
 use mathlib.Core.List.{List, []}
@@ -9,12 +10,12 @@ use lib.ListN.{length, replicate, length-replicate}
 use native.Mathlib.Omega.{arith}
 use Rattle.fop.specs.Limits.{largest_k}
 use Rattle.fop.specs.Units.{Own}
-use Rattle.fop.specs.Table.{table78, cell78, E36}
+use Rattle.fop.specs.declared.Event.TheVariants.{E36}
+use Rattle.fop.specs.Table.{table78, cell78}
 use Rattle.fop.specs.Variables as machine
 use Rattle.fop.specs.Machine.{perform, perform_all, perform_cell, fop_do}
 use Rattle.fop.specs.Store.{store_need}
 use Rattle.fop.specs.declared.State.{State}
-use Rattle.sender_values.specs.declared.Handed.TheVariants as handed
 use Rattle.sender_values.specs.declared.SenderState.{SenderState}
 use Rattle.sender_values.specs.declared.Work.{Work}
 use Rattle.sender_values.specs.Actions as act
@@ -96,10 +97,10 @@ module _ (v : ℕ) (s : SenderState) where
   row_widened k =
       in_states (λ x. in_state x s ≡ in_state x (widened k s)) refl refl refl refl refl refl s.state
 
-  pub row_none : ((row_of E36 v (begun s)).told.handed ≡ handed.None) × ((row_of E36 v (begun s)).told.confirmed.count ≡ 0)
+  pub row_none : ((row_of E36 v (begun s)).told.handed ≡ None) × ((row_of E36 v (begun s)).told.confirmed.count ≡ 0)
   unfolding row_of table78 done_cell done_all done act.respond act.set_k act.to_state with_settings with_told begun none_told
   row_none =
-      in_states (λ x. ((in_state x s).told.handed ≡ handed.None) × ((in_state x s).told.confirmed.count ≡ 0)) (refl, refl) (refl, refl) (refl, refl) (refl, refl)
+      in_states (λ x. ((in_state x s).told.handed ≡ None) × ((in_state x s).told.confirmed.count ≡ 0)) (refl, refl) (refl, refl) (refl, refl) (refl, refl)
       (refl, refl) (refl, refl) s.state
 
   module _ (k : ℕ) (lengths store : List ℕ) where

@@ -1,4 +1,6 @@
 -- The frame handed down, as our sender writes it: the octets that the table machine hands down where they fit into the output, else 11.
+use Rattle.std.specs.Prelude.{None, Some}
+use Rattle.std.specs.Prelude as std
 use Prim.Native.Nat.{ℕ, ◌+◌, ◌-◌, ◌*◌, ◌≤◌}
 use mathlib.Core.Path.{◌≡◌, refl, sym, ap, ◌∙◌}
 use mathlib.Core.Bool.{Bool, true, false}
@@ -71,18 +73,18 @@ module _ (own : Own) (g : Settings) (es : g.spacecraft ≡ own.spacecraft) (ec :
       ∙ frame_fits own.spacecraft own.channel ms mc k v lent f
 
   -- which unit it is
-  abbrev pub Carries : Handed → Type 0
-  Carries handed.None = Unit {0}
-  Carries (handed.Ad n i) = (u ≡ unit_at lengths i store) × Fits u
-  Carries handed.Bd = (u ≡ o) × Fits u
-  Carries handed.Unlock = Unit {0}
-  Carries (handed.SetVr n) = Unit {0}
+  abbrev pub Carries : std.Option Handed → Type 0
+  Carries None = Unit {0}
+  Carries (Some (handed.Ad n i)) = (u ≡ unit_at lengths i store) × Fits u
+  Carries (Some handed.Bd) = (u ≡ o) × Fits u
+  Carries (Some handed.Unlock) = Unit {0}
+  Carries (Some (handed.SetVr n)) = Unit {0}
 
-  pub handed_fits : (h : Handed) → Carries h → handed_writing g h u lent ≡ fitting (octets_down own (frames_of h lengths store o)) lent
+  pub handed_fits : (h : std.Option Handed) → Carries h → handed_writing g h u lent ≡ fitting (octets_down own (frames_of h lengths store o)) lent
   unfolding handed_writing written
-  handed_fits handed.None c = ap (λ (b : Bool). pick {A = Outcome (Unit {0})} b (done [] tt) (refused 11 0)) (sym (le-leb 0 lent (omega arith)))
-  handed_fits (handed.Ad n i) c =
+  handed_fits None c = ap (λ (b : Bool). pick {A = Outcome (Unit {0})} b (done [] tt) (refused 11 0)) (sym (le-leb 0 lent (omega arith)))
+  handed_fits (Some (handed.Ad n i)) c =
       at_address (kind.Ad n) u c.1 ∙ ap (λ (v : List ℕ). fitting (some (frame_of own.spacecraft own.channel (kind.Ad n) v)) lent) c.0
-  handed_fits handed.Bd c = at_address kind.Bd u c.1 ∙ ap (λ (v : List ℕ). fitting (some (frame_of own.spacecraft own.channel kind.Bd v)) lent) c.0
-  handed_fits handed.Unlock c = at_address kind.Unlock [] (omega arith, omega arith)
-  handed_fits (handed.SetVr n) c = at_address (kind.SetVr n) [] (omega arith, omega arith)
+  handed_fits (Some handed.Bd) c = at_address kind.Bd u c.1 ∙ ap (λ (v : List ℕ). fitting (some (frame_of own.spacecraft own.channel kind.Bd v)) lent) c.0
+  handed_fits (Some handed.Unlock) c = at_address kind.Unlock [] (omega arith, omega arith)
+  handed_fits (Some (handed.SetVr n)) c = at_address (kind.SetVr n) [] (omega arith, omega arith)

@@ -8,7 +8,7 @@ use Rattle.ledger.specs.Accounted.{Fresh, Within, Sender, AllAccounted}
 use Rattle.sender_values.specs.declared.Settings.{Settings as SenderSettings}
 use Rattle.sender.specs.Answers.{Step}
 use Rattle.sender.specs.Start.{starting_of}
-use Rattle.our_session.specs.Ours.{Held, step_of, held_after, answer_by, lent_output, reads}
+use Rattle.our_session.specs.Ours.{Held, step_of, held_after, answer_by, lent_output, sender_started, reads}
 
 -- what is lent at an event: a store, and room for a frame
 pub record Lent : Type 0 where
@@ -54,7 +54,7 @@ our_ledger s store = record {
   Fits = Fits;
   stored = λ l. length l.store;
   room = λ l. l.room;
-  fresh = record { sender = (starting_of (settings_of s) s.vs s.nnr (length store)).sender; store = store };
+  fresh = record { sender = sender_started (starting_of (settings_of s) s.vs s.nnr (length store)); store = store };
   next = next_lent;
   answer = λ e l x. answer_by (step_lent e l x);
   reads = reads;

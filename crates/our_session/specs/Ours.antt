@@ -1,16 +1,18 @@
 -- Our own two ends in document 01's session: the sender by the definitions that its public functions equal (crate sender), the receiver by
 -- crate receiver's.
-use Rattle.std.specs.Prelude.{ℕ, ◌≡◌, List, [], ◌∷◌, eqb, length, take, replicate}
+use Rattle.std.specs.Prelude as code
+use Rattle.std.specs.Prelude.{ℕ, ◌≡◌, List, [], ◌∷◌, Some, None, Result, Ok, Err, eqb, length, take, replicate}
 use Rattle.std.proofs.Math.Option.{Option, none, some}
 use Rattle.base.specs.Choice.{pick}
+use Rattle.base.specs.declared.Refusal.{Refusal}
 use Rattle.fop.specs.Units.{are_octets}
 use Rattle.fop.specs.Events.{SenderEvent, request_ad, request_bd, tick, lower, directive, word_arrives}
 use Rattle.fop.specs.Variables.{Fop}
 use Rattle.fop.specs.Answers.{Answer}
+use Rattle.fop.specs.declared.Event.{Event as FopEvent}
 use Rattle.sender_values.specs.declared.Settings.{Settings as SenderSettings}
-use Rattle.sender_values.specs.Start.{begun}
+use Rattle.sender_values.specs.Start.{start_of, begun}
 use Rattle.sender_view.specs.View.{responses_of, fop_of}
-use Rattle.sender_table.specs.Rows.{event_of}
 use Rattle.sender_rows_view.specs.State.{Good}
 use Rattle.receiver.specs.declared.Receiver.{Receiver}
 use Rattle.session.specs.Ends.{Settings, Ends, start_sender, start_receiver}
@@ -48,11 +50,16 @@ held_after step = record { sender = step.answer.next; store = step.store }
 abbrev pub handed_down : ℕ → List ℕ → Option (List ℕ)
 handed_down count output = pick (eqb count 0) none (some (take count output))
 
+-- the event of table 7-8, if it is one
+abbrev pub event_told : code.Option FopEvent → Option FopEvent
+event_told None = none
+event_told (Some event) = some event
+
 -- document 01's answer, by what our sender answers and leaves in the output
 abbrev pub answer_of : SenderAnswer → List ℕ → Answer
 answer_of a output = record {
   refusal = a.refusal;
-  event = event_of a.event;
+  event = event_told a.event;
   state = a.state;
   down = handed_down a.down output;
   abort = a.abort;
@@ -82,9 +89,18 @@ sender_settings set = record {
   channel = set.own.channel;
 }
 
+-- the least settings within the limits
+abbrev pub least_settings : SenderSettings
+least_settings = record { k = 1; t1_initial = 1; transmission_limit = 1; timeout_type = 0; spacecraft = 0; channel = 0 }
+
+-- the sender that a start gives; where the start is refused there is none, and one with the least settings stands for it
+abbrev pub sender_started : Result Sender Refusal → Sender
+sender_started (Ok sender) = sender
+sender_started (Err refusal) = record { fop = start_of least_settings 0 0 }
+
 -- "A sender starts Initial, .. with the numbers and settings given", here one number for V(S) and NN(R), and the store that it is lent
 unfoldable pub fresh_held : Settings → ℕ → List ℕ → Held
-fresh_held set number store = record { sender = (starting_of (sender_settings set) number number (length store)).sender; store = store }
+fresh_held set number store = record { sender = sender_started (starting_of (sender_settings set) number number (length store)); store = store }
 
 -- the sender with its store after events, each with the room lent for its frame
 abbrev pub held_after_all : List (SenderEvent × ℕ) → Held → Held

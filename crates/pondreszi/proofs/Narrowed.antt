@@ -8,7 +8,6 @@ use native.Mathlib.Omega.{arith}
 use borrow.Author.Tests.{lt-leb, ne_eqb, leb-true, eqb-true}
 use lib.Dec.{leb, eqb}
 use lib.ListN.{length, get_or}
-use Rattle.base.specs.Choice.{pick}
 use Rattle.base.specs.Fields.{field_at}
 use Rattle.base.specs.Limits.{smallest_frame, largest_spacecraft, largest_channel}
 use Rattle.base.specs.Outcome.{Outcome}
@@ -16,11 +15,12 @@ use Rattle.frame_header.specs.Header.{spacecraft_identifier, virtual_channel_ide
 use Rattle.frame.specs.Frame.{set_vr_command, raw_writing, writing, header_refusal, content_refusal, refusal_of}
 use Rattle.frame.specs.Answers.{reading_of, fields_of}
 use Rattle.frame.specs.declared.Kind.TheVariants.{Ad, SetVr}
-use Rattle.frame.specs.declared.FrameReading.TheVariants.{Frame, Refused}
+use Rattle.std.specs.Prelude.{Err}
+use Rattle.base.specs.Refusals.{by_number}
+use Rattle.base.specs.declared.Refusal.TheVariants.{Length}
 use Rattle.frame_header.proofs.Octets.{spacecraft_is, channel_is}
 use Rattle.clcw.specs.Clcw.{virtual_channel, writing as word_writing}
 use Rattle.clcw.specs.Answers.{reading_of as word_reading}
-use Rattle.clcw.specs.declared.WordReading.TheVariants.{Length as NotFour}
 use Rattle.clcw.proofs.Word.{channel_is as word-channel-is}
 use Rattle.fop.specs.Limits.{largest_number}
 use Rattle.pondreszi_numbers.specs.Numbers.{largest_octet, narrow, with_number, ad_writing, set_vr_writing}
@@ -96,13 +96,13 @@ module _ (octets : List ℕ) (at : (i : ℕ) → get_or octets i 0 < 256) where
       → reading_of octets own ours ≡ reading_of octets spacecraft channel
   unfolding reading_of
   reading_narrowed spacecraft channel p q =
-      ap (λ (n : ℕ). pick (eqb n 0) (Frame (fields_of octets)) (Refused n))
+      ap (λ (n : ℕ). by_number n (fields_of octets))
       (address (refusal_of octets) spacecraft channel spacecraft_read channel_read p q)
 
   word_read : Alike largest_channel (word_reading octets)
   unfolding word_reading
   word_read y z h k =
-      checked (eqb (length octets) 4) NotFour _ _
+      checked (eqb (length octets) 4) (Err Length) _ _
       (λ e.
       let l = eqb-true (length octets) 4 e in
       let f = word-channel-is octets l at in

@@ -4,11 +4,14 @@ ghost use Rattle.base.specs.Outcome.{answer, after, number_of, count_of};
 ghost use Rattle.fecf.specs.Fecf.{fecf_of};
 ghost use Rattle.frame.specs.declared.Kind.TheVariants.{Bd, Unlock};
 ghost use Rattle.frame.specs.Frame.{writing};
-ghost use Rattle.frame.specs.Answers.{reading_of, reading_number};
+ghost use Rattle.base.specs.Refusals.{result_number};
+ghost use Rattle.frame.specs.Answers.{reading_of};
 ghost use Rattle.pondreszi_numbers.specs.Numbers.{ad_writing, set_vr_writing, frame_kind, frame_value, frame_total, frame_field};
 
-use pondreszi_numbers::frames::{told_reading, told_written};
-use pondreszi_numbers::{NO_CHANNEL, NO_SPACECRAFT, narrow_u8, narrow_u16, with_number};
+use pondreszi_numbers::frames::told_reading;
+use pondreszi_numbers::{
+    NO_CHANNEL, NO_SPACECRAFT, narrow_u8, narrow_u16, told_written, with_number,
+};
 
 #[unsafe(no_mangle)]
 pub extern "C" fn pondreszi_fecf(message: &[u8]) -> u16
@@ -110,7 +113,7 @@ pub extern "C" fn pondreszi_frame_read(
     total: &mut u16,
     field: &mut u16,
 ) -> u8
-    ensures number { result ≡ reading_number (reading_of octets.now spacecraft channel) }
+    ensures number { result ≡ result_number (reading_of octets.now spacecraft channel) }
     ensures kinds { kind.new ≡ frame_kind (reading_of octets.now spacecraft channel) }
     ensures values { value.new ≡ frame_value (reading_of octets.now spacecraft channel) }
     ensures totals { total.new ≡ frame_total (reading_of octets.now spacecraft channel) }

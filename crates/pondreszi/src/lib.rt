@@ -16,8 +16,9 @@ ghost use Rattle.randomizer.specs.Randomizer.{octet};
 ghost use Rattle.cltu.specs.Cltu.{writing};
 ghost use Rattle.pondreszi_numbers.specs.Numbers.{cltu_reading, codeblock_judging, bits_corrected, place_of, corrected_of};
 
-use base::LARGEST_INPUT;
-use pondreszi_numbers::coding::{LARGEST_MODE, mode_of, told_judged, told_reading, told_written};
+use base::{LARGEST_INPUT, Refusal};
+use pondreszi_numbers::coding::{LARGEST_MODE, mode_of, told_judged, told_reading};
+use pondreszi_numbers::told_written;
 
 #[unsafe(no_mangle)]
 pub extern "C" fn pondreszi_codeblock_error_control(information: &[u8]) -> u8
@@ -39,14 +40,16 @@ pub extern "C" fn pondreszi_codeblock_judge(
 {
     *corrected = 0;
     if block.len() != 8 {
-        return 10;
+        return Refusal::Length.number();
     }
-    if LARGEST_MODE < mode {
-        return 12;
+    if mode > LARGEST_MODE {
+        return Refusal::Setting.number();
     }
-    let chosen = mode_of(mode);
-    let judged = encoded_data::judge(block, chosen);
-    told_judged(judged, information, corrected)
+    told_judged(
+        encoded_data::judge(block, mode_of(mode)),
+        information,
+        corrected,
+    )
 }
 
 #[unsafe(no_mangle)]
@@ -62,8 +65,7 @@ pub extern "C" fn pondreszi_cltu_write(frame: &[u8], output: &mut [u8], count: &
     ensures memory { output.new ≡ after (writing frame.now (length output.old)) output.old }
     ensures told { count.new ≡ count_of (answer (writing frame.now (length output.old))) }
 {
-    let written = cltu::writer::write(frame, output);
-    told_written(written, count)
+    told_written(cltu::writer::write(frame, output), count)
 }
 
 #[unsafe(no_mangle)]
@@ -84,13 +86,12 @@ pub extern "C" fn pondreszi_cltu_read(
     *count = 0;
     *place = 0;
     *corrected = 0;
-    if LARGEST_INPUT < input.len() {
-        return 10;
+    if input.len() > LARGEST_INPUT {
+        return Refusal::Length.number();
     }
-    if LARGEST_MODE < mode {
-        return 12;
+    if mode > LARGEST_MODE {
+        return Refusal::Setting.number();
     }
-    let chosen = mode_of(mode);
-    let reading = cltu::reader::read(input, chosen, output);
+    let reading = cltu::reader::read(input, mode_of(mode), output);
     told_reading(reading, count, place, corrected)
 }

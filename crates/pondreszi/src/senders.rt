@@ -2,10 +2,12 @@
 ghost use Rattle.std.specs.Prelude.{◌≡◌};
 ghost use Rattle.pondreszi_sender.specs.Senders.{request_ad_call, request_bd_call, tick_call, word_call, lower_call, directive_call, new_call};
 
+use base::Refusal;
 use pondreszi_numbers::narrow_u16;
 use pondreszi_sender::{event_call, lower_numbered, narrow_number, started};
 use sender::Event;
-use sender_octets::{STATE_OCTETS, octets_of};
+use sender_octets::STATE_OCTETS;
+use sender_octets::writer::put_state;
 
 // The last answer of the lower layer.
 const LAST_LOWER: u32 = 6;
@@ -96,14 +98,13 @@ pub extern "C" fn pondreszi_sender_lower_layer(
     ensures output { output.new ≡ (lower_call state.old number store.old output.old answer.old).output }
     ensures answer { answer.new ≡ (lower_call state.old number store.old output.old answer.old).answer }
 {
-    if number < 1 {
-        return 12;
+    match number {
+        1..=LAST_LOWER => {
+            let told = Event::LowerLayer(lower_numbered(number));
+            event_call(state, told, b"", store, output, answer)
+        }
+        _ => Refusal::Setting.number(),
     }
-    if LAST_LOWER < number {
-        return 12;
-    }
-    let told = Event::LowerLayer(lower_numbered(number));
-    event_call(state, told, b"", store, output, answer)
 }
 
 #[unsafe(no_mangle)]
@@ -150,14 +151,12 @@ pub extern "C" fn pondreszi_sender_new(
         nnr,
         store,
     );
-    if start.refusal != 0 {
-        return start.refusal;
+    match start {
+        Ok(sender) if state.len() >= STATE_OCTETS => {
+            put_state(state, sender.state());
+            0
+        }
+        Ok(_) => Refusal::Room.number(),
+        Err(refusal) => refusal.number(),
     }
-    if state.len() < STATE_OCTETS {
-        return 11;
-    }
-    let sender = start.sender;
-    let kept = octets_of(sender.state());
-    memory::put(state, 0, &kept);
-    0
 }

@@ -2,12 +2,13 @@
 ghost use Rattle.std.specs.Prelude.{◌≡◌, length};
 ghost use Rattle.base.specs.Outcome.{answer, after, number_of, count_of};
 ghost use Rattle.clcw.specs.Clcw.{writing};
-ghost use Rattle.clcw.specs.Answers.{reading_of, reading_number};
+ghost use Rattle.base.specs.Refusals.{result_number};
+ghost use Rattle.clcw.specs.Answers.{reading_of};
 ghost use Rattle.pondreszi_numbers.specs.Numbers.{word_given, word_valid, word_field, status_told, rf_told, flags_told, counter_told, report_told};
 
 use clcw::Clcw;
-use pondreszi_numbers::words::{told_reading, told_written};
-use pondreszi_numbers::{BEYOND, NO_CHANNEL, narrow_u8, with_number};
+use pondreszi_numbers::words::told_reading;
+use pondreszi_numbers::{BEYOND, NO_CHANNEL, narrow_u8, told_written, with_number};
 
 #[unsafe(no_mangle)]
 pub extern "C" fn pondreszi_clcw_write(
@@ -51,7 +52,7 @@ pub extern "C" fn pondreszi_clcw_read(
     counter: &mut u8,
     report: &mut u8,
 ) -> u8
-    ensures number { result ≡ reading_number (reading_of octets.now channel) }
+    ensures number { result ≡ result_number (reading_of octets.now channel) }
     ensures validity { valid.new ≡ word_valid (reading_of octets.now channel) }
     ensures statuses { status.new ≡ word_field status_told (reading_of octets.now channel) }
     ensures radio { rf.new ≡ word_field rf_told (reading_of octets.now channel) }

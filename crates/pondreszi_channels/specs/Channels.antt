@@ -1,14 +1,19 @@
 -- The receiver of up to eight channels across the boundary (document 02, order 8): its records as octets in one lent buffer (channel_octets/specs/Kept),
 -- spacecraft and pool with each call, its answers as numbers.
-use Rattle.std.specs.Prelude.{ℕ, false, List, ◌++◌, leb, length, drop}
+use Rattle.std.specs.Prelude.{ℕ, suc, false, List, ◌++◌, leb, length, drop, Result, Ok, Err}
 use Rattle.base.specs.Choice.{must}
+use Rattle.base.specs.Limits.{largest_spacecraft}
 use Rattle.base.specs.Outcome as outcome
+use Rattle.base.specs.declared.Refusal.{Refusal}
+use Rattle.base.specs.declared.Refusal.TheVariants.{Setting}
 use Rattle.fop.specs.Limits.{largest_number}
 use Rattle.farm.specs.declared.State.TheVariants.{Open}
 use Rattle.receiver.specs.declared.Channel.{Channel}
-use Rattle.channels.specs.declared.Turn.{Turn}
-use Rattle.channels.specs.Table.{record_holds, records_after, frame_turn, unit_part, release_turn, word_writing}
+use Rattle.channels.specs.declared.Channels.{Channels}
+use Rattle.channels.specs.Table.{Turn, record_holds, records_after, frame_turn, unit_part, release_turn, word_writing}
+use Rattle.channel_table.specs.Taken.{taken_of}
 use Rattle.channel_octets.specs.Kept.{record_octets, octets_of, table_octets, records_in, is_table}
+use Rattle.pondreszi_numbers.specs.Numbers.{largest_octet, largest_pair, narrow}
 use Rattle.pondreszi_receiver.specs.Receivers.{Called, Release, unit_number, unit_place}
 
 -- document 01, "FARM-1": a channel at its start: Open, flags and counter zero, V(R) as set, no unit held
@@ -19,6 +24,18 @@ at_start channel window vr = record {
   held = 0;
   variables = record { state = Open; vr = vr; lockout = false; wait = false; retransmit = false; counter = 0 };
 }
+
+-- the same by the numbers given: 12 where one is outside its limit, V(R) too
+unfoldable pub start_given : ℕ → ℕ → ℕ → Result Channel Refusal
+start_given channel window vr =
+    must (leb vr largest_number) (Err Setting) (must (record_holds (at_start channel window vr)) (Err Setting) (Ok (at_start channel window vr)))
+
+-- the receiver that a call meets: its records those of the lent table, 12 for octets that are none; a number that has too many bits is handed on as one
+-- beyond its limit (pondreszi_numbers/specs)
+unfoldable pub taking : ℕ → ℕ → List ℕ → Result Channels Refusal
+taking spacecraft pool table =
+    must (is_table table) (Err Setting)
+    (Ok (taken_of (narrow largest_pair (suc largest_spacecraft) spacecraft) (narrow largest_octet largest_octet pool) (records_in table)))
 
 -- `pondreszi_channel_new`: the record of a channel at its start, at the front of a lent buffer: 12 where a number is outside its limit, V(R) too, then 11
 -- where the buffer is too short

@@ -1,93 +1,95 @@
 // Document 02, order 8: the receiver of up to eight virtual channels, as C and Rust call it. Its records lie in one lent buffer, 9 octets each (crate
 // channel_octets, specs/Kept), which a caller may keep over a reset; spacecraft and pool come with each call. A buffer that is no table is refused by 12
 // and stays as it is.
-#![tactic(auto)]
+#![tactic(auto, unfolding(crate::specs::Channels::taking))]
 
-ghost use Rattle.std.specs.Prelude.{◌≡◌, suc, length};
-ghost use Rattle.base.specs.Limits.{largest_spacecraft, largest_channel};
+ghost use Rattle.std.specs.Prelude.{◌≡◌, length};
 ghost use Rattle.base.specs.Outcome.{answer, after, number_of, count_of};
-ghost use Rattle.channels.specs.Answers.{word_answer};
-ghost use Rattle.channel_table.specs.Taken.{taken_of};
-ghost use Rattle.channel_octets.specs.Kept.{records_in};
-ghost use Rattle.pondreszi_numbers.specs.Numbers.{largest_octet, largest_pair, narrow};
-ghost use Rattle.pondreszi_channels.specs.Channels.{at_start, new_call, frame_call, release_call, word_call};
+ghost use Rattle.base.specs.Refusals.{refusal_number, written_answer};
+ghost use Rattle.channels.specs.Table.{number_or_none};
+ghost use Rattle.pondreszi_channels.specs.Channels.{at_start, start_given, taking, new_call, frame_call, release_call, word_call};
 
+use base::Refusal;
 use channel_octets::{RECORD_OCTETS, channels_in, is_table, put_record};
 use channels::records::record_holds;
-use channels::{ChannelWordWritten, Channels};
-use farm::{State, Variables};
-use pondreszi_numbers::{BEYOND, LARGEST_NUMBER, NO_CHANNEL, NO_SPACECRAFT, narrow_u8, narrow_u16};
+use channels::{Channels, NO_RECORD, Refused};
+use farm::{Variables, event_number};
+use pondreszi_numbers::{BEYOND, NO_CHANNEL, NO_SPACECRAFT, narrow_u8, narrow_u16, told_written};
 use pondreszi_receiver::{unit_count, unit_number, unit_place};
 use receiver::Channel;
 
-// The record of a channel at its start.
-fn at_start(channel: u8, window: u8, vr: u8) -> Channel
-    ensures { result ≡ at_start channel window vr }
+// The record of a channel at its start: Open, with flags and counter zero and no unit held, as where there is no record.
+fn at_start(number: u8, window: u8, vr: u8) -> Channel
+    ensures { result ≡ at_start number window vr }
 {
-    let variables = Variables {
-        state: State::Open,
-        vr: vr,
-        lockout: false,
-        wait: false,
-        retransmit: false,
-        counter: 0,
-    };
     Channel {
-        number: channel,
-        window: window,
-        held: 0,
-        variables: variables,
-    }
-}
-
-// The receiver by the numbers given.
-fn taken(spacecraft: u32, pool: u32, table: &[u8]) -> Channels
-    ensures { result ≡ taken_of (narrow largest_pair (suc largest_spacecraft) spacecraft) (narrow largest_octet largest_octet pool) (records_in table.now) }
-{
-    let own_spacecraft = narrow_u16(spacecraft, NO_SPACECRAFT);
-    let buffers = narrow_u8(pool, BEYOND);
-    channels_in(own_spacecraft, buffers, table)
-}
-
-// What writing a control word answered, by its number and the count of octets written.
-fn told_word(written: ChannelWordWritten, count: &mut u64) -> u8
-    ensures number { result ≡ number_of (word_answer written) }
-    ensures counted { count.new ≡ count_of (word_answer written) }
-{
-    *count = 0;
-    match written {
-        ChannelWordWritten::Done(n) => {
-            *count = n as u64;
-            0
-        }
-        ChannelWordWritten::Setting => 12,
-        ChannelWordWritten::Address => 7,
-        ChannelWordWritten::Room => 11,
+        number,
+        window,
+        variables: Variables {
+            vr,
+            ..NO_RECORD.variables
+        },
+        ..NO_RECORD
     }
 }
 
 // The record of a channel at its start, by the numbers given.
+#[tactic(auto, using(crate::proofs::ChannelCalls::vr_beyond, crate::proofs::ChannelCalls::start_refused_lem, crate::proofs::ChannelCalls::start_kept_lem))]
+fn started(channel: u32, window: u32, vr: u32) -> Result<Channel, Refusal>
+    ensures { result ≡ start_given channel window vr }
+{
+    let Ok(first) = u8::try_from(vr) else {
+        return Err(Refusal::Setting);
+    };
+    let start = at_start(
+        narrow_u8(channel, NO_CHANNEL),
+        narrow_u8(window, BEYOND),
+        first,
+    );
+    if !record_holds(start) {
+        return Err(Refusal::Setting);
+    }
+    Ok(start)
+}
+
+// The receiver by the numbers given, of the records in a lent table.
+fn taken(spacecraft: u32, pool: u32, table: &[u8]) -> Result<Channels, Refusal>
+    ensures { result ≡ taking spacecraft pool table.now }
+{
+    if !is_table(table) {
+        return Err(Refusal::Setting);
+    }
+    let own_spacecraft = narrow_u16(spacecraft, NO_SPACECRAFT);
+    Ok(channels_in(own_spacecraft, narrow_u8(pool, BEYOND), table))
+}
+
+// What an event that is refused is told as: its number, and the event where it is one.
+fn told_refused(refused: Refused, event: &mut u8) -> u8
+    ensures number { result ≡ refusal_number refused.refusal }
+    ensures events { event.new ≡ number_or_none refused.event }
+{
+    *event = refused.event.map_or(0, event_number);
+    refused.refusal.number()
+}
+
+// The same, put at the front of a lent buffer.
+#[tactic(auto, using(crate::proofs::ChannelCalls::new_setting, crate::proofs::ChannelCalls::new_short, crate::proofs::ChannelCalls::new_kept_lem))]
 pub fn new_call(channel: u32, window: u32, vr: u32, octets: &mut [u8]) -> u8
     ensures number { result ≡ (new_call channel window vr octets.old).number }
     ensures records { octets.new ≡ (new_call channel window vr octets.old).state }
 {
-    if LARGEST_NUMBER < vr {
-        return 12;
+    match started(channel, window, vr) {
+        Ok(start) if octets.len() >= RECORD_OCTETS => {
+            put_record(octets, 0, start);
+            0
+        }
+        Ok(_) => Refusal::Room.number(),
+        Err(refusal) => refusal.number(),
     }
-    let own_channel = narrow_u8(channel, NO_CHANNEL);
-    let window_width = narrow_u8(window, BEYOND);
-    let start = at_start(own_channel, window_width, vr as u8);
-    if !record_holds(start) {
-        return 12;
-    }
-    if octets.len() < RECORD_OCTETS {
-        return 11;
-    }
-    put_record(octets, 0, start);
-    0
 }
 
 // Lent octets arrive as a frame. The unit accepted has `count` octets from octet `first` of the frame on.
+#[tactic(auto, using(crate::proofs::ChannelCalls::frame_refused_lem, crate::proofs::ChannelCalls::frame_done, crate::proofs::ChannelCalls::frame_not))]
 pub fn frame_call(
     spacecraft: u32,
     pool: u32,
@@ -112,23 +114,26 @@ pub fn frame_call(
     *unit = 0;
     *first = 0;
     *count = 0;
-    if !is_table(table) {
-        return 12;
+    let receiver = match taken(spacecraft, pool, table) {
+        Ok(receiver) => receiver,
+        Err(refusal) => return refusal.number(),
+    };
+    match receiver.frame_turn(frame) {
+        Ok(change) => {
+            *event = event_number(change.event);
+            *channel = change.channel;
+            *unit = unit_number(change.unit);
+            *first = unit_place(change.unit);
+            *count = unit_count(change.unit, frame);
+            put_record(table, change.place, change.next);
+            0
+        }
+        Err(refused) => told_refused(refused, event),
     }
-    let receiver = taken(spacecraft, pool, table);
-    let turn = receiver.frame_turn(frame);
-    let accepted = turn.unit;
-    let next = turn.next;
-    *event = turn.event;
-    *channel = turn.channel;
-    *unit = unit_number(accepted);
-    *first = unit_place(accepted);
-    *count = unit_count(accepted, frame);
-    put_record(table, turn.place, next);
-    turn.refusal
 }
 
 // A buffer is given back, on a channel.
+#[tactic(auto, using(crate::proofs::ChannelCalls::release_refused, crate::proofs::ChannelCalls::release_done, crate::proofs::ChannelCalls::release_not))]
 pub fn release_call(
     spacecraft: u32,
     pool: u32,
@@ -141,19 +146,36 @@ pub fn release_call(
     ensures tables { table.new ≡ (release_call spacecraft pool table.old channel).state }
 {
     *event = 0;
-    if !is_table(table) {
-        return 12;
+    let receiver = match taken(spacecraft, pool, table) {
+        Ok(receiver) => receiver,
+        Err(refusal) => return refusal.number(),
+    };
+    match receiver.release_turn(narrow_u8(channel, NO_CHANNEL)) {
+        Ok(change) => {
+            *event = event_number(change.event);
+            put_record(table, change.place, change.next);
+            0
+        }
+        Err(refused) => told_refused(refused, event),
     }
-    let receiver = taken(spacecraft, pool, table);
-    let number = narrow_u8(channel, NO_CHANNEL);
-    let turn = receiver.release_turn(number);
-    let next = turn.next;
-    *event = turn.event;
-    put_record(table, turn.place, next);
-    turn.refusal
 }
 
-// The control word of a channel.
+// The control word of a channel, at the front of the output.
+#[tactic(auto, using(crate::proofs::ChannelCalls::word_refused, crate::proofs::ChannelCalls::word_met))]
+fn write_word(
+    spacecraft: u32,
+    pool: u32,
+    table: &[u8],
+    channel: u32,
+    output: &mut [u8],
+) -> Result<usize, Refusal>
+    ensures answer { written_answer result ≡ answer (word_call spacecraft pool table.now channel (length output.old)) }
+    ensures memory { output.new ≡ after (word_call spacecraft pool table.now channel (length output.old)) output.old }
+{
+    taken(spacecraft, pool, table)?.word(narrow_u8(channel, NO_CHANNEL), output)
+}
+
+// The same, told by numbers.
 pub fn word_call(
     spacecraft: u32,
     pool: u32,
@@ -166,12 +188,5 @@ pub fn word_call(
     ensures memory { output.new ≡ after (word_call spacecraft pool table.now channel (length output.old)) output.old }
     ensures counted { count.new ≡ count_of (answer (word_call spacecraft pool table.now channel (length output.old))) }
 {
-    *count = 0;
-    if !is_table(table) {
-        return 12;
-    }
-    let receiver = taken(spacecraft, pool, table);
-    let number = narrow_u8(channel, NO_CHANNEL);
-    let written = receiver.word(number, output);
-    told_word(written, count)
+    told_written(write_word(spacecraft, pool, table, channel, output), count)
 }

@@ -10,7 +10,8 @@ use lib.ListN.{length}
 use Rattle.base.specs.Choice.{must}
 use Rattle.base.specs.Limits.{largest_input}
 use Rattle.base.specs.Outcome.{Outcome, Outcome.done, Outcome.refused, answer, after, number_of}
-use Rattle.codeblock.specs.Codeblock.{judged, is_good}
+use Rattle.std.specs.Prelude.{Some, None}
+use Rattle.codeblock.specs.Codeblock.{judged}
 use Rattle.codeblock.specs.declared.Judged.{Judged}
 use Rattle.cltu.specs.Cltu.{reading}
 use Rattle.cltu.proofs.Outcomes.{reading_long}
@@ -33,18 +34,18 @@ module _ (mode : ℕ) (input : List ℕ) (room : ℕ) where
       go true e = refl
       go false e = sym (reading_long (judged (mode_of mode)) input room (leb-false (length input) largest_input e))
 
+pub put_bad : (room : ℕ) → information_put None room ≡ refused 2 0
+unfolding information_put
+put_bad room = refl
+
 module _ (block : Judged) (room : ℕ) where
-  pub put_bad : is_good block ≡ false → information_put block room ≡ refused 2 0
+  pub put_room : room < 7 → information_put (Some block) room ≡ refused 11 0
   unfolding information_put
-  put_bad g = rw g
+  put_room h = rw (lt-leb 7 room h)
 
-  pub put_room : is_good block ≡ true → room < 7 → information_put block room ≡ refused 11 0
+  pub put_done : 7 ≤ room → information_put (Some block) room ≡ done block.information block.corrected
   unfolding information_put
-  put_room g h = rw (g, lt-leb 7 room h)
-
-  pub put_done : is_good block ≡ true → 7 ≤ room → information_put block room ≡ done block.information block.corrected
-  unfolding information_put
-  put_done g h = rw (g, le-leb 7 room h)
+  put_done h = rw (le-leb 7 room h)
 
 module _ (mode : ℕ) (block : List ℕ) (room : ℕ) where
   pub judging_length : (length block ≡ 8 → ⊥) → codeblock_judging mode block room ≡ refused 10 0

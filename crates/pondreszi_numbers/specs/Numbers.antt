@@ -1,26 +1,24 @@
 -- How numbers cross the boundary to C and Rust. What an answer does not have is 0. What is given comes as 32 bits, so that nothing is cut off
 -- on the way: every value is judged as it was given.
-use Rattle.std.specs.Prelude.{ℕ, suc, ◌+◌, ◌*◌, not, List, [], leb, eqb, length}
+use Rattle.std.specs.Prelude.{ℕ, suc, ◌+◌, ◌*◌, not, List, [], leb, eqb, length, Option, Some, None, Ok, Err}
 use Rattle.base.specs.Choice.{pick, must}
 use Rattle.base.specs.Limits.{largest_input, largest_spacecraft, largest_channel}
 use Rattle.base.specs.Outcome.{Outcome, Outcome.done, Outcome.refused, Answer}
 use Rattle.base.specs.Outcome as outcome
 use Rattle.base.specs.Flags.{bit_of}
-use Rattle.codeblock.specs.Codeblock.{judged, is_good}
+use Rattle.codeblock.specs.Codeblock.{judged}
 use Rattle.codeblock.specs.declared.Judged.{Judged}
 use Rattle.codeblock.specs.declared.Mode.{Mode}
 use Rattle.codeblock.specs.declared.Mode.TheVariants.{Detecting, Correcting}
 use Rattle.cltu.specs.Cltu.{Found, reading}
 use Rattle.fop.specs.Limits.{largest_number}
+use Rattle.frame.specs.Answers.{FrameReading}
 use Rattle.frame.specs.Frame.{writing}
 use Rattle.frame.specs.declared.Kind.{Kind}
 use Rattle.frame.specs.declared.Kind.TheVariants.{Ad, Bd, Unlock, SetVr}
-use Rattle.frame.specs.declared.FrameReading.{FrameReading}
-use Rattle.frame.specs.declared.FrameReading.TheVariants.{Frame, Refused}
+use Rattle.clcw.specs.Answers.{WordReading}
 use Rattle.clcw.specs.declared.Clcw.{Clcw}
 use Rattle.clcw.specs.declared.ReceivedWord.{ReceivedWord}
-use Rattle.clcw.specs.declared.WordReading.{WordReading}
-use Rattle.clcw.specs.declared.WordReading.TheVariants.{Word, Invalid, Address, Length as NotFour}
 
 -- the largest number of one octet
 abbrev pub largest_octet : ℕ
@@ -61,8 +59,9 @@ cltu_reading mode input room =
     (reading (mode_of mode) input room))
 
 -- a judged codeblock put into a room of so many octets: 2 where it is bad, then 11; its information, and how many bits were corrected
-unfoldable pub information_put : Judged → ℕ → Outcome ℕ
-information_put block room = must (is_good block) (refused 2 0) (must (leb 7 room) (refused 11 0) (done block.information block.corrected))
+unfoldable pub information_put : Option Judged → ℕ → Outcome ℕ
+information_put None room = refused 2 0
+information_put (Some block) room = must (leb 7 room) (refused 11 0) (done block.information block.corrected)
 
 -- `pondreszi_codeblock_judge`: 10 where the octets are not eight, 12 where the mode is another
 unfoldable pub codeblock_judging : ℕ → List ℕ → ℕ → Outcome ℕ
@@ -102,37 +101,35 @@ kind_value (SetVr value) = value
 
 -- the kind of the frame that was read
 abbrev pub frame_kind : FrameReading → ℕ
-frame_kind (Frame fields) = kind_number fields.kind
-frame_kind (Refused number) = 0
+frame_kind (Ok fields) = kind_number fields.kind
+frame_kind (Err refusal) = 0
 
 -- its N(S), or the value of Set V(R)
 abbrev pub frame_value : FrameReading → ℕ
-frame_value (Frame fields) = kind_value fields.kind
-frame_value (Refused number) = 0
+frame_value (Ok fields) = kind_value fields.kind
+frame_value (Err refusal) = 0
 
 -- the octets of the whole frame (clause 6.2.2.8)
 abbrev pub frame_total : FrameReading → ℕ
-frame_total (Frame fields) = fields.total
-frame_total (Refused number) = 0
+frame_total (Ok fields) = fields.total
+frame_total (Err refusal) = 0
 
 -- the octets of its data field (clause 6.2.3)
 abbrev pub frame_field : FrameReading → ℕ
-frame_field (Frame fields) = fields.field
-frame_field (Refused number) = 0
+frame_field (Ok fields) = fields.field
+frame_field (Err refusal) = 0
 
 -- 1 where a control word was read, 0 where it is invalid or refused
 abbrev pub word_valid : WordReading → ℕ
-word_valid (Word received) = 1
-word_valid Invalid = 0
-word_valid Address = 0
-word_valid NotFour = 0
+word_valid (Ok (Some received)) = 1
+word_valid (Ok None) = 0
+word_valid (Err refusal) = 0
 
 -- a field of the word that was read, 0 where there is none
 abbrev pub word_field : (ReceivedWord → ℕ) → WordReading → ℕ
-word_field f (Word received) = f received
-word_field f Invalid = 0
-word_field f Address = 0
-word_field f NotFour = 0
+word_field f (Ok (Some received)) = f received
+word_field f (Ok None) = 0
+word_field f (Err refusal) = 0
 
 -- Status Field: read and not judged
 abbrev pub status_told : ReceivedWord → ℕ

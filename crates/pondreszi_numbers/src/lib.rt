@@ -7,15 +7,14 @@ pub mod coding;
 pub mod frames;
 pub mod words;
 
-ghost use Rattle.std.specs.Prelude.{◌≡◌, ◌≤◌};
-ghost use Rattle.base.specs.Flags.{bit_of};
+ghost use Rattle.std.specs.Prelude.{◌≡◌};
+ghost use Rattle.base.specs.Outcome.{number_of, count_of};
+ghost use Rattle.base.specs.Refusals.{written_answer};
 ghost use Rattle.pondreszi_numbers.specs.Numbers.{largest_octet, largest_pair, narrow, with_number};
 
-use base::{LARGEST_CHANNEL, LARGEST_SPACECRAFT};
+use base::{LARGEST_CHANNEL, LARGEST_SPACECRAFT, Refusal};
 
-// The largest number of one octet, and of two.
-const LARGEST_OCTET: u32 = 255;
-
+// The largest number of two octets.
 pub const LARGEST_PAIR: u32 = 65535;
 
 // Sequence numbers.
@@ -29,40 +28,44 @@ pub const NO_CHANNEL: u8 = LARGEST_CHANNEL + 1;
 // A value beyond the limits of W, buffers, FARM-B counter, K and Timeout_Type.
 pub const BEYOND: u8 = 255;
 
-// A flag as a number.
-pub fn flag(set: bool) -> u8
-    ensures number { result ≡ bit_of set }
-    ensures small { result ≤ 1 }
+// What a writer answered, by its number and the count of octets written.
+pub fn told_written(written: Result<usize, Refusal>, count: &mut u64) -> u8
+    ensures number { result ≡ number_of (written_answer written) }
+    ensures counted { count.new ≡ count_of (written_answer written) }
 {
-    if set { 1 } else { 0 }
+    match written {
+        Ok(n) => {
+            *count = n as u64;
+            0
+        }
+        Err(refusal) => {
+            *count = 0;
+            refusal.number()
+        }
+    }
 }
 
 // A number in eight bits; another where it does not fit.
 pub fn narrow_u8(number: u32, otherwise: u8) -> u8
     ensures { result ≡ narrow largest_octet otherwise number }
 {
-    if LARGEST_OCTET < number {
-        return otherwise;
-    }
-    number as u8
+    u8::try_from(number).unwrap_or(otherwise)
 }
 
-// The same in 16 bits.
+// The same in 16 bits. One function for both would need a trait that tells each type's largest number, for two lines.
 pub fn narrow_u16(number: u32, otherwise: u16) -> u16
     ensures { result ≡ narrow largest_pair otherwise number }
 {
-    if LARGEST_PAIR < number {
-        return otherwise;
-    }
-    number as u16
+    u16::try_from(number).unwrap_or(otherwise)
 }
 
 // Part of an address, or one beyond its limit where the number that goes with it is beyond its own.
 pub fn with_number(number: u32, own: u32, beyond: u32) -> u32
     ensures { result ≡ with_number number own beyond }
 {
-    if LARGEST_NUMBER < number {
-        return beyond;
+    if number <= LARGEST_NUMBER {
+        own
+    } else {
+        beyond
     }
-    own
 }

@@ -1,27 +1,10 @@
-// Clause 6.3: what the writer and the reader of control words answered, by numbers. Flags go out as 1 or 0.
+// Clause 6.3: what the reader of control words answered, by numbers. Flags go out as 1 or 0.
 ghost use Rattle.std.specs.Prelude.{◌≡◌};
-ghost use Rattle.base.specs.Outcome.{number_of, count_of};
-ghost use Rattle.clcw.specs.Answers.{written_answer, reading_number};
+ghost use Rattle.base.specs.Refusals.{result_number};
 ghost use Rattle.pondreszi_numbers.specs.Numbers.{word_valid, word_field, status_told, rf_told, flags_told, counter_told, report_told};
 
-use crate::flag;
-use clcw::{ReceivedWord, WordReading, WordWritten};
-
-// What the writer answered, by its number and the count of octets written.
-pub fn told_written(written: WordWritten, count: &mut u64) -> u8
-    ensures number { result ≡ number_of (written_answer written) }
-    ensures counted { count.new ≡ count_of (written_answer written) }
-{
-    *count = 0;
-    match written {
-        WordWritten::Done(n) => {
-            *count = n as u64;
-            0
-        }
-        WordWritten::Setting => 12,
-        WordWritten::Room => 11,
-    }
-}
+use base::Refusal;
+use clcw::ReceivedWord;
 
 // A word that was read, by its fields as numbers.
 fn put_word(
@@ -40,15 +23,15 @@ fn put_word(
 {
     let word = received.word;
     *status = received.status;
-    *rf = flag(received.no_rf) * 2 + flag(received.no_bit_lock);
-    *flags = flag(word.lockout) * 4 + flag(word.wait) * 2 + flag(word.retransmit);
+    *rf = u8::from(received.no_rf) * 2 + u8::from(received.no_bit_lock);
+    *flags = u8::from(word.lockout) * 4 + u8::from(word.wait) * 2 + u8::from(word.retransmit);
     *counter = word.counter;
     *report = word.report;
 }
 
 // What the reader answered, by its number, whether it is a valid word, and its fields; 0 for what there is none of.
 pub fn told_reading(
-    reading: WordReading,
+    reading: Result<Option<ReceivedWord>, Refusal>,
     valid: &mut u8,
     status: &mut u8,
     rf: &mut u8,
@@ -56,7 +39,7 @@ pub fn told_reading(
     counter: &mut u8,
     report: &mut u8,
 ) -> u8
-    ensures number { result ≡ reading_number reading }
+    ensures number { result ≡ result_number reading }
     ensures validity { valid.new ≡ word_valid reading }
     ensures statuses { status.new ≡ word_field status_told reading }
     ensures radio { rf.new ≡ word_field rf_told reading }
@@ -71,13 +54,12 @@ pub fn told_reading(
     *counter = 0;
     *report = 0;
     match reading {
-        WordReading::Word(received) => {
+        Ok(Some(received)) => {
             *valid = 1;
             put_word(received, status, rf, flags, counter, report);
             0
         }
-        WordReading::Invalid => 0,
-        WordReading::Address => 7,
-        WordReading::Length => 10,
+        Ok(None) => 0,
+        Err(refusal) => refusal.number(),
     }
 }

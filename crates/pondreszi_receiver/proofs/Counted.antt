@@ -14,7 +14,8 @@ use Rattle.frame.proofs.Accepted.{accepted, part_frame}
 use Rattle.frame.proofs.Octets.{length_data}
 use Rattle.receiver.specs.Receiver.{part_for}
 use Rattle.farm.specs.declared.AcceptedUnit.{AcceptedUnit}
-use Rattle.farm.specs.declared.AcceptedUnit.TheVariants.{None, AdUnit, BdUnit}
+use Rattle.farm.specs.declared.AcceptedUnit.TheVariants.{Ad, Bd}
+use Rattle.std.specs.Prelude.{Option, Some, None}
 use Rattle.pondreszi_receiver.specs.Receivers.{data_count, unit_count}
 
 -- the octets of the data field, by what the frame is
@@ -36,8 +37,8 @@ module _ (frame : List ℕ) where
       go false e = low_count (leb-false 8 (total_of frame) e)
 
 -- the octets of a unit, by what the unit is
-pub count_of : (frame : List ℕ) {n : ℕ} {u v : AcceptedUnit} → u ≡ v → n ≡ unit_count v frame → n ≡ unit_count u frame
-count_of frame p h = h ∙ ap (λ (x : AcceptedUnit). unit_count x frame) (sym p)
+pub count_of : (frame : List ℕ) {n : ℕ} {u v : Option AcceptedUnit} → u ≡ v → n ≡ unit_count v frame → n ≡ unit_count u frame
+count_of frame p h = h ∙ ap (λ (x : Option AcceptedUnit). unit_count x frame) (sym p)
 
 -- the unit accepted is the data field of a frame that is not refused
 module _ (frame : List ℕ) (spacecraft channel : ℕ) where
@@ -46,11 +47,11 @@ module _ (frame : List ℕ) (spacecraft channel : ℕ) where
       let y = accepted frame spacecraft channel e in
       whole_count frame y.low y.whole ∙ sym (length_data frame (total_of frame) y.low y.whole) ∙ ap length (sym (part_frame frame spacecraft channel e))
 
-  pub unit_counted : (u : AcceptedUnit) → ((u ≡ None → ⊥) → refusal_of frame spacecraft channel ≡ 0) → unit_count u frame ≡ length (part_for u (part_of frame spacecraft channel))
+  pub unit_counted : (u : Option AcceptedUnit) → ((u ≡ None → ⊥) → refusal_of frame spacecraft channel ≡ 0) → unit_count u frame ≡ length (part_for u (part_of frame spacecraft channel))
   unit_counted None h = refl
-  unit_counted AdUnit h =
+  unit_counted (Some Ad) h =
       part_length (h (λ e. let z : ◌≡◌ {A = ℕ} 0 1 = cc in
       omega arith))
-  unit_counted BdUnit h =
+  unit_counted (Some Bd) h =
       part_length (h (λ e. let z : ◌≡◌ {A = ℕ} 0 1 = cc in
       omega arith))

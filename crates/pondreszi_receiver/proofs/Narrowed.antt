@@ -8,20 +8,28 @@ use lib.Dec.{leb, eqb}
 use Rattle.base.specs.Choice.{must}
 use Rattle.base.specs.Limits.{largest_spacecraft, largest_channel}
 use Rattle.receiver.specs.Receiver.{largest_buffers, start_of}
-use Rattle.receiver.specs.declared.Start.{Start}
-use Rattle.receiver.specs.declared.Start.TheVariants.{Setting}
+use Rattle.std.specs.Prelude.{Result, Err}
+use Rattle.base.specs.declared.Refusal.{Refusal}
+use Rattle.base.specs.declared.Refusal.TheVariants.{Setting}
+use Rattle.receiver.specs.declared.Receiver.{Receiver}
 use Rattle.fop.specs.Limits.{largest_number}
 use Rattle.pondreszi_numbers.specs.Numbers.{largest_octet, narrow}
 use Rattle.pondreszi_numbers.proofs.Narrowed.{Alike, beyond, Spacecraft, Channel, address}
 use Rattle.pondreszi_receiver.specs.Receivers.{start_given}
 
 -- a receiver at its start
-refuses_window : (on : Start) (y : ℕ) → 254 < y → must (eqb (y % 2) 0) Setting (must (leb 2 y) Setting (must (leb y 254) Setting on)) ≡ Setting
+abbrev Start : Type 0
+Start = Result Receiver Refusal
+
+abbrev outside : Start
+outside = Err Setting
+
+refuses_window : (on : Start) (y : ℕ) → 254 < y → must (eqb (y % 2) 0) outside (must (leb 2 y) outside (must (leb y 254) outside on)) ≡ outside
 refuses_window on y h =
     let l : 2 ≤ y = omega arith in
     rw (le-leb 2 y l, lt-leb y 254 h) (go (eqb (y % 2) 0))
   where
-    go : (b : Bool) → ◌≡◌ {A = Start} (must b Setting Setting) Setting
+    go : (b : Bool) → ◌≡◌ {A = Start} (must b outside outside) outside
     go true = refl
     go false = refl
 
@@ -37,7 +45,7 @@ module _ (vr : ℕ) where
   window_started : (spacecraft channel buffers : ℕ) → Alike 254 (λ w. start_of spacecraft channel w vr buffers)
   unfolding start_of
   window_started spacecraft channel buffers y z h k =
-      ap (λ (x : Start). must (leb spacecraft largest_spacecraft) Setting (must (leb channel largest_channel) Setting x))
+      ap (λ (x : Start). must (leb spacecraft largest_spacecraft) outside (must (leb channel largest_channel) outside x))
       (refuses_window _ y h ∙ sym (refuses_window _ z k))
 
   buffers_started : (spacecraft channel window : ℕ) → Alike largest_buffers (start_of spacecraft channel window vr)
@@ -59,7 +67,7 @@ module _ (vr : ℕ) where
 
 -- by the numbers given
 module _ (spacecraft channel window vr buffers : ℕ) where
-  pub vr_beyond : largest_number < vr → Setting ≡ start_given spacecraft channel window vr buffers
+  pub vr_beyond : largest_number < vr → outside ≡ start_given spacecraft channel window vr buffers
   unfolding start_given
   vr_beyond h = rw (lt-leb vr largest_number h)
 

@@ -8,31 +8,30 @@ ghost use Rattle.memory.specs.Placed.{placed};
 ghost use Rattle.receiver_octets.specs.Kept.{octets_of};
 ghost use Rattle.pondreszi_receiver.specs.Receivers.{unit_number, unit_place, data_count, unit_count, start_given, new_call, frame_call, release_call, word_call};
 
-use base::SMALLEST_FRAME;
+use base::{Refusal, SMALLEST_FRAME};
 use farm::{AcceptedUnit, event_number};
-use pondreszi_numbers::words::told_written;
-use pondreszi_numbers::{BEYOND, LARGEST_NUMBER, NO_CHANNEL, NO_SPACECRAFT, narrow_u8, narrow_u16};
-use receiver::{Receiver, Released, Start};
+use frame_header::HEADER_LENGTH;
+use pondreszi_numbers::{BEYOND, NO_CHANNEL, NO_SPACECRAFT, narrow_u8, narrow_u16, told_written};
+use receiver::{Received, Receiver};
 use receiver_octets::{STATE_OCTETS, octets_of, receiver_in};
 
 // The unit accepted as a number, and where it begins in the frame.
-pub fn unit_number(unit: AcceptedUnit) -> u8
+pub fn unit_number(unit: Option<AcceptedUnit>) -> u8
     ensures { result ≡ unit_number unit }
 {
     match unit {
-        AcceptedUnit::None => 0,
-        AcceptedUnit::AdUnit => 1,
-        AcceptedUnit::BdUnit => 2,
+        None => 0,
+        Some(AcceptedUnit::Ad) => 1,
+        Some(AcceptedUnit::Bd) => 2,
     }
 }
 
-pub fn unit_place(unit: AcceptedUnit) -> u64
+pub fn unit_place(unit: Option<AcceptedUnit>) -> u64
     ensures { result ≡ unit_place unit }
 {
     match unit {
-        AcceptedUnit::None => 0,
-        AcceptedUnit::AdUnit => 5,
-        AcceptedUnit::BdUnit => 5,
+        None => 0,
+        Some(_) => HEADER_LENGTH as u64,
     }
 }
 
@@ -44,25 +43,20 @@ fn data_count(frame: &[u8]) -> u64
     if frame.len() < SMALLEST_FRAME {
         return 0;
     }
-    let high = frame[2] % 4;
-    let total = (high as usize) * 256 + (frame[3] as usize) + 1;
-    if total < SMALLEST_FRAME {
-        return 0;
-    }
-    if frame.len() < total {
+    let total = u16::from_be_bytes([frame[2] % 4, frame[3]]) as usize + 1;
+    if total < SMALLEST_FRAME || frame.len() < total {
         return 0;
     }
     (total - 7) as u64
 }
 
 // The octets of the unit accepted, which is the frame's data field.
-pub fn unit_count(unit: AcceptedUnit, frame: &[u8]) -> u64
+pub fn unit_count(unit: Option<AcceptedUnit>, frame: &[u8]) -> u64
     ensures { result ≡ unit_count unit frame.now }
 {
     match unit {
-        AcceptedUnit::None => 0,
-        AcceptedUnit::AdUnit => data_count(frame),
-        AcceptedUnit::BdUnit => data_count(frame),
+        None => 0,
+        Some(_) => data_count(frame),
     }
 }
 
@@ -70,27 +64,28 @@ pub fn unit_count(unit: AcceptedUnit, frame: &[u8]) -> u64
 fn keep(receiver: Receiver, state: &mut [u8])
     ensures { state.new ≡ placed state.old 0 (octets_of receiver) }
 {
-    let octets = octets_of(receiver);
-    memory::put(state, 0, &octets);
+    memory::put(state, 0, &octets_of(receiver));
 }
 
 // A receiver by the numbers given.
-fn started(spacecraft: u32, channel: u32, window: u32, vr: u32, buffers: u32) -> Start
+fn started(
+    spacecraft: u32,
+    channel: u32,
+    window: u32,
+    vr: u32,
+    buffers: u32,
+) -> Result<Receiver, Refusal>
     ensures { result ≡ start_given spacecraft channel window vr buffers }
 {
-    if LARGEST_NUMBER < vr {
-        return Start::Setting;
-    }
-    let own_spacecraft = narrow_u16(spacecraft, NO_SPACECRAFT);
-    let own_channel = narrow_u8(channel, NO_CHANNEL);
-    let window_width = narrow_u8(window, BEYOND);
-    let buffer_count = narrow_u8(buffers, BEYOND);
+    let Ok(number) = u8::try_from(vr) else {
+        return Err(Refusal::Setting);
+    };
     Receiver::new(
-        own_spacecraft,
-        own_channel,
-        window_width,
-        vr as u8,
-        buffer_count,
+        narrow_u16(spacecraft, NO_SPACECRAFT),
+        narrow_u8(channel, NO_CHANNEL),
+        narrow_u8(window, BEYOND),
+        number,
+        narrow_u8(buffers, BEYOND),
     )
 }
 
@@ -106,15 +101,14 @@ pub fn new_call(
     ensures number { result ≡ (new_call spacecraft channel window vr buffers state.old).number }
     ensures states { state.new ≡ (new_call spacecraft channel window vr buffers state.old).state }
 {
-    let start = started(spacecraft, channel, window, vr, buffers);
-    let Start::Ready(receiver) = start else {
-        return 12;
-    };
-    if state.len() < STATE_OCTETS {
-        return 11;
+    match started(spacecraft, channel, window, vr, buffers) {
+        Ok(receiver) if state.len() >= STATE_OCTETS => {
+            keep(receiver, state);
+            0
+        }
+        Ok(_) => Refusal::Room.number(),
+        Err(refusal) => refusal.number(),
     }
-    keep(receiver, state);
-    0
 }
 
 // Lent octets arrive as a frame. The unit accepted has `count` octets from octet `first` of the frame on.
@@ -137,20 +131,20 @@ pub fn frame_call(
     *unit = 0;
     *first = 0;
     *count = 0;
-    let start = receiver_in(state);
-    let Start::Ready(receiver) = start else {
-        return 12;
+    let receiver = match receiver_in(state) {
+        Ok(receiver) => receiver,
+        Err(refusal) => return refusal.number(),
     };
     let received = receiver.receive(frame);
-    let met = received.event;
-    let accepted = received.unit;
-    let next = received.next;
-    *event = event_number(met);
-    *unit = unit_number(accepted);
-    *first = unit_place(accepted);
-    *count = unit_count(accepted, frame);
-    keep(next, state);
-    received.refusal
+    *event = event_number(received.event);
+    *unit = unit_number(received.unit);
+    *first = unit_place(received.unit);
+    *count = unit_count(received.unit, frame);
+    keep(received.next, state);
+    match received.refusal {
+        Some(refusal) => refusal.number(),
+        None => 0,
+    }
 }
 
 // A buffer is given back.
@@ -160,19 +154,24 @@ pub fn release_call(state: &mut [u8], event: &mut u8) -> u8
     ensures states { state.new ≡ (release_call state.old).state }
 {
     *event = 0;
-    let start = receiver_in(state);
-    let Start::Ready(receiver) = start else {
-        return 12;
+    let receiver = match receiver_in(state) {
+        Ok(receiver) => receiver,
+        Err(refusal) => return refusal.number(),
     };
-    let released = receiver.release();
-    let Released::Done(received) = released else {
-        return 13;
-    };
-    let met = received.event;
-    let freed = received.next;
-    *event = event_number(met);
-    keep(freed, state);
-    0
+    match receiver.release() {
+        Ok(
+            Received {
+                event: met,
+                next,
+                ..
+            },
+        ) => {
+            *event = event_number(met);
+            keep(next, state);
+            0
+        }
+        Err(refusal) => refusal.number(),
+    }
 }
 
 // The control word.
@@ -181,11 +180,8 @@ pub fn word_call(state: &[u8], output: &mut [u8], count: &mut u64) -> u8
     ensures memory { output.new ≡ after (word_call state.now (length output.old)) output.old }
     ensures counted { count.new ≡ count_of (answer (word_call state.now (length output.old))) }
 {
-    *count = 0;
-    let start = receiver_in(state);
-    let Start::Ready(receiver) = start else {
-        return 12;
-    };
-    let written = receiver.word(output);
-    told_written(written, count)
+    match receiver_in(state) {
+        Ok(receiver) => told_written(receiver.word(output), count),
+        Err(refusal) => told_written(Err(refusal), count),
+    }
 }

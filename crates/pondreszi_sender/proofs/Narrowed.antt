@@ -6,15 +6,18 @@ use borrow.Author.Tests.{le-leb, lt-leb}
 use Rattle.base.specs.Limits.{largest_spacecraft, largest_channel}
 use Rattle.base.proofs.Tests.{both_false}
 use Rattle.fop.specs.Limits.{largest_number, largest_k, largest_timer, largest_transmission_limit, largest_timeout_type}
-use Rattle.sender.specs.Start.{refused_start, starting_of}
-use Rattle.sender.specs.declared.Start.{Start as SenderStart}
+use Rattle.sender.specs.Start.{starting_of}
+use Rattle.std.specs.Prelude.{Result, Err}
+use Rattle.base.specs.declared.Refusal.{Refusal}
+use Rattle.base.specs.declared.Refusal.TheVariants.{Setting}
+use Rattle.sender.specs.declared.Sender.{Sender}
 use Rattle.pondreszi_numbers.specs.Numbers.{largest_octet, narrow}
 use Rattle.pondreszi_numbers.proofs.Narrowed.{Alike, beyond, Spacecraft, Channel, address}
 use Rattle.pondreszi_sender.specs.Senders.{settings_of, start_given as sender_given}
 
 -- a sender at its start
 module _ (t1 limit vs nnr lent : ℕ) where
-  abbrev starts : ℕ → ℕ → ℕ → ℕ → SenderStart
+  abbrev starts : ℕ → ℕ → ℕ → ℕ → Result Sender Refusal
   starts k type spacecraft channel = starting_of (settings_of k t1 limit type spacecraft channel) vs nnr lent
 
   k_started : (type spacecraft channel : ℕ) → Alike largest_k (λ k. starts k type spacecraft channel)
@@ -43,10 +46,10 @@ module _ (t1 limit vs nnr lent : ℕ) where
 
 -- by the numbers given
 module _ (k t1 limit type spacecraft channel vs nnr lent : ℕ) where
-  abbrev given : SenderStart
+  abbrev given : Result Sender Refusal
   given = sender_given k t1 limit type spacecraft channel vs nnr lent
 
-  module _ {r : SenderStart} (e : r ≡ refused_start 12) where
+  module _ {r : Result Sender Refusal} (e : r ≡ Err Setting) where
     pub timer_beyond : largest_timer < t1 → r ≡ given
     unfolding sender_given
     timer_beyond h = rw (lt-leb t1 largest_timer h) e
@@ -64,7 +67,7 @@ module _ (k t1 limit type spacecraft channel vs nnr lent : ℕ) where
     nnr_beyond h l m n =
         rw (le-leb t1 largest_timer h, le-leb limit largest_transmission_limit l, le-leb vs largest_number m, lt-leb nnr largest_number n) e
 
-  pub all_within : {r : SenderStart} → t1 ≤ largest_timer → limit ≤ largest_transmission_limit → vs ≤ largest_number → nnr ≤ largest_number
+  pub all_within : {r : Result Sender Refusal} → t1 ≤ largest_timer → limit ≤ largest_transmission_limit → vs ≤ largest_number → nnr ≤ largest_number
       → r ≡ starting_of (settings_of k t1 limit type spacecraft channel) vs nnr lent → r ≡ given
   unfolding sender_given
   all_within h l m n e =

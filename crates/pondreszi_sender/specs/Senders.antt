@@ -1,6 +1,9 @@
 -- The sender across the boundary: its state as octets in a lent buffer, its answer as octets in another (crate sender_octets).
-use Rattle.std.specs.Prelude.{ℕ, Bool, ◌||◌, List, leb, eqb, length}
+use Rattle.std.specs.Prelude.{ℕ, Bool, ◌||◌, List, leb, eqb, length, Result, Ok, Err}
 use Rattle.base.specs.Choice.{pick, must}
+use Rattle.base.specs.Refusals.{refusal_number}
+use Rattle.base.specs.declared.Refusal.{Refusal}
+use Rattle.base.specs.declared.Refusal.TheVariants.{Setting}
 use Rattle.memory.specs.Placed.{placed}
 use Rattle.fop.specs.Limits.{largest_number, largest_timer, largest_transmission_limit}
 use Rattle.sender_values.specs.declared.SenderState.{SenderState}
@@ -8,9 +11,9 @@ use Rattle.sender_values.specs.declared.Settings.{Settings}
 use Rattle.fop.specs.declared.Lower.{Lower}
 use Rattle.fop.specs.declared.Lower.TheVariants as lower
 use Rattle.sender.specs.declared.Event.{Event}
-use Rattle.sender.specs.declared.Start.{Start}
+use Rattle.sender.specs.declared.Sender.{Sender}
 use Rattle.sender.specs.Answers.{Step}
-use Rattle.sender.specs.Start.{refused_start, starting_of}
+use Rattle.sender.specs.Start.{starting_of}
 use Rattle.sender.specs.Events.{request_ad_of, request_bd_of, directive_of, tick_of, lower_layer_of, control_word_of, event_of}
 use Rattle.sender_octets.specs.Kept.{state_octets, octets_of, sender_in}
 use Rattle.sender_octets.specs.Answer.{answer_octets, octets_of_answer}
@@ -39,11 +42,14 @@ done_call step state answer = record {
 }
 
 -- octets that are no state are 12; an answer's buffer that is too short is 11; then the event
+abbrev pub called_with : Result Sender Refusal → (SenderState → Step) → List ℕ → List ℕ → List ℕ → List ℕ → Called
+called_with (Err refusal) event state store output answer = refused_call (refusal_number refusal) state store output answer
+called_with (Ok sender) event state store output answer =
+    must (leb answer_octets (length answer)) (refused_call 11 state store output answer) (done_call (event sender.fop) state answer)
+
+-- a call by the sender that the octets of the state are
 abbrev pub called_by : (SenderState → Step) → List ℕ → List ℕ → List ℕ → List ℕ → Called
-called_by event state store output answer =
-    must (eqb (sender_in state).refusal 0) (refused_call 12 state store output answer)
-    (must (leb answer_octets (length answer)) (refused_call 11 state store output answer)
-    (done_call (event (sender_in state).sender.fop) state answer))
+called_by event state store output answer = called_with (sender_in state) event state store output answer
 
 -- a call for any event, with the octets that it brings
 unfoldable pub event_call : List ℕ → Event → List ℕ → List ℕ → List ℕ → List ℕ → Called
@@ -101,11 +107,10 @@ pub record New : Type 0 where
   pub state : List ℕ
 
 -- a start, its state at the front of the lent buffer
-abbrev pub started_call : Start → List ℕ → New
-started_call start state =
-    must (eqb start.refusal 0) (record { number = start.refusal; state = state })
-    (must (leb state_octets (length state)) (record { number = 11; state = state })
-    (record { number = 0; state = placed state 0 (octets_of start.sender.fop) }))
+abbrev pub started_call : Result Sender Refusal → List ℕ → New
+started_call (Err refusal) state = record { number = refusal_number refusal; state = state }
+started_call (Ok sender) state =
+    must (leb state_octets (length state)) (record { number = 11; state = state }) (record { number = 0; state = placed state 0 (octets_of sender.fop) })
 
 -- the settings given
 abbrev pub settings_of : ℕ → ℕ → ℕ → ℕ → ℕ → ℕ → Settings
@@ -113,12 +118,12 @@ settings_of k t1 limit type spacecraft channel =
     record { k = k; t1_initial = t1; transmission_limit = limit; timeout_type = type; spacecraft = spacecraft; channel = channel }
 
 -- a sender by the numbers given: 12 where one is outside its limit, T1_Initial, Transmission_Limit, V(S) and NN(R) too
-unfoldable pub start_given : ℕ → ℕ → ℕ → ℕ → ℕ → ℕ → ℕ → ℕ → ℕ → Start
+unfoldable pub start_given : ℕ → ℕ → ℕ → ℕ → ℕ → ℕ → ℕ → ℕ → ℕ → Result Sender Refusal
 start_given k t1 limit type spacecraft channel vs nnr lent =
-    must (leb t1 largest_timer) (refused_start 12)
-    (must (leb limit largest_transmission_limit) (refused_start 12)
-    (must (leb vs largest_number) (refused_start 12)
-    (must (leb nnr largest_number) (refused_start 12)
+    must (leb t1 largest_timer) (Err Setting)
+    (must (leb limit largest_transmission_limit) (Err Setting)
+    (must (leb vs largest_number) (Err Setting)
+    (must (leb nnr largest_number) (Err Setting)
     (starting_of (settings_of k t1 limit type spacecraft channel) vs nnr lent))))
 
 -- `pondreszi_sender_new`: a sender at its start (document 01, "FOP-1")

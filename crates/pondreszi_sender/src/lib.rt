@@ -2,43 +2,19 @@
 // sender_octets). One call for every event, and what the numbers given are to the sender.
 #![tactic(auto)]
 
-ghost use Rattle.std.specs.Prelude.{◌≡◌, leb, eqb, length};
-ghost use Rattle.base.specs.Choice.{must};
+ghost use Rattle.std.specs.Prelude.{◌≡◌, length};
 ghost use Rattle.memory.specs.Placed.{placed};
-ghost use Rattle.sender_octets.specs.Kept.{octets_of, sender_in};
-ghost use Rattle.sender_octets.specs.Answer.{answer_octets, octets_of_answer};
+ghost use Rattle.sender_octets.specs.Kept.{octets_of};
+ghost use Rattle.sender_octets.specs.Answer.{octets_of_answer};
 ghost use Rattle.pondreszi_sender.specs.Senders.{event_call, lower_numbered, narrow_number, start_given};
 
+use base::Refusal;
 use fop::Lower;
-use pondreszi_numbers::{
-    BEYOND, LARGEST_NUMBER, LARGEST_PAIR, NO_CHANNEL, NO_SPACECRAFT, narrow_u8, narrow_u16,
-};
-use sender::{Answer, Event, Sender, Start, refused_state};
+use pondreszi_numbers::{BEYOND, LARGEST_PAIR, NO_CHANNEL, NO_SPACECRAFT, narrow_u8, narrow_u16};
+use sender::{Answer, Event, Sender};
 use sender_octets::writer::put_state;
 use sender_octets::{ANSWER_OCTETS, octets_of_answer, sender_in};
 use sender_values::Settings;
-
-// Document 01, "Limits".
-const LARGEST_TIMER: u32 = 65535;
-
-const LARGEST_TRANSMISSION_LIMIT: u32 = 255;
-
-// The sender that a call reaches: 12 where the octets are no state, then 11 where the answer has no room.
-fn reach(state: &[u8], answer: &[u8]) -> Start
-    ensures number { result.refusal ≡ must (eqb (sender_in state.now).refusal 0) 12 (must (leb answer_octets (length answer.now)) 11 0) }
-    ensures sender { result.sender ≡ (sender_in state.now).sender }
-{
-    let mut reached = sender_in(state);
-    if reached.refusal != 0 {
-        reached.refusal = 12;
-        return reached;
-    }
-    if answer.len() < ANSWER_OCTETS {
-        reached.refusal = 11;
-        return reached;
-    }
-    reached
-}
 
 // An answer, told: the next state and the answer as octets at the front of their buffers, and the refusal, 0 for done.
 fn tell(told: Answer, state: &mut [u8], answer: &mut [u8]) -> u8
@@ -53,7 +29,7 @@ fn tell(told: Answer, state: &mut [u8], answer: &mut [u8]) -> u8
     told.refusal
 }
 
-// Any event, with the octets that it brings.
+// Any event, with the octets that it brings: 12 where the octets are no state, then 11 where the answer has no room.
 pub fn event_call(
     state: &mut [u8],
     event: Event,
@@ -68,26 +44,21 @@ pub fn event_call(
     ensures output { output.new ≡ (event_call state.old event octets.now store.old output.old answer.old).output }
     ensures answer { answer.new ≡ (event_call state.old event octets.now store.old output.old answer.old).answer }
 {
-    let reached = reach(state, answer);
-    if reached.refusal != 0 {
-        return reached.refusal;
+    match sender_in(state) {
+        Ok(sender) if answer.len() >= ANSWER_OCTETS => {
+            let told = sender.event(event, octets, store, output);
+            tell(told, state, answer)
+        }
+        Ok(_) => Refusal::Room.number(),
+        Err(refusal) => refusal.number(),
     }
-    let sender = reached.sender;
-    let told = sender.event(event, octets, store, output);
-    tell(told, state, answer)
 }
 
 // The number of a directive, as the sender takes it: what does not fit, its value too, is the invalid directive.
 pub fn narrow_number(number: u32, value: u32) -> u8
     ensures { result ≡ narrow_number number value }
 {
-    if value <= LARGEST_PAIR {
-        return narrow_u8(number, 0);
-    }
-    if number == 4 {
-        return 0;
-    }
-    if 7 <= number {
+    if value > LARGEST_PAIR && matches!(number, 4 | 7..) {
         return 0;
     }
     narrow_u8(number, 0)
@@ -97,22 +68,14 @@ pub fn narrow_number(number: u32, value: u32) -> u8
 pub fn lower_numbered(number: u32) -> Lower
     ensures { result ≡ lower_numbered number }
 {
-    if number == 1 {
-        return Lower::AdAccept;
+    match number {
+        1 => Lower::AdAccept,
+        2 => Lower::AdReject,
+        3 => Lower::BcAccept,
+        4 => Lower::BcReject,
+        5 => Lower::BdAccept,
+        _ => Lower::BdReject,
     }
-    if number == 2 {
-        return Lower::AdReject;
-    }
-    if number == 3 {
-        return Lower::BcAccept;
-    }
-    if number == 4 {
-        return Lower::BcReject;
-    }
-    if number == 5 {
-        return Lower::BdAccept;
-    }
-    Lower::BdReject
 }
 
 // A sender by the numbers given.
@@ -126,28 +89,25 @@ pub fn started(
     vs: u32,
     nnr: u32,
     store: &[u8],
-) -> Start
+) -> Result<Sender, Refusal>
     ensures { result ≡ start_given k t1_initial transmission_limit timeout_type spacecraft channel vs nnr (length store.now) }
 {
-    if LARGEST_TIMER < t1_initial {
-        return refused_state();
-    }
-    if LARGEST_TRANSMISSION_LIMIT < transmission_limit {
-        return refused_state();
-    }
-    if LARGEST_NUMBER < vs {
-        return refused_state();
-    }
-    if LARGEST_NUMBER < nnr {
-        return refused_state();
-    }
+    let (Ok(t1_initial), Ok(transmission_limit)) = (
+        u16::try_from(t1_initial),
+        u8::try_from(transmission_limit),
+    ) else {
+        return Err(Refusal::Setting);
+    };
+    let (Ok(vs), Ok(nnr)) = (u8::try_from(vs), u8::try_from(nnr)) else {
+        return Err(Refusal::Setting);
+    };
     let settings = Settings {
         k: narrow_u8(k, BEYOND),
-        t1_initial: t1_initial as u16,
-        transmission_limit: transmission_limit as u8,
+        t1_initial,
+        transmission_limit,
         timeout_type: narrow_u8(timeout_type, BEYOND),
         spacecraft: narrow_u16(spacecraft, NO_SPACECRAFT),
         channel: narrow_u8(channel, NO_CHANNEL),
     };
-    Sender::new(settings, vs as u8, nnr as u8, store)
+    Sender::new(settings, vs, nnr, store)
 }

@@ -2,16 +2,13 @@
 // that of crate program_console: see its proofs/Program. Here are only the reading and the writing.
 #![tactic(auto)]
 
-ghost use Rattle.std.specs.Prelude.{◌≡◌, ◌*◌, ◌≤◌, length};
-ghost use Rattle.base.specs.Outcome.{number_of, count_of};
-ghost use Rattle.text.specs.Answers.{written_answer};
-ghost use Rattle.program_rows.specs.Rows.{header_text, row_room};
+ghost use Rattle.std.specs.Prelude.{◌≤◌, length, IsOkAnd};
 
+use base::Refusal;
 use program_console::Console;
 use program_rows::ROW_ROOM;
 use std::io;
 use std::io::{Read, Write};
-use text::NumberWritten;
 
 // Octets read at once.
 const CHUNK: usize = 2048;
@@ -19,13 +16,20 @@ const CHUNK: usize = 2048;
 // Octets of output: a row's for each octet read.
 const ROOM: usize = CHUNK * ROW_ROOM;
 
+// The program's memory: what is read at once, and what is written for it.
+#[derive(Drop)]
+struct Memory {
+    input: [u8; CHUNK],
+    output: [u8; ROOM],
+}
+
 // Writes what stands at the front of the output. Nothing is ever refused here for want of room.
-fn emit<W: Write>(written: NumberWritten, out: &[u8], to: &mut W) -> io::Result<()>
-    requires { (number_of (written_answer written) ≡ 0) × (count_of (written_answer written) ≤ length out.now) }
+fn emit<W: Write>(written: Result<usize, Refusal>, output: &[u8], to: &mut W) -> io::Result<()>
+    requires { IsOkAnd written (λ count. count ≤ length output.now) }
 {
     match written {
-        NumberWritten::Done(n) => to.write_all(&out[..n]),
-        NumberWritten::Room => unreachable!(),
+        Ok(count) => to.write_all(&output[..count]),
+        Err(_) => unreachable!(),
     }
 }
 
@@ -34,32 +38,22 @@ fn some<R: Read, W: Write>(
     console: Console,
     from: &mut R,
     to: &mut W,
-    input: &mut [u8],
-    out: &mut [u8],
-) -> io::Result<Option<Console>>
-    requires { length input.old * row_room ≤ length out.old }
-{
-    let n = from.read(input)?;
-    if n == 0 {
+    memory: &mut Memory,
+) -> io::Result<Option<Console>> {
+    let count = from.read(&mut memory.input)?;
+    if count == 0 {
         return Ok(None);
     }
-    let fed = console.feed(&input[..n], out);
-    emit(fed.written, out, to)?;
+    let fed = console.feed(&memory.input[..count], &mut memory.output);
+    emit(fed.written, &memory.output, to)?;
     Ok(Some(fed.console))
 }
 
 // All of the input. A proved loop has to end, so the reads are counted up to a number that no run reaches.
-fn all<R: Read, W: Write>(
-    from: &mut R,
-    to: &mut W,
-    input: &mut [u8],
-    out: &mut [u8],
-) -> io::Result<Console>
-    requires { length input.old * row_room ≤ length out.old }
-{
+fn all<R: Read, W: Write>(from: &mut R, to: &mut W, memory: &mut Memory) -> io::Result<Console> {
     let mut console = Console::new();
     for _ in 0..u64::MAX {
-        let Some(next) = some(console, from, to, input, out)? else {
+        let Some(next) = some(console, from, to, memory)? else {
             break;
         };
         console = next;
@@ -68,23 +62,18 @@ fn all<R: Read, W: Write>(
 }
 
 // The header, the rows, and the row of a last line without a newline.
-fn run<R: Read, W: Write>(
-    from: &mut R,
-    to: &mut W,
-    input: &mut [u8],
-    out: &mut [u8],
-) -> io::Result<()>
-    requires { (length input.old * row_room ≤ length out.old) × (length header_text ≤ length out.old) × (row_room ≤ length out.old) }
-{
-    let header = program_rows::header(out);
-    emit(header, out, to)?;
-    let console = all(from, to, input, out)?;
-    let last = console.finish(out);
-    emit(last, out, to)
+fn run<R: Read, W: Write>(from: &mut R, to: &mut W, memory: &mut Memory) -> io::Result<()> {
+    let header = program_rows::header(&mut memory.output);
+    emit(header, &memory.output, to)?;
+    let console = all(from, to, memory)?;
+    let last = console.finish(&mut memory.output);
+    emit(last, &memory.output, to)
 }
 
 fn main(rt: HostRuntime) -> io::Result<()> {
-    let mut input = [0u8; CHUNK];
-    let mut out = [0u8; ROOM];
-    run(&mut rt.stdin(), &mut rt.stdout(), &mut input, &mut out)
+    let mut memory = Memory {
+        input: [0; CHUNK],
+        output: [0; ROOM],
+    };
+    run(&mut rt.stdin(), &mut rt.stdout(), &mut memory)
 }

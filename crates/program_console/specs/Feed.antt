@@ -1,7 +1,8 @@
 -- The console over octets: what it keeps between two of them, one octet, a chunk of any length, and the end of the input.
-use Rattle.std.specs.Prelude.{ℕ, ◌*◌, List, [], ◌∷◌, ◌++◌, leb, ltb, eqb, length, take}
+use Rattle.std.specs.Prelude.{ℕ, ◌*◌, List, [], ◌∷◌, ◌++◌, leb, ltb, eqb, length}
 use Rattle.base.specs.Choice.{pick, must}
 use Rattle.base.specs.Outcome.{Outcome, Outcome.done, Outcome.refused}
+use Rattle.text.specs.Buffer.{standing}
 use Rattle.text.specs.Fields.{newline}
 use Rattle.program_lines.specs.Line.{line_of}
 use Rattle.program_rows.specs.Rows.{text_of, header_text, row_room}
@@ -24,9 +25,9 @@ progress session line = record { session = session; line = line }
 abbrev pub at_start : Progress
 at_start = progress Fresh []
 
--- of a console: what its array holds behind the octets kept shows nowhere
+-- of a console: what its buffer holds behind the octets kept shows nowhere
 abbrev pub progress_of : Console → Progress
-progress_of c = progress c.session (take c.len c.kept)
+progress_of c = progress c.session (standing c.line)
 
 -- 64 octets of a line are kept at the most, so that a line over 63 still shows as too long
 abbrev pub most_kept : ℕ

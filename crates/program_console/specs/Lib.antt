@@ -1,3 +1,2 @@
 pub mod Console
 pub mod Feed
-pub mod Steps

@@ -1,9 +1,9 @@
 -- Document 01, "The program": what a line says. Fields parted by tabs: SET, W, V(R), buffers; AD and N(S); BD; UNLOCK; SETVR and a
 -- value; BAD; FREE. A line over 63 octets, or any other, is malformed.
-use Rattle.std.specs.Prelude.{ℕ, List, [], ◌∷◌, leb, length}
+use Rattle.std.specs.Prelude.{ℕ, List, [], ◌∷◌, leb, length, Option, Some, None}
 use Rattle.base.specs.Choice.{pick, must}
 use Rattle.base.specs.Octets.{same}
-use Rattle.text.specs.Decimal.{Number, Number.is, Number.none, number_within}
+use Rattle.text.specs.Decimal.{number_within}
 use Rattle.text.specs.Fields.{fields_of}
 use Rattle.program_lines.specs.declared.Line.{Line}
 use Rattle.program_lines.specs.declared.Line.TheVariants.{Set, Ad, Bd, Unlock, SetVr, Bad, Free, Malformed}
@@ -39,25 +39,25 @@ abbrev pub word_free : List ℕ
 word_free = 0x46 ∷ 0x52 ∷ 0x45 ∷ 0x45 ∷ []
 
 -- document 01: numbers are within an octet here; the receiver judges its settings
-abbrev pub number_of : List ℕ → Number
+abbrev pub number_of : List ℕ → Option ℕ
 number_of text = number_within 255 text
 
 -- AD and N(S)
-abbrev pub ad_line : Number → Line
-ad_line (is n) = Ad n
-ad_line none = Malformed
+abbrev pub ad_line : Option ℕ → Line
+ad_line (Some n) = Ad n
+ad_line None = Malformed
 
 -- SETVR and a value
-abbrev pub set_vr_line : Number → Line
-set_vr_line (is n) = SetVr n
-set_vr_line none = Malformed
+abbrev pub set_vr_line : Option ℕ → Line
+set_vr_line (Some n) = SetVr n
+set_vr_line None = Malformed
 
 -- SET, W, V(R), buffers
-abbrev pub set_line : Number → Number → Number → Line
-set_line (is w) (is v) (is b) = Set w v b
-set_line (is w) (is v) none = Malformed
-set_line (is w) none b = Malformed
-set_line none v b = Malformed
+abbrev pub set_line : Option ℕ → Option ℕ → Option ℕ → Line
+set_line (Some w) (Some v) (Some b) = Set w v b
+set_line (Some w) (Some v) None = Malformed
+set_line (Some w) None b = Malformed
+set_line None v b = Malformed
 
 -- the list of fields matched
 unfoldable pub by_fields : List (List ℕ) → Line

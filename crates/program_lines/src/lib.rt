@@ -2,16 +2,15 @@
 #![tactic(auto)]
 
 ghost use Rattle.std.specs.Prelude.{◌≡◌, [], ◌∷◌};
-ghost use Rattle.text.specs.Fields.{fields_of};
-ghost use Rattle.program_lines.specs.Line.{number_of, ad_line, set_vr_line, set_line, by_fields, line_of};
+ghost use Rattle.program_lines.specs.Line.{number_of, by_fields, line_of};
 
-use text::Decimal;
+use text::first_field;
 
 // Document 01: a line over 63 octets is refused.
 const LONGEST_LINE: usize = 63;
 
 // What a line says.
-#[derive(Clone, Copy)]
+#[derive(Clone, Copy, Debug, PartialEq, Eq)]
 pub enum Line {
     Set(u8, u8, u8),
     Ad(u8),
@@ -23,118 +22,75 @@ pub enum Line {
     Malformed,
 }
 
+// The number of an octet that a field is.
+fn octet(field: &[u8]) -> Option<u8>
+    ensures { result ≡ number_of field.now }
+{
+    let number = text::number(field, 255)?;
+    u8::try_from(number).ok()
+}
+
 // One field.
+#[tactic(auto, using(crate::proofs::Words::same_reads), unfolding(crate::specs::Line::by_fields))]
 fn one(word: &[u8]) -> Line
     ensures { result ≡ by_fields (word.now ∷ []) }
 {
-    if text::same(word, b"BD") {
-        return Line::Bd;
-    }
-    if text::same(word, b"UNLOCK") {
-        return Line::Unlock;
-    }
-    if text::same(word, b"BAD") {
-        return Line::Bad;
-    }
-    if text::same(word, b"FREE") {
-        return Line::Free;
-    }
-    Line::Malformed
-}
-
-fn ad(number: &[u8]) -> Line
-    ensures { result ≡ ad_line (number_of number.now) }
-{
-    match text::number(number, 255) {
-        Decimal::Is(n) => Line::Ad(n as u8),
-        Decimal::None => Line::Malformed,
-    }
-}
-
-fn set_vr(value: &[u8]) -> Line
-    ensures { result ≡ set_vr_line (number_of value.now) }
-{
-    match text::number(value, 255) {
-        Decimal::Is(n) => Line::SetVr(n as u8),
-        Decimal::None => Line::Malformed,
+    match word {
+        b"BD" => Line::Bd,
+        b"UNLOCK" => Line::Unlock,
+        b"BAD" => Line::Bad,
+        b"FREE" => Line::Free,
+        _ => Line::Malformed,
     }
 }
 
 // Two fields.
+#[tactic(auto, using(crate::proofs::Words::same_reads), unfolding(crate::specs::Line::by_fields))]
 fn two(word: &[u8], number: &[u8]) -> Line
     ensures { result ≡ by_fields (word.now ∷ number.now ∷ []) }
 {
-    if text::same(word, b"AD") {
-        return ad(number);
+    match (word, octet(number)) {
+        (b"AD", Some(number)) => Line::Ad(number),
+        (b"SETVR", Some(value)) => Line::SetVr(value),
+        _ => Line::Malformed,
     }
-    if text::same(word, b"SETVR") {
-        return set_vr(number);
-    }
-    Line::Malformed
 }
 
-fn set(window: &[u8], vr: &[u8], buffers: &[u8]) -> Line
-    ensures { result ≡ set_line (number_of window.now) (number_of vr.now) (number_of buffers.now) }
+// Four fields.
+#[tactic(auto, using(crate::proofs::Words::same_reads), unfolding(crate::specs::Line::by_fields))]
+fn four(word: &[u8], window: &[u8], vr: &[u8], buffers: &[u8]) -> Line
+    ensures { result ≡ by_fields (word.now ∷ window.now ∷ vr.now ∷ buffers.now ∷ []) }
 {
-    let Decimal::Is(w) = text::number(window, 255) else {
-        return Line::Malformed;
-    };
-    let Decimal::Is(v) = text::number(vr, 255) else {
-        return Line::Malformed;
-    };
-    let Decimal::Is(b) = text::number(buffers, 255) else {
-        return Line::Malformed;
-    };
-    Line::Set(w as u8, v as u8, b as u8)
-}
-
-// Three fields and what follows them.
-fn four(word: &[u8], window: &[u8], vr: &[u8], rest: &[u8]) -> Line
-    ensures { result ≡ by_fields (word.now ∷ window.now ∷ vr.now ∷ fields_of rest.now) }
-{
-    if text::cut(rest) < rest.len() {
-        return Line::Malformed;
+    match (word, octet(window), octet(vr), octet(buffers)) {
+        (b"SET", Some(window), Some(vr), Some(buffers)) => Line::Set(window, vr, buffers),
+        _ => Line::Malformed,
     }
-    if text::same(word, b"SET") {
-        return set(window, vr, rest);
-    }
-    Line::Malformed
-}
-
-// Two fields and what follows them.
-fn three(word: &[u8], window: &[u8], rest: &[u8]) -> Line
-    ensures { result ≡ by_fields (word.now ∷ window.now ∷ fields_of rest.now) }
-{
-    let c = text::cut(rest);
-    if rest.len() <= c {
-        return Line::Malformed;
-    }
-    four(word, window, &rest[..c], &rest[c + 1..])
-}
-
-// One field and what follows it.
-fn more(word: &[u8], rest: &[u8]) -> Line
-    ensures { result ≡ by_fields (word.now ∷ fields_of rest.now) }
-{
-    let c = text::cut(rest);
-    if rest.len() <= c {
-        return two(word, rest);
-    }
-    three(word, &rest[..c], &rest[c + 1..])
 }
 
 impl Line {
     // A line without its newline.
+    #[tactic(auto, using(crate::proofs::Words::line_short, crate::proofs::Words::line_long, crate::proofs::Words::line_many), unfolding(crate::specs::Line::by_fields))]
     pub fn read(line: &[u8]) -> Line
         ensures { result ≡ line_of line.now }
     {
         if LONGEST_LINE < line.len() {
             return Line::Malformed;
         }
-        let c = text::cut(line);
-        if line.len() <= c {
-            return one(line);
+        let (word, rest) = first_field(line);
+        let Some(rest) = rest else {
+            return one(word);
+        };
+        let (window, rest) = first_field(rest);
+        let Some(rest) = rest else {
+            return two(word, window);
+        };
+        let (vr, rest) = first_field(rest);
+        let Some(rest) = rest else {
+            return Line::Malformed;
+        };
+        match first_field(rest) {
+            (buffers, None) => four(word, window, vr, buffers),
+            _ => Line::Malformed,
         }
-        more(&line[..c], &line[c + 1..])
     }
 }

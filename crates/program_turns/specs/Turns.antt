@@ -1,14 +1,11 @@
 -- Document 01, "The program": what a line does to the session, and what is written for it.
-use Rattle.std.specs.Prelude.{ℕ}
+use Rattle.std.specs.Prelude.{ℕ, None, Result, Ok, Err}
+use Rattle.base.specs.declared.Refusal.{Refusal}
 use Rattle.frame.specs.declared.Kind.TheVariants.{Ad as AdFrame, Bd as BdFrame, Unlock as UnlockFrame, SetVr as SetVrFrame}
 use Rattle.receiver.specs.Receiver.{start_of, answered, arrived, release_of}
 use Rattle.farm.specs.declared.Event.TheVariants.{E9}
 use Rattle.receiver.specs.declared.Receiver.{Receiver}
 use Rattle.receiver.specs.declared.Received.{Received}
-use Rattle.receiver.specs.declared.Start.{Start}
-use Rattle.receiver.specs.declared.Start.TheVariants.{Ready, Setting}
-use Rattle.receiver.specs.declared.Released.{Released}
-use Rattle.receiver.specs.declared.Released.TheVariants.{Done, NoneTaken}
 use Rattle.program_lines.specs.declared.Line.{Line}
 use Rattle.program_lines.specs.declared.Line.TheVariants.{Set, Ad, Bd, Unlock, SetVr, Bad, Free, Malformed}
 use Rattle.program_rows.specs.declared.Output.TheVariants.{Nothing, Refused, Row}
@@ -33,9 +30,9 @@ abbrev pub row_turn : Received → Turn
 row_turn received = record { session = Running received.next; output = Row received.event received.next.farm.channel.variables }
 
 -- "Where the first line isn't a good SET, every line is refused"; "a good SET writes no line of its own"
-abbrev pub opened : Start → Turn
-opened (Ready r) = record { session = Running r; output = Nothing }
-opened Setting = refused_in Refusing
+abbrev pub opened : Result Receiver Refusal → Turn
+opened (Ok r) = record { session = Running r; output = Nothing }
+opened (Err refusal) = refused_in Refusing
 
 -- the first line: "The first line is SET, W, V(R), buffers"
 unfoldable pub first_of : Line → Turn
@@ -49,9 +46,9 @@ first_of Free = refused_in Refusing
 first_of Malformed = refused_in Refusing
 
 -- FREE: a release is E10; one that is refused (13) gives REFUSED
-abbrev pub released_turn : Receiver → Released → Turn
-released_turn r (Done received) = row_turn received
-released_turn r NoneTaken = refused_in (Running r)
+abbrev pub released_turn : Receiver → Result Received Refusal → Turn
+released_turn r (Ok received) = row_turn received
+released_turn r (Err refusal) = refused_in (Running r)
 
 -- a later line; a second SET is refused, BAD is an invalid frame, FREE a release
 unfoldable pub later_of : Receiver → Line → Turn
@@ -60,7 +57,7 @@ later_of r (Ad n) = row_turn (arrived r (AdFrame n))
 later_of r Bd = row_turn (arrived r BdFrame)
 later_of r Unlock = row_turn (arrived r UnlockFrame)
 later_of r (SetVr v) = row_turn (arrived r (SetVrFrame v))
-later_of r Bad = row_turn (answered 0 E9 0 r)
+later_of r Bad = row_turn (answered None E9 0 r)
 later_of r Free = released_turn r (release_of r)
 later_of r Malformed = refused_in (Running r)
 

@@ -7,7 +7,7 @@ ghost use Rattle.program_turns.specs.Turns.{refused_in, row_turn, first_of, late
 use frame::Kind;
 use program_lines::Line;
 use program_rows::Output;
-use receiver::{Received, Receiver, Released, Start};
+use receiver::{Received, Receiver};
 
 // Document 01: the program reads no octets of a frame, so its receiver's address shows nowhere.
 const SPACECRAFT: u16 = 0;
@@ -33,7 +33,7 @@ fn refused(session: Session) -> Turn
     ensures { result ≡ refused_in session }
 {
     Turn {
-        session: session,
+        session,
         output: Output::Refused,
     }
 }
@@ -42,60 +42,51 @@ fn refused(session: Session) -> Turn
 fn row(received: Received) -> Turn
     ensures { result ≡ row_turn received }
 {
-    let event = received.event;
-    let next = received.next;
-    let variables = next.variables();
     Turn {
-        session: Session::Running(next),
-        output: Output::Row(event, variables),
+        session: Session::Running(received.next),
+        output: Output::Row(received.event, received.next.variables()),
     }
 }
 
 // The first line.
+#[tactic(auto, unfolding(crate::specs::Turns::first_of))]
 fn first(line: Line) -> Turn
     ensures { result ≡ first_of line }
 {
-    match line {
-        Line::Set(window, vr, buffers) => match Receiver::new(
-            SPACECRAFT, CHANNEL, window, vr, buffers,
-        ) {
-            Start::Ready(receiver) => Turn {
-                session: Session::Running(receiver),
-                output: Output::Nothing,
-            },
-            Start::Setting => refused(Session::Refusing),
+    let Line::Set(window, vr, buffers) = line else {
+        return refused(Session::Refusing);
+    };
+    match Receiver::new(SPACECRAFT, CHANNEL, window, vr, buffers) {
+        Ok(receiver) => Turn {
+            session: Session::Running(receiver),
+            output: Output::Nothing,
         },
-        Line::Ad(_) => refused(Session::Refusing),
-        Line::Bd => refused(Session::Refusing),
-        Line::Unlock => refused(Session::Refusing),
-        Line::SetVr(_) => refused(Session::Refusing),
-        Line::Bad => refused(Session::Refusing),
-        Line::Free => refused(Session::Refusing),
-        Line::Malformed => refused(Session::Refusing),
+        Err(_) => refused(Session::Refusing),
     }
 }
 
 // A later line.
+#[tactic(auto, unfolding(crate::specs::Turns::later_of))]
 fn later(receiver: Receiver, line: Line) -> Turn
     ensures { result ≡ later_of receiver line }
 {
     match line {
-        Line::Set(_, _, _) => refused(Session::Running(receiver)),
         Line::Ad(number) => row(receiver.arrive(Kind::Ad(number))),
         Line::Bd => row(receiver.arrive(Kind::Bd)),
         Line::Unlock => row(receiver.arrive(Kind::Unlock)),
         Line::SetVr(value) => row(receiver.arrive(Kind::SetVr(value))),
         Line::Bad => row(receiver.invalid()),
         Line::Free => match receiver.release() {
-            Released::Done(received) => row(received),
-            Released::NoneTaken => refused(Session::Running(receiver)),
+            Ok(received) => row(received),
+            Err(_) => refused(Session::Running(receiver)),
         },
-        Line::Malformed => refused(Session::Running(receiver)),
+        Line::Set(_, _, _) | Line::Malformed => refused(Session::Running(receiver)),
     }
 }
 
 impl Session {
     // The session behind a line, and what is written for it.
+    #[tactic(auto, unfolding(crate::specs::Turns::turn_of))]
     pub fn turn(self, line: Line) -> Turn
         ensures { result ≡ turn_of self line }
     {

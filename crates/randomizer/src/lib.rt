@@ -12,55 +12,59 @@ pub use crate::octets::SEQUENCE;
 // The sequence repeats after 255 bits, and so after 255 octets.
 pub const PERIOD: usize = 255;
 
-// The octet at any place, by the lent sequence.
-fn octet_in(sequence: &[u8; PERIOD], place: u64) -> u8
-    requires { sequence.now ≡ sequence_of 255 0 }
-    ensures { result ≡ octet place }
-{
-    let k = place % (PERIOD as u64);
-    sequence[k as usize]
+// The sequence, lent, so that it is not made anew at each call. That its octets are the standard's is proved where the value is made.
+#[derive(Clone, Copy)]
+struct Sequence<'a> {
+    octets: &'a [u8; PERIOD],
+    ghost standard: { octets.now ≡ sequence_of 255 0 },
+}
+
+impl Sequence<'_> {
+    fn new() -> Sequence<'static> {
+        Sequence { octets: &SEQUENCE }
+    }
+
+    // The octet at any place.
+    fn octet_at(self, place: u64) -> u8
+        ensures { result ≡ octet place }
+    {
+        self.octets[(place % PERIOD as u64) as usize]
+    }
+
+    // One run of octets, exclusive or the sequence from its beginning, into all of the output.
+    fn randomize_run(self, octets: &[u8], out: &mut [u8])
+        requires { (length octets.now ≤ 255) × (length out.old ≡ length octets.now) }
+        ensures { out.new ≡ randomized 0 octets.now }
+    {
+        for (i, octet) in octets.iter().enumerate() {
+            out[i] = *octet ^ self.octets[i];
+        }
+    }
+
+    // The octets exclusive or the sequence, at the front of the output: run by run, each of PERIOD octets but the last.
+    fn randomize(self, octets: &[u8], out: &mut [u8])
+        requires { length octets.now ≤ length out.old }
+        ensures { out.new ≡ placed out.old 0 (randomized 0 octets.now) }
+    {
+        for (k, run) in octets.chunks(PERIOD).enumerate() {
+            let at = k * PERIOD;
+            self.randomize_run(run, &mut out[at..at + run.len()]);
+        }
+    }
 }
 
 // The octet at any place of the sequence.
 pub fn octet_at(place: u64) -> u8
     ensures { result ≡ octet place }
 {
-    octet_in(&SEQUENCE, place)
-}
-
-// One run of octets, exclusive or the sequence from its beginning, into all of the output.
-fn randomize_run(octets: &[u8], sequence: &[u8; PERIOD], out: &mut [u8])
-    requires { (length octets.now ≤ 255) × (length out.old ≡ length octets.now) × (sequence.now ≡ sequence_of 255 0) }
-    ensures { out.new ≡ randomized 0 octets.now }
-{
-    let mut i = 0;
-    while i < octets.len() {
-        out[i] = octets[i] ^ sequence[i];
-        i += 1;
-    }
-}
-
-// The octets exclusive or the sequence, at the front of the output: whole runs of PERIOD octets, then what is left.
-fn randomize_runs(octets: &[u8], sequence: &[u8; PERIOD], out: &mut [u8])
-    requires { (length octets.now ≤ length out.old) × (sequence.now ≡ sequence_of 255 0) }
-    ensures { out.new ≡ placed out.old 0 (randomized 0 octets.now) }
-{
-    let n = octets.len();
-    let mut at = 0;
-    while PERIOD <= n - at {
-        let end = at + PERIOD;
-        randomize_run(&octets[at..end], sequence, &mut out[at..end]);
-        at = end;
-    }
-    randomize_run(&octets[at..n], sequence, &mut out[at..n]);
+    Sequence::new().octet_at(place)
 }
 
 // Puts octets, randomized or, which is the same, derandomized, to the front of the output; changes nothing where they do not fit.
 pub fn randomize(octets: &[u8], out: &mut [u8])
     ensures { out.new ≡ placed out.old 0 (randomized 0 octets.now) }
 {
-    if out.len() < octets.len() {
-        return;
+    if octets.len() <= out.len() {
+        Sequence::new().randomize(octets, out);
     }
-    randomize_runs(octets, &SEQUENCE, out);
 }

@@ -1,4 +1,5 @@
 -- What the receiver keeps: it is well-formed at its start, after every frame and after every release.
+use Rattle.std.specs.Prelude.{Option, Some, None, Result, Ok, Err}
 use mathlib.Core.Path.{◌≡◌, refl, sym, ap, subst, ◌∙◌}
 use mathlib.Core.Bool.{Bool, true, false}
 use mathlib.Core.List.{List}
@@ -13,6 +14,7 @@ use Rattle.base.specs.Modulo.{offset}
 use Rattle.base.specs.Octets.{Octets, same}
 use Rattle.base.specs.Fields.{field_at}
 use Rattle.base.specs.Outcome.{Outcome.done}
+use Rattle.base.specs.Refusals.{frame_refusal}
 use Rattle.base.specs.Limits.{largest_spacecraft, largest_channel}
 use Rattle.base.proofs.Lists.{octets_at_lem, below_take, below_drop}
 use Rattle.base.proofs.Tests.{apart, both_true, both_false}
@@ -22,7 +24,6 @@ use Rattle.frame.specs.Frame.{unlock_command, total_of, data_field, refusal_of, 
 use Rattle.frame.specs.Answers.{fields_of, reading_of}
 use Rattle.frame.specs.declared.Kind.{Kind}
 use Rattle.frame.specs.declared.Kind.TheVariants.{Ad, Bd, Unlock, SetVr}
-use Rattle.frame.specs.declared.FrameReading.TheVariants.{Frame, Refused}
 use Rattle.farm.specs.declared.State.{State}
 use Rattle.farm.specs.declared.State.TheVariants.{Open, Wait, Lockout}
 use Rattle.farm.specs.declared.Event.{Event}
@@ -36,9 +37,8 @@ use Rattle.farm.proofs.Sound.{Sound, made, sound_step, waited, open_runs, releas
 use Rattle.receiver.specs.declared.Channel.{Channel}
 use Rattle.receiver.specs.declared.Receiver.{Receiver}
 use Rattle.receiver.specs.declared.Received.{Received}
-use Rattle.receiver.specs.declared.Start.{Start}
-use Rattle.receiver.specs.declared.Start.TheVariants.{Ready, Setting}
-use Rattle.receiver.specs.declared.Released.TheVariants.{Done, NoneTaken}
+use Rattle.base.specs.declared.Refusal.{Refusal}
+use Rattle.base.specs.declared.Refusal.TheVariants.{Setting, Release}
 use Rattle.receiver.specs.Channel.{star_of, takes}
 use Rattle.receiver.specs.Channel as channel
 use Rattle.receiver.specs.Receiver.{largest_buffers, at_start, start_of, become, has_room, answered, arrived, by_reading, receive_of, release_of, word_of}
@@ -86,7 +86,7 @@ module _ (c : Channel) (buffers : ℕ) (e : Event) (star : ℕ) (room : e ≡ E1
       waits = waited star c.variables e c.variables.state w
 
 -- so such an event keeps the receiver well-formed
-answered_well : (r : Receiver) → WellFormed r → (refusal : ℕ) (e : Event) (star : ℕ) → star < 256 → (e ≡ E1 → r.farm.channel.held < r.farm.buffers)
+answered_well : (r : Receiver) → WellFormed r → (refusal : Option Refusal) (e : Event) (star : ℕ) → star < 256 → (e ≡ E1 → r.farm.channel.held < r.farm.buffers)
     → (e ≡ E2 → r.farm.channel.variables.state ≡ Open → r.farm.channel.held ≡ r.farm.buffers)
     → WellFormed (answered refusal e star r).next
 unfolding answered channel.answered
@@ -104,14 +104,14 @@ unfolding arrived answered channel.arrived channel.event_of
 arrived_well r h (Ad number) u =
     let c = r.farm.channel in
     let d = offset number c.variables.vr in
-    answered_well r h 0 (ad_event c.window c.variables.state (has_room r) d) 0 u
+    answered_well r h None (ad_event c.window c.variables.state (has_room r) d) 0 u
     (λ p. ltb-true c.held r.farm.buffers (e1_room c.window c.variables.state (has_room r) d p))
     (λ p q.
     let f = ltb-false c.held r.farm.buffers (e2_full c.window (has_room r) d (rw q at p)) in
     omega (arith, h.taken))
-arrived_well r h Bd u = answered_well r h 0 E6 0 u (differ E6 E1 refl) (differ E6 E2 refl)
-arrived_well r h Unlock u = answered_well r h 0 E7 0 u (differ E7 E1 refl) (differ E7 E2 refl)
-arrived_well r h (SetVr value) u = answered_well r h 0 E8 value u (differ E8 E1 refl) (differ E8 E2 refl)
+arrived_well r h Bd u = answered_well r h None E6 0 u (differ E6 E1 refl) (differ E6 E2 refl)
+arrived_well r h Unlock u = answered_well r h None E7 0 u (differ E7 E1 refl) (differ E7 E2 refl)
+arrived_well r h (SetVr value) u = answered_well r h None E8 value u (differ E8 E1 refl) (differ E8 E2 refl)
 
 -- the value of Set V(R) is an octet
 star_octet : (octets : List ℕ) → Octets octets → star_of (kind_of octets) < 256
@@ -128,16 +128,16 @@ pub receive_well : (r : Receiver) (octets : List ℕ) → Octets octets → Well
 unfolding receive_of by_reading reading_of fields_of
 receive_well r octets o h = go (eqb (refusal_of octets r.farm.spacecraft r.farm.channel.number) 0)
   where
-    go : (b : Bool) → WellFormed (by_reading r (pick b (Frame (fields_of octets)) (Refused (refusal_of octets r.farm.spacecraft r.farm.channel.number)))).next
+    go : (b : Bool) → WellFormed (by_reading r (pick b (Ok (fields_of octets)) (Err (frame_refusal (refusal_of octets r.farm.spacecraft r.farm.channel.number))))).next
     go true = arrived_well r h (kind_of octets) (star_octet octets o)
-    go false = answered_well r h (refusal_of octets r.farm.spacecraft r.farm.channel.number) E9 0 (omega arith) (differ E9 E1 refl) (differ E9 E2 refl)
+    go false = answered_well r h (Some (frame_refusal (refusal_of octets r.farm.spacecraft r.farm.channel.number))) E9 0 (omega arith) (differ E9 E1 refl) (differ E9 E2 refl)
 
-pub release_well : (r : Receiver) (x : Received) → WellFormed r → release_of r ≡ Done x → WellFormed x.next
+pub release_well : (r : Receiver) (x : Received) → WellFormed r → release_of r ≡ Ok x → WellFormed x.next
 unfolding release_of answered channel.answered
 release_well r x h = go (ltb 0 r.farm.channel.held)
   where
     left : Received
-    left = answered 0 E10 0 (become (r.farm.channel.held - 1) r.farm.channel.variables r)
+    left = answered None E10 0 (become (r.farm.channel.held - 1) r.farm.channel.variables r)
 
     well : WellFormed left.next
     well = record {
@@ -147,7 +147,7 @@ release_well r x h = go (ltb 0 r.farm.channel.held)
       wait_full = λ w. absurd (released_runs r.farm.channel.variables r.farm.channel.variables.state h.variables w);
     }
 
-    go : (b : Bool) → must b NoneTaken (Done left) ≡ Done x → WellFormed x.next
+    go : (b : Bool) → must b (Err Release) (Ok left) ≡ Ok x → WellFormed x.next
     go true e =
         let p : left ≡ x = cc in
         subst (λ (y : Received). WellFormed y.next) p well
@@ -156,13 +156,13 @@ release_well r x h = go (ltb 0 r.farm.channel.held)
         absurd (omega arith)
 
 -- a chain of checks that gives a receiver: this check held, and the rest gives it
-passed : (b : Bool) (on : Start) (r : Receiver) → must b Setting on ≡ Ready r → (b ≡ true) × (on ≡ Ready r)
+passed : (b : Bool) (on : Result Receiver Refusal) (r : Receiver) → must b (Err Setting) on ≡ Ok r → (b ≡ true) × (on ≡ Ok r)
 passed true on r e = (refl, e)
 passed false on r e =
     let z : ◌≡◌ {A = ℕ} 0 1 = cc in
     absurd (omega arith)
 
-pub start_well : (spacecraft channel window vr buffers : ℕ) (r : Receiver) → vr < 256 → start_of spacecraft channel window vr buffers ≡ Ready r → WellFormed r
+pub start_well : (spacecraft channel window vr buffers : ℕ) (r : Receiver) → vr < 256 → start_of spacecraft channel window vr buffers ≡ Ok r → WellFormed r
 unfolding start_of
 start_well spacecraft channel window vr buffers r hv e =
     let a = passed (leb spacecraft largest_spacecraft) _ r e in
@@ -171,7 +171,7 @@ start_well spacecraft channel window vr buffers r hv e =
     let d = passed (leb 2 window) _ r c.1 in
     let f = passed (leb window 254) _ r d.1 in
     let g = passed (leb 1 buffers) _ r f.1 in
-    let i = passed (leb buffers largest_buffers) (Ready (at_start spacecraft channel window vr buffers)) r g.1 in
+    let i = passed (leb buffers largest_buffers) (Ok (at_start spacecraft channel window vr buffers)) r g.1 in
     let p : at_start spacecraft channel window vr buffers ≡ r = cc i.1 in
     subst WellFormed p (record {
       settings = record {

@@ -1,6 +1,4 @@
-pub mod Told
 pub mod Kept
-pub mod Judged
 pub mod Restored
 pub mod Facts
 pub mod Examples

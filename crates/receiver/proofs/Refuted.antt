@@ -12,7 +12,7 @@ use Rattle.frame.specs.Frame.{total_of, data_field, command_held, header_refusal
 use Rattle.frame.specs.Answers.{fields_of, reading_of}
 use Rattle.frame.specs.declared.Kind.TheVariants.{Ad}
 use Rattle.frame.specs.declared.Fields.{Fields}
-use Rattle.frame.specs.declared.FrameReading.TheVariants.{Frame}
+use Rattle.std.specs.Prelude.{Ok}
 use Rattle.farm.specs.declared.Event.TheVariants.{E1, E4}
 use Rattle.farm.specs.Window.{ad_event}
 use Rattle.farm.proofs.Cells.{differ}
@@ -27,7 +27,7 @@ frame = 0x00 ∷ 0x00 ∷ 0x00 ∷ 0x07 ∷ 0x00 ∷ 0x00 ∷ 0x8B ∷ 0x80 ∷ 
 
 -- a receiver that answers E4 to every AD frame
 pub always_e4 : (receiver : Receiver → List ℕ → Received)
-    → ((r : Receiver) (octets : List ℕ) (fields : Fields) (number : ℕ) → reading_of octets r.farm.spacecraft r.farm.channel.number ≡ Frame fields → fields.kind ≡ Ad number
+    → ((r : Receiver) (octets : List ℕ) (fields : Fields) (number : ℕ) → reading_of octets r.farm.spacecraft r.farm.channel.number ≡ Ok fields → fields.kind ≡ Ad number
     → (receiver r octets).event ≡ E4)
     → ((r : Receiver) (octets : List ℕ) → receiver r octets ≡ receive_of r octets) → ⊥
 unfolding receive_of by_reading arrived channel.arrived channel.answered channel.event_of ad_event reading_of fields_of kind_of refusal_of content_refusal header_refusal valid_header command_held data_field total_of field_at value_of octet_bits bits_of syndrome_of register shift_bits shift_bit

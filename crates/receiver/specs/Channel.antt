@@ -1,8 +1,11 @@
 -- Clauses 7.2.3 and 7.9.3: a virtual channel of the receiver, its record and what a frame and a release make of it. Whether an AD buffer is free
 -- (`room`) is told to it; whose buffers they are, specs/Receiver says.
-use Rattle.std.specs.Prelude.{ℕ, ◌+◌, ◌-◌, Bool, true, false, ltb}
+use Rattle.std.specs.Prelude.{ℕ, ◌+◌, ◌-◌, Bool, true, false, ltb, Option, Some, None, Result, Ok, Err}
 use Rattle.base.specs.Choice.{pick, must}
 use Rattle.base.specs.Modulo.{offset}
+use Rattle.base.specs.declared.Refusal.{Refusal}
+use Rattle.base.specs.declared.Refusal.TheVariants.{Release}
+use Rattle.clcw.specs.declared.Clcw.{Clcw}
 use Rattle.frame.specs.declared.Kind.{Kind}
 use Rattle.frame.specs.declared.Kind.TheVariants.{Ad, Bd, Unlock, SetVr}
 use Rattle.farm.specs.Table.{step_of, unit_of}
@@ -12,11 +15,9 @@ use Rattle.farm.specs.declared.Event.{Event}
 use Rattle.farm.specs.declared.Event.TheVariants.{E6, E7, E8, E10}
 use Rattle.farm.specs.declared.Variables.{Variables}
 use Rattle.farm.specs.declared.AcceptedUnit.{AcceptedUnit}
-use Rattle.farm.specs.declared.AcceptedUnit.TheVariants.{None, AdUnit, BdUnit}
+use Rattle.farm.specs.declared.AcceptedUnit.TheVariants.{Ad as AdUnit, Bd as BdUnit}
 use Rattle.receiver.specs.declared.Channel.{Channel}
 use Rattle.receiver.specs.declared.ChannelAnswer.{ChannelAnswer}
-use Rattle.receiver.specs.declared.ChannelReleased.{ChannelReleased}
-use Rattle.receiver.specs.declared.ChannelReleased.TheVariants.{Done, NoneHeld}
 
 -- the channel with other variables and another count of units held
 abbrev pub become : ℕ → Variables → Channel → Channel
@@ -37,10 +38,10 @@ star_of Unlock = 0
 star_of (SetVr value) = value
 
 -- document 01: "E1 takes a buffer" (in Open, where its unit is accepted)
-abbrev pub takes : AcceptedUnit → ℕ
+abbrev pub takes : Option AcceptedUnit → ℕ
 takes None = 0
-takes AdUnit = 1
-takes BdUnit = 0
+takes (Some AdUnit) = 1
+takes (Some BdUnit) = 0
 
 -- an event by the table: its unit, and the channel after it
 unfoldable pub answered : Event → ℕ → Channel → ChannelAnswer
@@ -61,6 +62,17 @@ abbrev pub may_release : ℕ → State → Bool → Bool
 may_release held state room = pick (ltb 0 held) true (pick (not_wait state) false room)
 
 -- document 01: "a release gives one back and is E10"; a channel that holds none gives none back (0 - 1 is 0)
-unfoldable pub release_of : Bool → Channel → ChannelReleased
+unfoldable pub release_of : Bool → Channel → Result ChannelAnswer Refusal
 release_of room c =
-    must (may_release c.held c.variables.state room) NoneHeld (Done (answered E10 0 (become (c.held - 1) c.variables c)))
+    must (may_release c.held c.variables.state room) (Err Release) (Ok (answered E10 0 (become (c.held - 1) c.variables c)))
+
+-- E11: the control word, with V(R), flags and counter as they are
+abbrev pub word_of : Channel → Clcw
+word_of c = record {
+  channel = c.number;
+  lockout = c.variables.lockout;
+  wait = c.variables.wait;
+  retransmit = c.variables.retransmit;
+  counter = c.variables.counter;
+  report = c.variables.vr;
+}

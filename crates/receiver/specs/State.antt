@@ -1,13 +1,14 @@
 -- The well-formed states of the receiver, as a test: what every event keeps (proofs/Kept), so that a state that was kept over a reset can be told from
 -- one that no receiver has.
-use Rattle.std.specs.Prelude.{◌%◌, Bool, true, not, leb, ltb, eqb}
+use Rattle.std.specs.Prelude.{◌%◌, Bool, true, not, leb, ltb, eqb, Result, Ok, Err}
 use Rattle.base.specs.Choice.{pick, both}
 use Rattle.base.specs.Limits.{largest_spacecraft, largest_channel}
 use Rattle.farm.specs.declared.State.{State}
 use Rattle.farm.specs.declared.State.TheVariants.{Open, Wait, Lockout}
 use Rattle.receiver.specs.declared.ReceiverState.{ReceiverState}
-use Rattle.receiver.specs.declared.Start.{Start}
-use Rattle.receiver.specs.declared.Start.TheVariants.{Ready, Setting}
+use Rattle.base.specs.declared.Refusal.{Refusal}
+use Rattle.base.specs.declared.Refusal.TheVariants.{Setting}
+use Rattle.receiver.specs.declared.Receiver.{Receiver}
 use Rattle.receiver.specs.Receiver.{largest_buffers}
 
 -- the flags by the state: lockout in Lockout and only there; otherwise wait in Wait and only there; whoever waits wants a retransmission
@@ -31,5 +32,5 @@ well_formed s =
     (both (ltb s.channel.variables.counter 4) (both (leb s.channel.held s.buffers) (pick s.channel.variables.wait (eqb s.channel.held s.buffers) true))))))))))
 
 -- a receiver from a state that was kept; 12 where it is none
-unfoldable pub restored_of : ReceiverState → Start
-restored_of s = pick (well_formed s) (Ready (record { farm = s })) Setting
+unfoldable pub restored_of : ReceiverState → Result Receiver Refusal
+restored_of s = pick (well_formed s) (Ok (record { farm = s })) (Err Setting)

@@ -1,10 +1,12 @@
 // Clauses 7.2.3 and 7.9.3: one virtual channel of the receiver, by the events of table 7-9. It is told whether an AD buffer is free.
 ghost use Rattle.std.specs.Prelude.{◌≡◌, true, ◌+◌, ◌-◌, ◌<◌};
 ghost use Rattle.farm.specs.declared.Event.TheVariants.{E1, E9};
-ghost use Rattle.receiver.specs.Channel.{answered, arrived, may_release, release_of};
+ghost use Rattle.receiver.specs.Channel.{answered, arrived, may_release, release_of, word_of};
 
-use crate::{Channel, ChannelAnswer, ChannelReleased};
-use farm::{AcceptedUnit, Event, State};
+use crate::{Channel, ChannelAnswer};
+use base::Refusal;
+use clcw::Clcw;
+use farm::{AcceptedUnit, Event, State, Variables};
 use frame::Kind;
 use receiver_rows::{ad_event, distance, step, unit_of};
 
@@ -12,24 +14,7 @@ use receiver_rows::{ad_event, distance, step, unit_of};
 fn may_release(held: u8, state: State, room: bool) -> bool
     ensures { result ≡ may_release held state room }
 {
-    if 0 < held {
-        return true;
-    }
-    match state {
-        State::Open => false,
-        State::Wait => room,
-        State::Lockout => false,
-    }
-}
-
-// One unit held less, where there is one.
-fn one_less(held: u8) -> u8
-    ensures { result ≡ held - 1 }
-{
-    if held == 0 {
-        return 0;
-    }
-    held - 1
+    held > 0 || state == State::Wait && room
 }
 
 impl Channel {
@@ -38,25 +23,19 @@ impl Channel {
         requires { event ≡ E1 → self.held + 1 < 256 }
         ensures { result ≡ answered event star self }
     {
-        let variables = self.variables;
-        let state = variables.state;
-        let unit = unit_of(event, state);
+        let unit = unit_of(event, self.variables.state);
         let held = match unit {
-            AcceptedUnit::None => self.held,
-            AcceptedUnit::AdUnit => self.held + 1,
-            AcceptedUnit::BdUnit => self.held,
-        };
-        let after = step(variables, event, star);
-        let next = Channel {
-            number: self.number,
-            window: self.window,
-            held: held,
-            variables: after,
+            Some(AcceptedUnit::Ad) => self.held + 1,
+            Some(AcceptedUnit::Bd) | None => self.held,
         };
         ChannelAnswer {
-            event: event,
-            unit: unit,
-            next: next,
+            event,
+            unit,
+            next: Channel {
+                held,
+                variables: step(self.variables, event, star),
+                ..self
+            },
         }
     }
 
@@ -67,10 +46,8 @@ impl Channel {
     {
         match kind {
             Kind::Ad(number) => {
-                let variables = self.variables;
-                let state = variables.state;
-                let d = distance(number, variables.vr);
-                let event = ad_event(self.window, state, room, d);
+                let Variables { state, vr, .. } = self.variables;
+                let event = ad_event(self.window, state, room, distance(number, vr));
                 self.answer(event, 0)
             }
             Kind::Bd => self.answer(Event::E6, 0),
@@ -86,18 +63,32 @@ impl Channel {
         self.answer(Event::E9, 0)
     }
 
-    // A buffer release.
-    pub(crate) fn release(self, room: bool) -> ChannelReleased
+    // A buffer release, or 13 where it is none.
+    pub fn release(self, room: bool) -> Result<ChannelAnswer, Refusal>
         ensures { result ≡ release_of room self }
     {
-        let held = self.held;
-        let variables = self.variables;
-        let state = variables.state;
-        if !may_release(held, state, room) {
-            return ChannelReleased::NoneHeld;
+        if !may_release(self.held, self.variables.state, room) {
+            return Err(Refusal::Release);
         }
-        let mut less = self;
-        less.held = one_less(held);
-        ChannelReleased::Done(less.answer(Event::E10, 0))
+        let less = Channel {
+            held: self.held.saturating_sub(1),
+            ..self
+        };
+        Ok(less.answer(Event::E10, 0))
+    }
+
+    // The control word (E11): V(R), flags and counter as they are.
+    pub fn word(self) -> Clcw
+        ensures { result ≡ word_of self }
+    {
+        let v = self.variables;
+        Clcw {
+            channel: self.number,
+            lockout: v.lockout,
+            wait: v.wait,
+            retransmit: v.retransmit,
+            counter: v.counter,
+            report: v.vr,
+        }
     }
 }

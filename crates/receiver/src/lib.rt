@@ -1,27 +1,35 @@
 // Clauses 7.2.3, 7.5 and 7.9.3, table 7-9: FARM-1, the receiver: its address, its AD buffers and its channel.
-#![tactic(auto)]
+#![tactic(auto, using(farm::proofs::Units::ad_unit, farm::proofs::Windows::e1_room), unfolding(crate::specs::Channel::event_of, crate::specs::Channel::answered, crate::specs::Channel::arrived, crate::specs::Channel::release_of, crate::specs::Receiver::start_of, crate::specs::Receiver::answered, crate::specs::Receiver::arrived, crate::specs::Receiver::by_reading, crate::specs::Receiver::receive_of, crate::specs::Receiver::unit_part, crate::specs::Receiver::release_of, crate::specs::Receiver::word_of, crate::specs::State::well_formed, crate::specs::State::restored_of))]
 
 mod events;
 mod shared;
 mod state;
 
-ghost use Rattle.std.specs.Prelude.{◌≡◌, length};
+ghost use Rattle.std.specs.Prelude.{◌≡◌, None, length};
 ghost use Rattle.base.specs.Outcome.{answer, after};
 ghost use Rattle.clcw.specs.Clcw.{writing};
-ghost use Rattle.clcw.specs.Answers.{written_answer};
-ghost use Rattle.frame.specs.Answers.{reading_number};
+ghost use Rattle.base.specs.Refusals.{result_number, written_answer};
 ghost use Rattle.farm.specs.declared.Event.TheVariants.{E9};
-ghost use Rattle.receiver.specs.Receiver.{at_start, start_of, start_refusal, start_number, has_room, told_by, answered, arrived, receive_of, unit_part, release_of, release_refusal, released_number, word_of};
+ghost use Rattle.receiver.specs.Receiver.{at_start, start_of, start_refusal, has_room, told_by, answered, arrived, receive_of, unit_part, release_of, release_refusal, word_of};
 ghost use Rattle.receiver.specs.State.{restored_of};
 
-use crate::state::well_formed;
-use base::{LARGEST_CHANNEL, LARGEST_SPACECRAFT};
-use clcw::{Clcw, WordWritten};
+use crate::state::{are_within, well_formed};
+use base::Refusal;
 use farm::{AcceptedUnit, Event, State, Variables};
-use frame::{FrameReading, Kind};
+use frame::Kind;
 
 // Document 01, "Limits": AD buffers 1 to 8.
 pub const LARGEST_BUFFERS: u8 = 8;
+
+// Document 01: a receiver starts Open, with flags and counter zero; here at V(R) 0.
+pub const AT_START: Variables = Variables {
+    state: State::Open,
+    vr: 0,
+    lockout: false,
+    wait: false,
+    retransmit: false,
+    counter: 0,
+};
 
 // A virtual channel: its number, its window W, the AD units that it holds (each has a buffer), and the variables of clause 7.2.3.
 #[derive(Clone, Copy)]
@@ -36,15 +44,8 @@ pub struct Channel {
 #[derive(Clone, Copy)]
 pub struct ChannelAnswer {
     pub event: Event,
-    pub unit: AcceptedUnit,
+    pub unit: Option<AcceptedUnit>,
     pub next: Channel,
-}
-
-// A release of the channel done, or document 01's refusal 13.
-#[derive(Clone, Copy)]
-pub enum ChannelReleased {
-    Done(ChannelAnswer),
-    NoneHeld,
 }
 
 // The receiver's state: its spacecraft, its AD buffers and its channel.
@@ -61,80 +62,49 @@ pub struct Receiver {
     farm: ReceiverState,
 }
 
-// What an event gives: the number of the frame's refusal (0 where there is none), the event, the unit accepted, the receiver next.
+// What an event gives: the frame's refusal where there is one, the event, the unit accepted, the receiver next.
 #[derive(Clone, Copy)]
 pub struct Received {
-    pub refusal: u8,
+    pub refusal: Option<Refusal>,
     pub event: Event,
-    pub unit: AcceptedUnit,
+    pub unit: Option<AcceptedUnit>,
     pub next: Receiver,
 }
 
-// A new receiver, or document 01's refusal 12.
-#[derive(Clone, Copy)]
-pub enum Start {
-    Ready(Receiver),
-    Setting,
-}
-
-// A release done, or document 01's refusal 13.
-#[derive(Clone, Copy)]
-pub enum Released {
-    Done(Received),
-    NoneTaken,
-}
-
 impl Receiver {
-    // Document 01: a receiver starts Open, with flags and counter zero and no buffer taken.
+    // Document 01: a receiver starts with no buffer taken.
     fn at_start(spacecraft: u16, channel: u8, window: u8, vr: u8, buffers: u8) -> Receiver
         ensures { result ≡ at_start spacecraft channel window vr buffers }
     {
-        let variables = Variables {
-            state: State::Open,
-            vr: vr,
-            lockout: false,
-            wait: false,
-            retransmit: false,
-            counter: 0,
-        };
-        let own = Channel {
-            number: channel,
-            window: window,
-            held: 0,
-            variables: variables,
-        };
-        let farm = ReceiverState {
-            spacecraft: spacecraft,
-            buffers: buffers,
-            channel: own,
-        };
-        Receiver { farm: farm }
+        Receiver {
+            farm: ReceiverState {
+                spacecraft,
+                buffers,
+                channel: Channel {
+                    number: channel,
+                    window,
+                    held: 0,
+                    variables: Variables { vr, ..AT_START },
+                },
+            },
+        }
     }
 
     // A receiver at its start, or 12 where a setting is outside its limit.
-    pub fn new(spacecraft: u16, channel: u8, window: u8, vr: u8, buffers: u8) -> Start
+    pub fn new(
+        spacecraft: u16,
+        channel: u8,
+        window: u8,
+        vr: u8,
+        buffers: u8,
+    ) -> Result<Receiver, Refusal>
         ensures value { result ≡ start_of spacecraft channel window vr buffers }
-        ensures number { start_number result ≡ start_refusal spacecraft channel window buffers }
+        ensures number { result_number result ≡ start_refusal spacecraft channel window buffers }
     {
-        if LARGEST_SPACECRAFT < spacecraft {
-            return Start::Setting;
+        if !are_within(spacecraft, channel, window, buffers) {
+            return Err(Refusal::Setting);
         }
-        if LARGEST_CHANNEL < channel {
-            return Start::Setting;
-        }
-        if window % 2 != 0 {
-            return Start::Setting;
-        }
-        if window < 2 {
-            return Start::Setting;
-        }
-        if buffers < 1 {
-            return Start::Setting;
-        }
-        if LARGEST_BUFFERS < buffers {
-            return Start::Setting;
-        }
-        Start::Ready(Receiver::at_start(spacecraft, channel, window, vr, buffers))
+        Ok(Receiver::at_start(spacecraft, channel, window, vr, buffers))
     }
 
     // The receiver's state, for a unit that keeps it over a reset.
@@ -145,13 +115,13 @@ impl Receiver {
     }
 
     // A receiver from a state that was kept; 12 where no receiver has it.
-    pub fn restore(state: ReceiverState) -> Start
+    pub fn restore(state: ReceiverState) -> Result<Receiver, Refusal>
         ensures { result ≡ restored_of state }
     {
         if !well_formed(state) {
-            return Start::Setting;
+            return Err(Refusal::Setting);
         }
-        Start::Ready(Receiver { farm: state })
+        Ok(Receiver { farm: state })
     }
 
     // The state, V(R), the flags and the counter.
@@ -169,22 +139,19 @@ impl Receiver {
     }
 
     // The channel's answer as the receiver's.
-    fn told(self, refusal: u8, answer: ChannelAnswer) -> Received
+    fn told(self, refusal: Option<Refusal>, answer: ChannelAnswer) -> Received
         ensures { result ≡ told_by refusal answer self }
     {
-        let event = answer.event;
-        let unit = answer.unit;
-        let channel = answer.next;
+        let ChannelAnswer { event, unit, next } = answer;
         let farm = ReceiverState {
-            spacecraft: self.farm.spacecraft,
-            buffers: self.farm.buffers,
-            channel: channel,
+            channel: next,
+            ..self.farm
         };
         Received {
-            refusal: refusal,
-            event: event,
-            unit: unit,
-            next: Receiver { farm: farm },
+            refusal,
+            event,
+            unit,
+            next: Receiver { farm },
         }
     }
 
@@ -192,23 +159,21 @@ impl Receiver {
     pub fn arrive(self, kind: Kind) -> Received
         ensures { result ≡ arrived self kind }
     {
-        let channel = self.farm.channel;
-        self.told(0, channel.arrive(kind, self.has_room()))
+        self.told(None, self.farm.channel.arrive(kind, self.has_room()))
     }
 
-    // A frame that is refused is event E9, with the number of its refusal.
-    fn refused(self, refusal: u8) -> Received
+    // A frame that is refused is event E9, with its refusal.
+    fn refused(self, refusal: Option<Refusal>) -> Received
         ensures { result ≡ answered refusal E9 0 self }
     {
-        let channel = self.farm.channel;
-        self.told(refusal, channel.invalid())
+        self.told(refusal, self.farm.channel.invalid())
     }
 
     // A frame that is not valid, of which nothing more is known.
     pub fn invalid(self) -> Received
-        ensures { result ≡ answered 0 E9 0 self }
+        ensures { result ≡ answered None E9 0 self }
     {
-        self.refused(0)
+        self.refused(None)
     }
 
     // Lent octets: a frame that is refused is event E9.
@@ -216,68 +181,39 @@ impl Receiver {
         ensures { result ≡ receive_of self octets.now }
     {
         let reading = frame::read(octets, self.farm.spacecraft, self.farm.channel.number);
-        let FrameReading::Frame(fields) = reading else {
-            return self.refused(number_of(reading));
+        let Ok(fields) = reading else {
+            return self.refused(reading.err());
         };
-        let kind = fields.kind;
-        self.arrive(kind)
+        self.arrive(fields.kind)
     }
 
     // The unit that lent octets bring to this receiver: the frame's data part where it is accepted, else empty.
     pub fn unit(self, octets: &[u8]) -> &[u8]
         ensures { result.now ≡ unit_part self octets.now }
     {
-        let received = self.receive(octets);
-        let unit = received.unit;
-        let spacecraft = self.farm.spacecraft;
-        let number = self.farm.channel.number;
-        match unit {
-            AcceptedUnit::None => &octets[..0],
-            AcceptedUnit::AdUnit => frame::data_field(octets, spacecraft, number),
-            AcceptedUnit::BdUnit => frame::data_field(octets, spacecraft, number),
+        match self.receive(octets).unit {
+            None => &octets[..0],
+            Some(_) => frame::data_field(octets, self.farm.spacecraft, self.farm.channel.number),
         }
     }
 
     // A buffer release, or 13 where none is taken.
-    pub fn release(self) -> Released
+    pub fn release(self) -> Result<Received, Refusal>
         ensures value { result ≡ release_of self }
-        ensures number { released_number result ≡ release_refusal self }
+        ensures number { result_number result ≡ release_refusal self }
     {
-        let channel = self.farm.channel;
-        if channel.held == 0 {
-            return Released::NoneTaken;
+        if self.farm.channel.held == 0 {
+            return Err(Refusal::Release);
         }
-        let released = channel.release(self.has_room());
-        let ChannelReleased::Done(answer) = released else {
-            return Released::NoneTaken;
-        };
-        Released::Done(self.told(0, answer))
+        let answer = self.farm.channel.release(self.has_room())?;
+        Ok(self.told(None, answer))
     }
 
     // The control word, at the front of the output (E11). A refusal changes nothing.
-    pub fn word(self, out: &mut [u8]) -> WordWritten
+    pub fn word(self, out: &mut [u8]) -> Result<usize, Refusal>
         ensures answer { written_answer result ≡ answer (writing (word_of self) (length out.old)) }
         ensures memory { out.new ≡ after (writing (word_of self) (length out.old)) out.old }
     {
-        let v = self.farm.channel.variables;
-        let word = Clcw {
-            channel: self.farm.channel.number,
-            lockout: v.lockout,
-            wait: v.wait,
-            retransmit: v.retransmit,
-            counter: v.counter,
-            report: v.vr,
-        };
-        word.write(out)
-    }
-}
-
-// The number of a frame's refusal, 0 for a frame.
-fn number_of(reading: FrameReading) -> u8
-    ensures { result ≡ reading_number reading }
-{
-    match reading {
-        FrameReading::Frame(_) => 0,
-        FrameReading::Refused(number) => number,
+        self.farm.channel.word().write(out)
     }
 }

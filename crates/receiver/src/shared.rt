@@ -2,12 +2,12 @@
 // other crates, which tells it whether the pool has room.
 ghost use Rattle.std.specs.Prelude.{◌≡◌, ltb};
 ghost use Rattle.base.specs.Choice.{both};
-ghost use Rattle.receiver.specs.Channel.{arrived, release_of};
+ghost use Rattle.receiver.specs.Channel.{arrived};
 ghost use Rattle.receiver.specs.Shared.{largest_held};
 ghost use Rattle.receiver.specs.State.{flags_hold};
 
-use crate::state::flags_hold;
-use crate::{Channel, ChannelAnswer, ChannelReleased};
+use crate::{Channel, ChannelAnswer};
+use farm::{State, Variables};
 use frame::Kind;
 
 // The units that a record can count.
@@ -18,25 +18,24 @@ impl Channel {
     pub fn arrive_with(self, kind: Kind, room: bool) -> ChannelAnswer
         ensures { result ≡ arrived (both room (ltb self.held largest_held)) self kind }
     {
-        if self.held < LARGEST_HELD {
-            return self.arrive(kind, room);
-        }
-        self.arrive(kind, false)
-    }
-
-    // A release that names this channel.
-    pub fn release_with(self, room: bool) -> ChannelReleased
-        ensures { result ≡ release_of room self }
-    {
-        self.release(room)
+        self.arrive(kind, room && self.held < LARGEST_HELD)
     }
 
     // Whether its flags are those of its state.
     pub fn flags_agree(self) -> bool
         ensures { result ≡ flags_hold self.variables.state self.variables.lockout self.variables.wait self.variables.retransmit }
     {
-        let v = self.variables;
-        let state = v.state;
-        flags_hold(state, v.lockout, v.wait, v.retransmit)
+        let Variables {
+            state,
+            lockout,
+            wait,
+            retransmit,
+            ..
+        } = self.variables;
+        match state {
+            State::Open => !lockout && !wait,
+            State::Wait => !lockout && wait && retransmit,
+            State::Lockout => lockout && (!wait || retransmit),
+        }
     }
 }

@@ -1,5 +1,6 @@
 -- What is kept over a reset comes back: the octets of every well-formed receiver are a state and hold that receiver (`octets_back`); a state is the
 -- octets of the receiver that it holds, and of no other (`state_only`); and that receiver is well-formed (`restored_well`).
+use Rattle.std.specs.Prelude.{Result, Ok, Err}
 use mathlib.Core.Path.{◌≡◌, refl, sym, ap, ◌∙◌}
 use mathlib.Core.Bool.{Bool, true, false}
 use mathlib.Core.List.{List}
@@ -14,15 +15,14 @@ use Rattle.farm.specs.declared.State.{State}
 use Rattle.farm.proofs.Cells.{by_state}
 use Rattle.receiver.specs.declared.Receiver.{Receiver}
 use Rattle.receiver.specs.declared.ReceiverState.{ReceiverState}
-use Rattle.receiver.specs.declared.Start.{Start}
-use Rattle.receiver.specs.declared.Start.TheVariants.{Ready, Setting}
-use Rattle.receiver.specs.Receiver.{start_number}
+use Rattle.base.specs.declared.Refusal.{Refusal}
+use Rattle.base.specs.declared.Refusal.TheVariants.{Setting}
+use Rattle.base.specs.Refusals.{result_number}
 use Rattle.receiver.specs.State.{well_formed}
 use Rattle.receiver.specs.State as restored
 use Rattle.receiver.proofs.Kept.{WellFormed}
 use Rattle.receiver.proofs.Restored.{well_formed_lem, was_well_formed}
-use Rattle.receiver_octets.specs.Kept.{state_number, state_numbered, octets_of, receiver_in, is_state, restored_of, restore_refusal}
-use Rattle.receiver_octets.proofs.Judged.{flags_octet}
+use Rattle.receiver_octets.specs.Kept.{state_number, state_numbered, flags_octet, octets_of, receiver_in, is_state, restored_of, restore_refusal}
 
 -- a state by its number, and flags by their octet
 pub numbered_back : (s : State) → state_numbered (state_number s) ≡ s
@@ -61,14 +61,25 @@ pub restored_well : (o : List ℕ) → is_state o ≡ true → Octets o → Well
 unfolding is_state receiver_in
 restored_well o e h = was_well_formed (receiver_in o) (both_right (same o (octets_of (receiver_in o))) _ e) (octets_at_lem o h 9)
 
--- what is restored of octets that are those of the receiver that they would hold, by value and by number
-pub restored_is : (o : List ℕ) → same o (octets_of (receiver_in o)) ≡ true → (s : ReceiverState) (x : Start) → s ≡ (receiver_in o).farm → x ≡ restored.restored_of s
-    → (x ≡ restored_of o) × (start_number x ≡ restore_refusal o)
-unfolding restored_of is_state restored.restored_of
-restored_is o k s x p q =
-    let e = q ∙ ap restored.restored_of p in
-    (e ∙ rw k, ap start_number e ∙ rw k (numbered (well_formed (receiver_in o).farm)))
-  where
-    numbered : (b : Bool) → start_number (pick b (Ready (receiver_in o)) Setting) ≡ must b 12 0
-    numbered true = refl
-    numbered false = refl
+-- what is restored of octets that are no state, by value and by number
+module _ (o : List ℕ) where
+  pub refused_value : is_state o ≡ false → Err Setting ≡ restored_of o
+  unfolding restored_of
+  refused_value e = rw e refl
+
+  pub refused_number : is_state o ≡ false → 12 ≡ restore_refusal o
+  refused_number e = rw e refl
+
+  pub restored_number : (x : Result Receiver Refusal) → x ≡ restored_of o → result_number x ≡ restore_refusal o
+  unfolding restored_of
+  restored_number x e = ap result_number e ∙ numbered (is_state o)
+    where
+      numbered : (b : Bool) → result_number (pick b (Ok (receiver_in o)) (Err Setting)) ≡ must b 12 0
+      numbered true = refl
+      numbered false = refl
+
+  -- and of those that are as they are written
+  pub restored_is : same o (octets_of (receiver_in o)) ≡ true → (s : ReceiverState) (x : Result Receiver Refusal) → s ≡ (receiver_in o).farm → x ≡ restored.restored_of s
+      → x ≡ restored_of o
+  unfolding restored_of is_state restored.restored_of
+  restored_is k s x p q = q ∙ ap restored.restored_of p ∙ rw k refl

@@ -4,7 +4,7 @@
 --   1 layout, 1   5 channel                                            9 V(R)
 --   2 state: 1 Open, 2 Wait, 3 Lockout                                 10 flags: 4 lockout, 2 wait, 1 retransmit
 --                 6 W, 7 buffers                                       11 FARM-B counter
-use Rattle.std.specs.Prelude.{ℕ, ◌+◌, ◌*◌, ◌/◌, ◌%◌, Bool, List, [], ◌∷◌, eqb, get_or}
+use Rattle.std.specs.Prelude.{ℕ, ◌+◌, ◌*◌, ◌/◌, ◌%◌, Bool, List, [], ◌∷◌, eqb, get_or, Result, Ok, Err}
 use Rattle.base.specs.Choice.{pick, must, both}
 use Rattle.base.specs.Octets.{same}
 use Rattle.base.specs.Flags.{bit_of, is_set}
@@ -12,8 +12,9 @@ use Rattle.farm.specs.declared.State.{State}
 use Rattle.farm.specs.declared.State.TheVariants.{Open, Wait, Lockout}
 use Rattle.receiver.specs.State.{well_formed}
 use Rattle.receiver.specs.declared.Receiver.{Receiver}
-use Rattle.receiver.specs.declared.Start.{Start}
-use Rattle.receiver.specs.declared.Start.TheVariants.{Ready, Setting}
+use Rattle.base.specs.declared.Refusal.{Refusal}
+use Rattle.base.specs.declared.Refusal.TheVariants.{Setting}
+use Rattle.farm.specs.declared.Variables.{Variables}
 
 -- the octets of a state
 abbrev pub state_octets : ℕ
@@ -28,6 +29,21 @@ state_number Lockout = 3
 -- and back; any other number as Lockout
 abbrev pub state_numbered : ℕ → State
 state_numbered n = pick (eqb n 1) Open (pick (eqb n 2) Wait Lockout)
+
+-- the flags as an octet
+abbrev pub flags_octet : Bool → Bool → Bool → ℕ
+flags_octet lockout wait retransmit = bit_of lockout * 4 + bit_of wait * 2 + bit_of retransmit
+
+-- the variables that octets hold: the state's, V(R), the flags' and the counter
+abbrev pub variables_in : ℕ → ℕ → ℕ → ℕ → Variables
+variables_in state vr flags counter = record {
+  state = state_numbered state;
+  vr = vr;
+  lockout = is_set flags 4;
+  wait = is_set flags 2;
+  retransmit = is_set flags 1;
+  counter = counter;
+}
 
 -- a receiver as octets
 unfoldable pub octets_of : Receiver → List ℕ
@@ -65,8 +81,8 @@ unfoldable pub is_state : List ℕ → Bool
 is_state o = both (same o (octets_of (receiver_in o))) (well_formed (receiver_in o).farm)
 
 -- a receiver from octets; 12 where they are no state
-unfoldable pub restored_of : List ℕ → Start
-restored_of o = pick (is_state o) (Ready (receiver_in o)) Setting
+unfoldable pub restored_of : List ℕ → Result Receiver Refusal
+restored_of o = pick (is_state o) (Ok (receiver_in o)) (Err Setting)
 
 -- and document 01's number of it
 abbrev pub restore_refusal : List ℕ → ℕ

@@ -1,14 +1,13 @@
 // The receiver's state as 12 octets, so that a unit can keep it over a reset. The layout: specs/Kept.
 #![tactic(auto)]
 
-ghost use Rattle.std.specs.Prelude.{◌≡◌, ◌<◌, ◌≤◌, length};
-ghost use Rattle.base.specs.Octets.{same};
-ghost use Rattle.base.specs.Flags.{bit_of, is_set};
-ghost use Rattle.receiver.specs.Receiver.{start_number};
-ghost use Rattle.receiver_octets.specs.Kept.{state_octets, state_number, state_numbered, octets_of, receiver_in, restored_of, restore_refusal};
+ghost use Rattle.std.specs.Prelude.{◌≡◌};
+ghost use Rattle.base.specs.Refusals.{result_number};
+ghost use Rattle.receiver_octets.specs.Kept.{state_number, state_numbered, flags_octet, variables_in, octets_of, restored_of, restore_refusal};
 
+use base::Refusal;
 use farm::{State, Variables};
-use receiver::{Channel, Receiver, ReceiverState, Start};
+use receiver::{Channel, Receiver, ReceiverState};
 
 pub const STATE_OCTETS: usize = 12;
 
@@ -17,143 +16,112 @@ const MARK: u8 = 0x52;
 
 const LAYOUT: u8 = 1;
 
-// Octet 2.
-pub const OPEN: u8 = 1;
+// The weights of the flags.
+const LOCKOUT_FLAG: u8 = 4;
 
-const WAIT: u8 = 2;
+const WAIT_FLAG: u8 = 2;
 
-pub const LOCKOUT: u8 = 3;
+const RETRANSMIT_FLAG: u8 = 1;
 
-// Octet 10: the weights of the flags.
-pub const LOCKOUT_FLAG: u8 = 4;
-
-pub const WAIT_FLAG: u8 = 2;
-
-pub const RETRANSMIT_FLAG: u8 = 1;
-
-pub const FLAGS_END: u8 = 8;
-
+// S1 to S3 of table 7-9 by number.
 pub fn state_number(state: State) -> u8
     ensures { result ≡ state_number state }
 {
-    match state {
-        State::Open => OPEN,
-        State::Wait => WAIT,
-        State::Lockout => LOCKOUT,
-    }
+    state as u8
 }
 
 pub fn state_numbered(number: u8) -> State
     ensures { result ≡ state_numbered number }
 {
-    if number == OPEN {
-        return State::Open;
-    }
-    if number == WAIT {
-        return State::Wait;
-    }
-    State::Lockout
-}
-
-pub fn flag(set: bool) -> u8
-    ensures number { result ≡ bit_of set }
-    ensures small { result ≤ 1 }
-{
-    if set { 1 } else { 0 }
-}
-
-// Whether the bit of a weight is set.
-fn is_set(flags: u8, weight: u8) -> bool
-    requires { 0 < weight }
-    ensures { result ≡ is_set flags weight }
-{
-    flags / weight % 2 == 1
-}
-
-// The state that 12 octets would hold.
-fn state_in(octets: &[u8]) -> ReceiverState
-    requires { length octets.now ≡ state_octets }
-    ensures { result ≡ (receiver_in octets.now).farm }
-{
-    let state = state_numbered(octets[2]);
-    let flags = octets[10];
-    let variables = Variables {
-        state: state,
-        vr: octets[9],
-        lockout: is_set(flags, LOCKOUT_FLAG),
-        wait: is_set(flags, WAIT_FLAG),
-        retransmit: is_set(flags, RETRANSMIT_FLAG),
-        counter: octets[11],
-    };
-    let channel = Channel {
-        number: octets[5],
-        window: octets[6],
-        held: octets[8],
-        variables: variables,
-    };
-    ReceiverState {
-        spacecraft: (octets[3] as u16) * 256 + (octets[4] as u16),
-        buffers: octets[7],
-        channel: channel,
+    match number {
+        1 => State::Open,
+        2 => State::Wait,
+        _ => State::Lockout,
     }
 }
 
-// Whether 12 octets are those of the receiver that they would hold: mark, layout, state and flags decide it.
-fn are_kept(octets: &[u8]) -> bool
-    requires { length octets.now ≡ state_octets }
-    ensures { result ≡ same octets.now (octets_of (receiver_in octets.now)) }
+// The flags as an octet.
+pub fn flags_octet(v: Variables) -> u8
+    ensures { result ≡ flags_octet v.lockout v.wait v.retransmit }
 {
-    if octets[0] != MARK {
-        return false;
+    u8::from(v.lockout) * LOCKOUT_FLAG
+        + u8::from(v.wait) * WAIT_FLAG
+        + u8::from(v.retransmit) * RETRANSMIT_FLAG
+}
+
+// The variables that octets hold.
+pub fn variables_in(state: u8, vr: u8, flags: u8, counter: u8) -> Variables
+    ensures { result ≡ variables_in state vr flags counter }
+{
+    Variables {
+        state: state_numbered(state),
+        vr,
+        lockout: flags / LOCKOUT_FLAG % 2 == 1,
+        wait: flags / WAIT_FLAG % 2 == 1,
+        retransmit: flags / RETRANSMIT_FLAG % 2 == 1,
+        counter,
     }
-    if octets[1] != LAYOUT {
-        return false;
-    }
-    if octets[2] < OPEN {
-        return false;
-    }
-    if LOCKOUT < octets[2] {
-        return false;
-    }
-    octets[10] < FLAGS_END
 }
 
 // A receiver's state as octets.
+#[tactic(auto, using(base::proofs::Pairs::pair_parted), unfolding(crate::specs::Kept::octets_of))]
 pub fn octets_of(receiver: Receiver) -> [u8; STATE_OCTETS]
     ensures { result ≡ octets_of receiver }
 {
-    let farm = receiver.state();
-    let channel = farm.channel;
+    let ReceiverState {
+        spacecraft,
+        buffers,
+        channel,
+    } = receiver.state();
     let v = channel.variables;
-    let state = v.state;
-    let number = state_number(state);
-    let flags = flag(v.lockout) * LOCKOUT_FLAG + flag(v.wait) * WAIT_FLAG + flag(v.retransmit);
+    let [high, low] = spacecraft.to_be_bytes();
     [
         MARK,
         LAYOUT,
-        number,
-        (farm.spacecraft / 256) as u8,
-        (farm.spacecraft % 256) as u8,
+        state_number(v.state),
+        high,
+        low,
         channel.number,
         channel.window,
-        farm.buffers,
+        buffers,
         channel.held,
         v.vr,
-        flags,
+        flags_octet(v),
         v.counter,
     ]
 }
 
-// The receiver whose state octets are, or 12 where they are no state.
-pub fn receiver_in(octets: &[u8]) -> Start
+// The receiver whose state octets are, or 12 where they are no state: mark, layout, state and flags decide whether they are as they are written.
+#[tactic(auto, using(crate::proofs::Judged::short, crate::proofs::Judged::long, crate::proofs::Judged::other_mark, crate::proofs::Judged::other_layout, crate::proofs::Judged::no_state, crate::proofs::Judged::beyond_state, crate::proofs::Judged::beyond_flags, crate::proofs::Restored::refused_value, crate::proofs::Restored::refused_number))]
+pub fn receiver_in(octets: &[u8]) -> Result<Receiver, Refusal>
     ensures value { result ≡ restored_of octets.now }
-    ensures number { start_number result ≡ restore_refusal octets.now }
+    ensures number { result_number result ≡ restore_refusal octets.now }
 {
-    if octets.len() != STATE_OCTETS {
-        return Start::Setting;
-    }
-    if !are_kept(octets) {
-        return Start::Setting;
-    }
-    Receiver::restore(state_in(octets))
+    let &[
+        MARK,
+        LAYOUT,
+        state @ 1..=3,
+        high,
+        low,
+        number,
+        window,
+        buffers,
+        held,
+        vr,
+        flags @ 0..=7,
+        counter,
+    ] = octets
+    else {
+        return Err(Refusal::Setting);
+    };
+    Receiver::restore(ReceiverState {
+        spacecraft: u16::from_be_bytes([high, low]),
+        buffers,
+        channel: Channel {
+            number,
+            window,
+            held,
+            variables: variables_in(state, vr, flags, counter),
+        },
+    })
 }

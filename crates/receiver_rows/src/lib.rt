@@ -1,5 +1,5 @@
 // Clause 7.9.3, table 7-9: the event of an AD frame, the variables of FARM-1 after an event, row by row, and the unit accepted.
-#![tactic(auto)]
+#![tactic(auto, using(farm::proofs::Cells::told, farm::proofs::Cells::same, farm::proofs::Units::unit_told_lem, farm::proofs::Units::unit_anywhere), unfolding(farm::specs::Window::ad_event, farm::specs::Table::accepts, farm::specs::Table::step_of, farm::specs::Table::table, farm::specs::Table::perform_all, farm::specs::Table::perform))]
 
 ghost use Rattle.std.specs.Prelude.{◌≡◌, ◌+◌, ◌%◌};
 ghost use Rattle.base.specs.Choice.{both};
@@ -9,7 +9,6 @@ ghost use Rattle.farm.specs.Table.{step_of, unit_of};
 ghost use Rattle.farm.specs.Window.{not_wait, ad_event};
 
 use farm::{AcceptedUnit, Event, State, Variables};
-use std::num::{wrapping_add_u8, wrapping_sub_u8};
 
 // The FARM-B counter, one more modulo 4.
 fn counted(v: Variables) -> u8
@@ -22,19 +21,13 @@ fn counted(v: Variables) -> u8
 fn e1(v: Variables) -> Variables
     ensures { result ≡ step_of E1 0 v }
 {
-    let state = v.state;
-    let vr = wrapping_add_u8(v.vr, 1);
-    match state {
+    match v.state {
         State::Open => Variables {
-            state: State::Open,
-            vr: vr,
-            lockout: v.lockout,
-            wait: v.wait,
+            vr: v.vr.wrapping_add(1),
             retransmit: false,
-            counter: v.counter,
+            ..v
         },
-        State::Wait => v,
-        State::Lockout => v,
+        State::Wait | State::Lockout => v,
     }
 }
 
@@ -42,18 +35,14 @@ fn e1(v: Variables) -> Variables
 fn e2(v: Variables) -> Variables
     ensures { result ≡ step_of E2 0 v }
 {
-    let state = v.state;
-    match state {
+    match v.state {
         State::Open => Variables {
             state: State::Wait,
-            vr: v.vr,
-            lockout: v.lockout,
             wait: true,
             retransmit: true,
-            counter: v.counter,
+            ..v
         },
-        State::Wait => v,
-        State::Lockout => v,
+        State::Wait | State::Lockout => v,
     }
 }
 
@@ -61,18 +50,12 @@ fn e2(v: Variables) -> Variables
 fn e3(v: Variables) -> Variables
     ensures { result ≡ step_of E3 0 v }
 {
-    let state = v.state;
-    match state {
+    match v.state {
         State::Open => Variables {
-            state: State::Open,
-            vr: v.vr,
-            lockout: v.lockout,
-            wait: v.wait,
             retransmit: true,
-            counter: v.counter,
+            ..v
         },
-        State::Wait => v,
-        State::Lockout => v,
+        State::Wait | State::Lockout => v,
     }
 }
 
@@ -80,23 +63,11 @@ fn e3(v: Variables) -> Variables
 fn e5(v: Variables) -> Variables
     ensures { result ≡ step_of E5 0 v }
 {
-    let state = v.state;
-    match state {
-        State::Open => Variables {
+    match v.state {
+        State::Open | State::Wait => Variables {
             state: State::Lockout,
-            vr: v.vr,
             lockout: true,
-            wait: v.wait,
-            retransmit: v.retransmit,
-            counter: v.counter,
-        },
-        State::Wait => Variables {
-            state: State::Lockout,
-            vr: v.vr,
-            lockout: true,
-            wait: v.wait,
-            retransmit: v.retransmit,
-            counter: v.counter,
+            ..v
         },
         State::Lockout => v,
     }
@@ -106,33 +77,9 @@ fn e5(v: Variables) -> Variables
 fn e6(v: Variables) -> Variables
     ensures { result ≡ step_of E6 0 v }
 {
-    let state = v.state;
-    let counter = counted(v);
-    match state {
-        State::Open => Variables {
-            state: State::Open,
-            vr: v.vr,
-            lockout: v.lockout,
-            wait: v.wait,
-            retransmit: v.retransmit,
-            counter: counter,
-        },
-        State::Wait => Variables {
-            state: State::Wait,
-            vr: v.vr,
-            lockout: v.lockout,
-            wait: v.wait,
-            retransmit: v.retransmit,
-            counter: counter,
-        },
-        State::Lockout => Variables {
-            state: State::Lockout,
-            vr: v.vr,
-            lockout: v.lockout,
-            wait: v.wait,
-            retransmit: v.retransmit,
-            counter: counter,
-        },
+    Variables {
+        counter: counted(v),
+        ..v
     }
 }
 
@@ -140,32 +87,22 @@ fn e6(v: Variables) -> Variables
 fn e7(v: Variables) -> Variables
     ensures { result ≡ step_of E7 0 v }
 {
-    let state = v.state;
-    let counter = counted(v);
-    match state {
-        State::Open => Variables {
-            state: State::Open,
-            vr: v.vr,
-            lockout: v.lockout,
-            wait: v.wait,
-            retransmit: false,
-            counter: counter,
-        },
+    let open = Variables {
+        state: State::Open,
+        retransmit: false,
+        counter: counted(v),
+        ..v
+    };
+    match v.state {
+        State::Open => open,
         State::Wait => Variables {
-            state: State::Open,
-            vr: v.vr,
-            lockout: v.lockout,
             wait: false,
-            retransmit: false,
-            counter: counter,
+            ..open
         },
         State::Lockout => Variables {
-            state: State::Open,
-            vr: v.vr,
-            lockout: false,
             wait: false,
-            retransmit: false,
-            counter: counter,
+            lockout: false,
+            ..open
         },
     }
 }
@@ -174,33 +111,23 @@ fn e7(v: Variables) -> Variables
 fn e8(v: Variables, star: u8) -> Variables
     ensures { result ≡ step_of E8 star v }
 {
-    let state = v.state;
     let counter = counted(v);
-    match state {
+    match v.state {
         State::Open => Variables {
-            state: State::Open,
             vr: star,
-            lockout: v.lockout,
-            wait: v.wait,
             retransmit: false,
-            counter: counter,
+            counter,
+            ..v
         },
         State::Wait => Variables {
             state: State::Open,
             vr: star,
-            lockout: v.lockout,
             wait: false,
             retransmit: false,
-            counter: counter,
+            counter,
+            ..v
         },
-        State::Lockout => Variables {
-            state: state,
-            vr: v.vr,
-            lockout: v.lockout,
-            wait: v.wait,
-            retransmit: v.retransmit,
-            counter: counter,
-        },
+        State::Lockout => Variables { counter, ..v },
     }
 }
 
@@ -208,26 +135,14 @@ fn e8(v: Variables, star: u8) -> Variables
 fn e10(v: Variables) -> Variables
     ensures { result ≡ step_of E10 0 v }
 {
-    let state = v.state;
-    let retransmit = v.retransmit;
-    match state {
+    match v.state {
         State::Open => v,
         State::Wait => Variables {
             state: State::Open,
-            vr: v.vr,
-            lockout: v.lockout,
             wait: false,
-            retransmit: retransmit,
-            counter: v.counter,
+            ..v
         },
-        State::Lockout => Variables {
-            state: State::Lockout,
-            vr: v.vr,
-            lockout: v.lockout,
-            wait: false,
-            retransmit: retransmit,
-            counter: v.counter,
-        },
+        State::Lockout => Variables { wait: false, ..v },
     }
 }
 
@@ -239,48 +154,23 @@ pub fn step(v: Variables, event: Event, star: u8) -> Variables
         Event::E1 => e1(v),
         Event::E2 => e2(v),
         Event::E3 => e3(v),
-        Event::E4 => v,
         Event::E5 => e5(v),
         Event::E6 => e6(v),
         Event::E7 => e7(v),
         Event::E8 => e8(v, star),
-        Event::E9 => v,
         Event::E10 => e10(v),
-        Event::E11 => v,
+        Event::E4 | Event::E9 | Event::E11 => v,
     }
 }
 
 // The unit that an event accepts in a state.
-pub fn unit_of(event: Event, state: State) -> AcceptedUnit
+pub fn unit_of(event: Event, state: State) -> Option<AcceptedUnit>
     ensures { result ≡ unit_of event state }
 {
-    match event {
-        Event::E1 => match state {
-            State::Open => AcceptedUnit::AdUnit,
-            State::Wait => AcceptedUnit::None,
-            State::Lockout => AcceptedUnit::None,
-        },
-        Event::E2 => AcceptedUnit::None,
-        Event::E3 => AcceptedUnit::None,
-        Event::E4 => AcceptedUnit::None,
-        Event::E5 => AcceptedUnit::None,
-        Event::E6 => AcceptedUnit::BdUnit,
-        Event::E7 => AcceptedUnit::None,
-        Event::E8 => AcceptedUnit::None,
-        Event::E9 => AcceptedUnit::None,
-        Event::E10 => AcceptedUnit::None,
-        Event::E11 => AcceptedUnit::None,
-    }
-}
-
-// Whether an expected frame finds a free buffer: never in Wait.
-fn free(state: State, room: bool) -> bool
-    ensures { result ≡ both room (not_wait state) }
-{
-    match state {
-        State::Open => room,
-        State::Wait => false,
-        State::Lockout => room,
+    match (event, state) {
+        (Event::E1, State::Open) => Some(AcceptedUnit::Ad),
+        (Event::E6, _) => Some(AcceptedUnit::Bd),
+        _ => None,
     }
 }
 
@@ -288,25 +178,19 @@ fn free(state: State, room: bool) -> bool
 pub fn distance(number: u8, vr: u8) -> u8
     ensures { result ≡ offset number vr }
 {
-    wrapping_sub_u8(number, vr)
+    number.wrapping_sub(vr)
 }
 
-// The event of a valid AD frame at offset d = N(S) - V(R) modulo 256.
+// The event of a valid AD frame at offset d = N(S) - V(R) modulo 256. An expected frame finds a free buffer where there is room, but never in Wait.
 pub fn ad_event(window: u8, state: State, room: bool, d: u8) -> Event
     ensures { result ≡ ad_event window state room d }
 {
-    if d == 0 {
-        if free(state, room) {
-            return Event::E1;
-        }
-        return Event::E2;
-    }
     let half = window / 2;
-    if d < half {
-        return Event::E3;
+    match d {
+        0 if room && state != State::Wait => Event::E1,
+        0 => Event::E2,
+        d if d < half => Event::E3,
+        d if u16::from(d) + u16::from(half) < 256 => Event::E5,
+        _ => Event::E4,
     }
-    if (d as u16) + (half as u16) < 256 {
-        return Event::E5;
-    }
-    Event::E4
 }

@@ -1,4 +1,3 @@
 pub mod Steps
-pub mod Timer
 pub mod Starts
 pub mod Judged

@@ -9,33 +9,36 @@ use Rattle.sender_values.specs.declared.SenderState.{SenderState}
 use Rattle.sender_values.specs.Start.{start_of}
 use Rattle.fop.specs.Store.{store_need}
 use Rattle.sender_state.specs.State.{settings_hold, well_formed}
-use Rattle.sender.specs.declared.Start.{Start}
-use Rattle.sender.specs.Start.{refused_start, starting_of, restored_of}
+use Rattle.std.specs.Prelude.{Result, Ok, Err}
+use Rattle.base.specs.declared.Refusal.{Refusal}
+use Rattle.base.specs.declared.Refusal.TheVariants.{Room, Setting}
+use Rattle.sender.specs.declared.Sender.{Sender}
+use Rattle.sender.specs.Start.{starting_of, restored_of}
 use Rattle.sender.proofs.Steps.{holds, fails}
 
 module _ (g : Settings) (vs nnr lent : ℕ) (within : Bool) (of-settings : within ≡ settings_hold g) where
-  pub start_setting : (r : Start) → within ≡ false → r ≡ refused_start 12 → r ≡ starting_of g vs nnr lent
+  pub start_setting : (r : Result Sender Refusal) → within ≡ false → r ≡ Err Setting → r ≡ starting_of g vs nnr lent
   unfolding starting_of
   start_setting r f e = e ∙ sym (fails _ _ _ (sym of-settings ∙ f))
 
-  pub start_store : (r : Start) {t : Bool} → within ≡ true → t ≡ leb (store_need g.k 0) lent → t ≡ false → r ≡ refused_start 11
+  pub start_store : (r : Result Sender Refusal) {t : Bool} → within ≡ true → t ≡ leb (store_need g.k 0) lent → t ≡ false → r ≡ Err Room
       → r ≡ starting_of g vs nnr lent
   unfolding starting_of
   start_store r f h t e = e ∙ sym (holds _ _ _ (sym of-settings ∙ f) ∙ fails _ _ _ (sym h ∙ t))
 
   pub start_done : (s : SenderState) {t : Bool} → within ≡ true → t ≡ leb (store_need g.k 0) lent → t ≡ true → s ≡ start_of g vs nnr
-      → record { refusal = 0; sender = record { fop = s } } ≡ starting_of g vs nnr lent
+      → Ok (record { fop = s }) ≡ starting_of g vs nnr lent
   unfolding starting_of
   start_done s f h t e =
-      ap (λ (x : SenderState). record { refusal = 0; sender = record { fop = x } }) e
+      ap (λ (x : SenderState). Ok (record { fop = x })) e
       ∙ sym (holds _ _ _ (sym of-settings ∙ f) ∙ holds _ _ _ (sym h ∙ t))
 
 -- a state by whether it is well-formed
 module _ (s : SenderState) (a : Bool) (ea : a ≡ well_formed s) where
-  pub restored_not : (r : Start) → a ≡ false → r ≡ refused_start 12 → r ≡ restored_of s
+  pub restored_not : (r : Result Sender Refusal) → a ≡ false → r ≡ Err Setting → r ≡ restored_of s
   unfolding restored_of
   restored_not r p e = e ∙ sym (no _ _ _ (sym ea ∙ p))
 
-  pub restored : a ≡ true → record { refusal = 0; sender = record { fop = s } } ≡ restored_of s
+  pub restored : a ≡ true → Ok (record { fop = s }) ≡ restored_of s
   unfolding restored_of
   restored p = sym (yes _ _ _ (sym ea ∙ p))

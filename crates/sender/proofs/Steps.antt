@@ -3,20 +3,20 @@ use mathlib.Core.Path.{◌≡◌, refl, sym, ap, ◌∙◌}
 use mathlib.Core.Bool.{Bool, true, false}
 use mathlib.Core.List.{List}
 use Prim.Native.Nat.{ℕ}
-use native.Mathlib.Omega.{arith}
 use lib.ListN.{length}
-use Rattle.base.specs.Choice.{must}
+use Rattle.base.specs.Choice.{pick, must}
 use Rattle.base.specs.Outcome.{Outcome, answer, after, number_of}
 use Rattle.base.specs.Outcome as outcome
-use Rattle.frame.specs.Answers.{written_answer}
-use Rattle.frame.specs.declared.FrameWritten.{FrameWritten}
-use Rattle.frame.specs.declared.FrameWritten.TheVariants.{Done, Length, Setting, Room}
+use Rattle.std.specs.Prelude.{Option, Result, Ok, Err, is_ok}
+use Rattle.base.specs.Refusals.{written_answer}
+use Rattle.base.specs.declared.Refusal.{Refusal}
+use Rattle.fop.specs.declared.Event.{Event as FopEvent}
 use Rattle.sender_values.specs.declared.SenderState.{SenderState}
 use Rattle.sender_values.specs.declared.Work.{Work}
 use Rattle.sender_frames.specs.Frames.{handed_writing}
 use Rattle.sender_frames.proofs.Written.{Writes}
 use Rattle.sender.specs.declared.Answer.{Answer}
-use Rattle.sender.specs.Answers.{Step, answered, refusing, refused_step, concluded, stored, step_by}
+use Rattle.sender.specs.Answers.{Step, refusing, refused_step, concluded, stored, step_by}
 
 -- a check that holds, and one that fails
 pub holds : {A : Type 0} (b : Bool) (refusal on : A) → b ≡ true → must b refusal on ≡ on
@@ -42,6 +42,10 @@ module _ {A : Type 0} (refusal : ℕ → A) (on : A) (n : ℕ) where
 abbrev pub Meets : Answer → List ℕ → List ℕ → Step → Type 0
 Meets a store output t = (a ≡ t.answer) × ((store ≡ t.store) × (output ≡ t.output))
 
+-- what writing a frame came to
+abbrev pub Written : Type 0
+Written = Result ℕ Refusal
+
 -- a step by another that it is
 pub same_step : {a : Answer} {store output : List ℕ} {t u : Step} → t ≡ u → Meets a store output u → Meets a store output t
 same_step p h =
@@ -52,65 +56,30 @@ pub refuses : (n : ℕ) (s : SenderState) {a : Answer} {store output : List ℕ}
     → Meets a store output t
 refuses n s p e = same_step p (e, (refl, refl))
 
--- what was written picks the answer
-pub concludes : (event : ℕ) (s : SenderState) (w : Work) (ls : List ℕ) (x y : FrameWritten) (a : Answer) → x ≡ y → a ≡ concluded event s w ls (written_answer y)
-    → a ≡ concluded event s w ls (written_answer x)
-concludes event s w ls x y a p e = e ∙ ap (λ (z : FrameWritten). concluded event s w ls (written_answer z)) (sym p)
-
 -- a store that the event does not change, whatever was written
 pub stored_same : (y : outcome.Answer (Unit {0})) (store : List ℕ) → store ≡ stored y store store
 stored_same (outcome.Answer.done count more) store = refl
 stored_same (outcome.Answer.refused number place) store = refl
 
--- the refusal in the answer is 0 exactly where the frame is written, so the store changes exactly there
-module _ (event : ℕ) (s : SenderState) (w : Work) (ls : List ℕ) (new old : List ℕ) where
-  stored_new : (x : FrameWritten) → (concluded event s w ls (written_answer x)).refusal ≡ 0 → stored (written_answer x) new old ≡ new
-  unfolding refusing
-  stored_new (Done count) z = refl
-  stored_new Length z = absurd (omega arith)
-  stored_new Setting z = absurd (omega arith)
-  stored_new Room z = absurd (omega arith)
-
-  stored_old : (x : FrameWritten) → ((concluded event s w ls (written_answer x)).refusal ≡ 0 → ⊥) → stored (written_answer x) new old ≡ old
-  unfolding answered
-  stored_old (Done count) z = absurd (z refl)
-  stored_old Length z = refl
-  stored_old Setting z = refl
-  stored_old Room z = refl
-
--- the same by the number of what was written
-pub written_new : (x : FrameWritten) (new old : List ℕ) → number_of (written_answer x) ≡ 0 → stored (written_answer x) new old ≡ new
-written_new (Done count) new old z = refl
-written_new Length new old z = absurd (omega arith)
-written_new Setting new old z = absurd (omega arith)
-written_new Room new old z = absurd (omega arith)
-
-pub written_old : (x : FrameWritten) (new old : List ℕ) → (number_of (written_answer x) ≡ 0 → ⊥) → stored (written_answer x) new old ≡ old
-written_old (Done count) new old z = absurd (z refl)
-written_old Length new old z = refl
-written_old Setting new old z = refl
-written_old Room new old z = refl
+-- the store changes exactly where the frame is written
+pub stored_by : (x : Written) (new old : List ℕ) → stored (written_answer x) new old ≡ pick (is_ok x) new old
+stored_by (Ok count) new old = refl
+stored_by (Err refusal) new old = refl
 
 -- the writing of the frame handed down, with its unit
 abbrev pub handing : SenderState → Work → List ℕ → List ℕ → Outcome (Unit {0})
 handing s w unit output = handed_writing s.settings w.told.handed unit (length output)
 
 -- the answer by the frame written
-pub answered_by : (event : ℕ) (s : SenderState) (w : Work) (ls : List ℕ) (x : FrameWritten) (a : Answer) (unit out output : List ℕ) → Writes x out (handing s w unit output) output
+pub answered_by : (event : Option FopEvent) (s : SenderState) (w : Work) (ls : List ℕ) (x : Written) (a : Answer) (unit out output : List ℕ) → Writes x out (handing s w unit output) output
     → a ≡ concluded event s w ls (written_answer x)
     → (a ≡ concluded event s w ls (answer (handing s w unit output))) × (out ≡ after (handing s w unit output) output)
 answered_by event s w ls x a unit out output f e = (e ∙ ap (concluded event s w ls) f.0, f.1)
 
--- an event judged: the answer by the frame written, and the store by the refusal in it
-module _ (event : ℕ) (s : SenderState) (w : Work) (ls : List ℕ) (x : FrameWritten) (a : Answer) (unit out new old output : List ℕ)
+-- an event judged: the answer and the store by what writing its frame came to
+module _ (event : Option FopEvent) (s : SenderState) (w : Work) (ls : List ℕ) (x : Written) (a : Answer) (unit out new old output : List ℕ)
     (written : Writes x out (handing s w unit output) output) (told : a ≡ concluded event s w ls (written_answer x)) where
-  step_with_lem : (store : List ℕ) → store ≡ stored (written_answer x) new old → Meets a store out (step_by event s w ls (handing s w unit output) new old output)
-  step_with_lem store q =
+  pub step_written : (store : List ℕ) → store ≡ stored (written_answer x) new old → Meets a store out (step_by event s w ls (handing s w unit output) new old output)
+  step_written store q =
       let r = answered_by event s w ls x a unit out output written told in
       (r.0, (q ∙ ap (λ y. stored y new old) written.0, r.1))
-
-  pub step_done : (store : List ℕ) → a.refusal ≡ 0 → store ≡ new → Meets a store out (step_by event s w ls (handing s w unit output) new old output)
-  step_done store z q = step_with_lem store (q ∙ sym (stored_new event s w ls new old x (sym (ap (λ (y : Answer). y.refusal) told) ∙ z)))
-
-  pub step_refused : (a.refusal ≡ 0 → ⊥) → Meets a old out (step_by event s w ls (handing s w unit output) new old output)
-  step_refused z = step_with_lem old (sym (stored_old event s w ls new old x (λ p. z (ap (λ (y : Answer). y.refusal) told ∙ p))))

@@ -1,9 +1,10 @@
 -- What the sender answers: document 01's answer to an event, and its refusals.
-use Rattle.std.specs.Prelude.{ℕ, false, List, eqb, replicate}
+use Rattle.std.specs.Prelude.{ℕ, false, List, eqb, replicate, Option, None, Some}
 use Rattle.base.specs.Choice.{pick}
 use Rattle.base.specs.Outcome.{Outcome, Answer.done, Answer.refused, answer, after}
 use Rattle.base.specs.Outcome as outcome
-use Rattle.fop.specs.declared.Alert.TheVariants as alert
+use Rattle.fop.specs.declared.Event.{Event as FopEvent}
+use Rattle.fop.specs.declared.Event.TheVariants.{E40}
 use Rattle.sender_values.specs.declared.Handed.{Handed}
 use Rattle.sender_values.specs.declared.Handed.TheVariants as handed
 use Rattle.fop.specs.declared.Response.TheVariants.{RejectDirective}
@@ -27,23 +28,23 @@ abbrev pub refused_responses : ℕ → Responses
 refused_responses number = pick (eqb number 12) (responses_with (response_number RejectDirective) no_responses) no_responses
 
 -- and E40 is its event; any other refusal is no event
-abbrev pub refused_event : ℕ → ℕ
-refused_event number = pick (eqb number 12) 40 0
+abbrev pub refused_event : ℕ → Option FopEvent
+refused_event number = pick (eqb number 12) (Some E40) None
 
 -- "0 and 0 where empty"
 abbrev pub empty_run : Run
 empty_run = record { number = 0; count = 0 }
 
 -- table 6-3 and clause 7.8: the kind of the frame handed down
-abbrev pub kind_handed : Handed → FrameKind
-kind_handed handed.None = kind.None
-kind_handed (handed.Ad n i) = kind.Ad
-kind_handed handed.Bd = kind.Bd
-kind_handed handed.Unlock = kind.Unlock
-kind_handed (handed.SetVr n) = kind.SetVr
+abbrev pub kind_handed : Option Handed → Option FrameKind
+kind_handed None = None
+kind_handed (Some (handed.Ad n i)) = Some kind.Ad
+kind_handed (Some handed.Bd) = Some kind.Bd
+kind_handed (Some handed.Unlock) = Some kind.Unlock
+kind_handed (Some (handed.SetVr n)) = Some kind.SetVr
 
--- an event that is not refused: the event's number, the count of octets handed down, and what the work tells
-unfoldable pub answered : ℕ → ℕ → Work → List ℕ → Answer
+-- an event that is not refused: the table's event, if it is one, the count of octets handed down, and what the work tells
+unfoldable pub answered : Option FopEvent → ℕ → Work → List ℕ → Answer
 answered event down w lengths = record {
   refusal = 0;
   event = event;
@@ -67,12 +68,12 @@ refusing number s = record {
   state = s.state;
   down = 0;
   abort = false;
-  alert = alert.None;
+  alert = None;
   suspended = false;
   responses = refused_responses number;
   confirmed = empty_run;
   denied = empty_run;
-  kind = kind.None;
+  kind = None;
   next = record { fop = s };
 }
 
@@ -87,7 +88,7 @@ abbrev pub refused_step : ℕ → SenderState → List ℕ → List ℕ → Step
 refused_step number s store output = record { answer = refusing number s; store = store; output = output }
 
 -- the answer by what writing the frame handed down came to
-abbrev pub concluded : ℕ → SenderState → Work → List ℕ → outcome.Answer (Unit {0}) → Answer
+abbrev pub concluded : Option FopEvent → SenderState → Work → List ℕ → outcome.Answer (Unit {0}) → Answer
 concluded event s w lengths (done count more) = answered event count w lengths
 concluded event s w lengths (refused number place) = refusing number s
 
@@ -97,6 +98,6 @@ stored (done count more) new old = new
 stored (refused number place) new old = old
 
 -- an event judged, by what writing the frame handed down comes to; after it the units have these lengths
-abbrev pub step_by : ℕ → SenderState → Work → List ℕ → Outcome (Unit {0}) → List ℕ → List ℕ → List ℕ → Step
+abbrev pub step_by : Option FopEvent → SenderState → Work → List ℕ → Outcome (Unit {0}) → List ℕ → List ℕ → List ℕ → Step
 step_by event s w lengths writing new old output =
     record { answer = concluded event s w lengths (answer writing); store = stored (answer writing) new old; output = after writing output }

@@ -7,23 +7,21 @@
 
 mod answers;
 
-ghost use Rattle.std.specs.Prelude.{◌≡◌, ◌+◌, ◌-◌, ◌≤◌, leb, length};
+ghost use Rattle.std.specs.Prelude.{◌≡◌, ◌≤◌, leb, length, Some};
 ghost use Rattle.base.specs.Choice.{must};
 ghost use Rattle.base.specs.Limits.{largest_unit};
 ghost use Rattle.base.specs.Outcome.{Outcome.refused, answer, after};
-ghost use Rattle.frame.specs.Answers.{written_answer};
-ghost use Rattle.store.specs.Places.{unit_at, without};
-ghost use Rattle.sender_values.specs.Actions.{units_held};
-ghost use Rattle.sender_frames.specs.Frames.{handed_writing, place_handed, unit_before};
+ghost use Rattle.base.specs.Refusals.{written_answer};
+ghost use Rattle.sender_frames.specs.Frames.{handed_writing, unit_before};
 ghost use Rattle.fop.specs.Store.{store_need};
 ghost use Rattle.sender.specs.Answers.{stored, concluded};
-ghost use Rattle.sender.specs.Start.{refused_start, starting_of, restored_of};
-ghost use Rattle.sender.specs.Events.{store_served, lengths_served, added, lengths_offered, offered_by, ticked, tick_number, request_ad_of, request_bd_of, directive_of, tick_of, lower_layer_of, control_word_of, event_of};
+ghost use Rattle.sender.specs.Start.{starting_of, restored_of};
+ghost use Rattle.sender.specs.Events.{store_served, served, added, lengths_offered, offered_by, ticked, event_of_tick, request_ad_of, request_bd_of, directive_of, tick_of, lower_layer_of, control_word_of, event_of};
 
-use crate::answers::{conclude, number_written, refused};
-use clcw::{Clcw, WordReading};
+use crate::answers::{conclude, refused};
+use base::Refusal;
+use clcw::Clcw;
 use fop::{Alert, Lower, Run, State};
-use frame::FrameWritten;
 use sender_events::directives::{directive_event, window_of};
 use sender_events::words::word_event;
 use sender_events::{ad_event, bd_event, expiry_event, lower_event};
@@ -32,7 +30,7 @@ use sender_frames::{request_refusal, write_handed, write_offered, write_unit_bef
 use sender_rows::row;
 use sender_state::{settings_hold, well_formed};
 use sender_values::start::{begin, start};
-use sender_values::{Queues, Responses, Settings, Work};
+use sender_values::{Responses, SenderState, Settings, Work};
 use store::lengths::set_length;
 use store::units::put_unit;
 use store::{PLACES, suffices};
@@ -40,21 +38,12 @@ use store::{PLACES, suffices};
 // The sender's state. No other crate can write one: a start gives one, and each answer the next.
 #[derive(Clone, Copy)]
 pub struct Sender {
-    fop: sender_values::SenderState,
-}
-
-// A start: document 01's refusal (0 for done, 12 for a setting, 11 for the lent store), and the sender; after a refusal that of the least
-// settings, so that no ill-formed sender can be had.
-#[derive(Clone, Copy)]
-pub struct Start {
-    pub refusal: u8,
-    pub sender: Sender,
+    fop: SenderState,
 }
 
 // The kind of the frame handed down (table 6-3, clause 7.8), which tells whose accept or reject the lower layer's answer to it is.
 #[derive(Clone, Copy)]
 pub enum FrameKind {
-    None,
     Ad,
     Bd,
     Unlock,
@@ -72,119 +61,89 @@ pub enum Event {
     ControlWord,
 }
 
-// The answer to an event: document 01's refusal (0 for done); the event's number in table 7-8 (0 where it is none); the next state; the count
+// The answer to an event: document 01's refusal by its number (0 for done), as the writers' outcomes of crate base give it; the event of table 7-8, if it is one; the next state; the count
 // of octets of the frame handed down, at the front of the output (0 where there is none); whether the lower layer is asked to abort; the
 // alert; whether a Suspend notification is given (clause 7.9.2.18; document 02, order 9); the responses in their order; the units confirmed and
 // denied; the kind of the frame handed down; the next sender.
 #[derive(Clone, Copy)]
 pub struct Answer {
     pub refusal: u8,
-    pub event: u8,
+    pub event: Option<fop::Event>,
     pub state: State,
     pub down: usize,
     pub abort: bool,
-    pub alert: Alert,
+    pub alert: Option<Alert>,
     pub suspended: bool,
     pub responses: Responses,
     pub confirmed: Run,
     pub denied: Run,
-    pub kind: FrameKind,
+    pub kind: Option<FrameKind>,
     pub next: Sender,
 }
 
-// An event that offers no unit, judged: the frame is written, then the units confirmed leave the store.
-fn serve_work(
-    settings: Settings,
-    queues: Queues,
-    lengths: [u16; PLACES],
-    work: Work,
-    store: &mut [u8],
-    output: &mut [u8],
-) -> FrameWritten
-    ensures answer { written_answer result ≡ answer (handed_writing settings work.told.handed (unit_at lengths (place_handed work.told.handed + work.told.confirmed.count) store.old) (length output.old)) }
-    ensures store { store.new ≡ stored (answer (handed_writing settings work.told.handed (unit_at lengths (place_handed work.told.handed + work.told.confirmed.count) store.old) (length output.old))) (without lengths work.told.confirmed.count (units_held queues.sent queues.waiting - work.told.confirmed.count) store.old) store.old }
-    ensures output { output.new ≡ after (handed_writing settings work.told.handed (unit_at lengths (place_handed work.told.handed + work.told.confirmed.count) store.old) (length output.old)) output.old }
-{
-    let told = work.told;
-    let count = told.confirmed.count;
-    let written = write_unit_before(settings, &lengths, work, store, output);
-    if number_written(written) == 0 {
-        remove_oldest(store, &lengths, queues, count);
-    }
-    written
-}
-
-// The same, the store judged first by the window k: too short a one is refused as an output is.
+// The frame of an event that offers no unit: the store is judged by the window k, the frame is written, then the units confirmed leave the store.
 fn serve(
-    sender: sender_values::SenderState,
+    sender: SenderState,
     k: u16,
     work: Work,
     store: &mut [u8],
     output: &mut [u8],
-) -> FrameWritten
+) -> Result<usize, Refusal>
     ensures answer { written_answer result ≡ answer (must (leb (store_need k sender.queues.sent) (length store.old)) (refused 11 0) (handed_writing sender.settings work.told.handed (unit_before sender work store.old) (length output.old))) }
     ensures store { store.new ≡ stored (answer (must (leb (store_need k sender.queues.sent) (length store.old)) (refused 11 0) (handed_writing sender.settings work.told.handed (unit_before sender work store.old) (length output.old)))) (store_served sender work store.old) store.old }
     ensures output { output.new ≡ after (must (leb (store_need k sender.queues.sent) (length store.old)) (refused 11 0) (handed_writing sender.settings work.told.handed (unit_before sender work store.old) (length output.old))) output.old }
 {
-    let suffices = suffices(store, k, sender.queues.sent);
-    if !suffices {
-        return FrameWritten::Room;
+    if !suffices(store, k, sender.queues.sent) {
+        return Err(Refusal::Room);
     }
-    let settings = sender.settings;
-    let queues = sender.queues;
-    let lengths = sender.lengths;
-    serve_work(settings, queues, lengths, work, store, output)
+    let count = write_unit_before(sender.settings, &sender.lengths, work, store, output)?;
+    let confirmed = work.told.confirmed.count;
+    remove_oldest(store, &sender.lengths, sender.queues, confirmed);
+    Ok(count)
 }
 
-// The answer to such an event, by what serving it came to; the lengths of the units that stay.
-fn tell_served(
-    sender: sender_values::SenderState,
-    event: u8,
-    work: Work,
-    written: FrameWritten,
+// An event that offers no unit, by its row in table 7-8 with the value that it brings: the work begins at the state `begun`.
+fn served(
+    sender: SenderState,
+    k: u16,
+    event: Option<fop::Event>,
+    value: u16,
+    begun: SenderState,
+    store: &mut [u8],
+    output: &mut [u8],
 ) -> Answer
-    ensures { result ≡ concluded event sender work (lengths_served sender work) (written_answer written) }
+    ensures answer { result ≡ (served k event value sender begun store.old output.old).answer }
+    ensures store { store.new ≡ (served k event value sender begun store.old output.old).store }
+    ensures output { output.new ≡ (served k event value sender begun store.old output.old).output }
 {
-    let told = work.told;
-    let count = told.confirmed.count;
-    let lengths = sender.lengths;
-    let left = lengths_left(lengths, count);
-    conclude(sender, event, work, left, written)
+    let work = row(begin(begun), event, value);
+    let written = serve(sender, k, work, store, output);
+    let lengths = lengths_left(sender.lengths, work.told.confirmed.count);
+    conclude(sender, event, work, lengths, written)
 }
 
 // Whether the unit offered is added to the wait queue: E19 in S1 to S3.
-fn adds(event: u8, sender: sender_values::SenderState) -> bool
+fn adds(event: fop::Event, sender: SenderState) -> bool
     ensures { result ≡ added event sender }
 {
-    if event != 19 {
-        return false;
-    }
-    let state = sender.state;
-    match state {
-        State::S1 => true,
-        State::S2 => true,
-        State::S3 => true,
-        State::S4 => false,
-        State::S5 => false,
-        State::S6 => false,
-    }
+    event == fop::Event::E19 && matches!(sender.state, State::S1 | State::S2 | State::S3)
 }
 
 // The lengths after an AD request: that of the unit offered behind the sent ones, where it is added to the wait queue.
-fn lengths_offered(event: u8, sender: sender_values::SenderState, length: u16) -> [u16; PLACES]
+fn lengths_offered(event: fop::Event, sender: SenderState, length: u16) -> [u16; PLACES]
     ensures { result ≡ lengths_offered event sender length }
 {
-    let mut next = sender.lengths;
+    let mut lengths = sender.lengths;
     if adds(event, sender) {
-        set_length(&mut next, sender.queues.sent as usize, length);
+        set_length(&mut lengths, usize::from(sender.queues.sent), length);
     }
-    next
+    lengths
 }
 
 // An AD request, judged: the frame is written, then the unit offered goes into the store.
 fn offer_work(
-    sender: sender_values::SenderState,
-    event: u8,
+    sender: SenderState,
+    event: fop::Event,
     work: Work,
     unit: &[u8],
     store: &mut [u8],
@@ -197,126 +156,77 @@ fn offer_work(
 {
     let written = write_offered(sender, work, unit, store, output);
     let lengths = lengths_offered(event, sender, unit.len() as u16);
-    let answer = conclude(sender, event, work, lengths, written);
-    if answer.refusal == 0 {
-        if adds(event, sender) {
-            put_unit(store, sender.queues.sent, unit);
-        }
+    if written.is_ok() && adds(event, sender) {
+        put_unit(store, sender.queues.sent, unit);
     }
-    answer
+    conclude(sender, Some(event), work, lengths, written)
 }
 
 // A BD request, judged: the frame is written.
 fn bypass_work(
-    sender: sender_values::SenderState,
-    event: u8,
+    sender: SenderState,
+    event: fop::Event,
     work: Work,
     unit: &[u8],
     output: &mut [u8],
 ) -> Answer
-    ensures answer { result ≡ concluded event sender work sender.lengths (answer (handed_writing sender.settings work.told.handed unit.now (length output.old))) }
+    ensures answer { result ≡ concluded (Some event) sender work sender.lengths (answer (handed_writing sender.settings work.told.handed unit.now (length output.old))) }
     ensures output { output.new ≡ after (handed_writing sender.settings work.told.handed unit.now (length output.old)) output.old }
 {
-    let told = work.told;
-    let handed = told.handed;
-    let settings = sender.settings;
-    let written = write_handed(settings, handed, unit, output);
-    let lengths = sender.lengths;
-    conclude(sender, event, work, lengths, written)
+    let written = write_handed(sender.settings, work.told.handed, unit, output);
+    conclude(sender, Some(event), work, sender.lengths, written)
 }
 
 // The state after a tick lowered a running timer by one.
-fn lower_timer(sender: sender_values::SenderState) -> sender_values::SenderState
+fn lower_timer(mut sender: SenderState) -> SenderState
     ensures { result ≡ ticked sender }
 {
-    let ticks = sender.variables.timer;
-    if ticks == 0 {
-        return sender;
-    }
-    let lowered = ticks - 1;
-    let mut next = sender;
-    next.variables.timer = lowered;
-    next
+    sender.variables.timer = sender.variables.timer.saturating_sub(1);
+    sender
 }
 
 // The event of a tick: the expiry where it makes the timer zero.
-fn tick_event(sender: sender_values::SenderState) -> u8
-    ensures { result ≡ tick_number sender }
+fn tick_event(sender: SenderState) -> Option<fop::Event>
+    ensures { result ≡ event_of_tick sender }
 {
     if sender.variables.timer == 1 {
-        return expiry_event(lower_timer(sender));
+        Some(expiry_event(lower_timer(sender)))
+    } else {
+        None
     }
-    0
-}
-
-// A start that is refused.
-fn refused_start(number: u8) -> Start
-    ensures { result ≡ refused_start number }
-{
-    let settings = Settings {
-        k: 1,
-        t1_initial: 1,
-        transmission_limit: 1,
-        timeout_type: 0,
-        spacecraft: 0,
-        channel: 0,
-    };
-    let sender = Sender {
-        fop: start(settings, 0, 0),
-    };
-    Start {
-        refusal: number,
-        sender: sender,
-    }
-}
-
-// What is given where a state that was kept is none.
-pub fn refused_state() -> Start
-    ensures { result ≡ refused_start 12 }
-{
-    refused_start(12)
 }
 
 impl Sender {
     // The state, to be kept.
-    pub fn state(self) -> sender_values::SenderState
+    pub fn state(self) -> SenderState
         ensures { result ≡ self.fop }
     {
         self.fop
     }
 
     // A sender from a state that was kept; 12 where no sender has it.
-    pub fn restore(state: sender_values::SenderState) -> Start
+    pub fn restore(state: SenderState) -> Result<Sender, Refusal>
         ensures { result ≡ restored_of state }
     {
         if !well_formed(state) {
-            return refused_start(12);
+            return Err(Refusal::Setting);
         }
-        let sender = Sender { fop: state };
-        Start {
-            refusal: 0,
-            sender: sender,
-        }
+        Ok(Sender { fop: state })
     }
 
     // A sender at its start; 12 where a setting is outside its limit, 11 where the lent store is too short.
-    pub fn new(settings: Settings, vs: u8, nnr: u8, store: &[u8]) -> Start
+    pub fn new(settings: Settings, vs: u8, nnr: u8, store: &[u8]) -> Result<Sender, Refusal>
         ensures { result ≡ starting_of settings vs nnr (length store.now) }
     {
         if !settings_hold(settings) {
-            return refused_start(12);
+            return Err(Refusal::Setting);
         }
-        let suffices = suffices(store, settings.k as u16, 0);
-        if !suffices {
-            return refused_start(11);
+        if !suffices(store, u16::from(settings.k), 0) {
+            return Err(Refusal::Room);
         }
-        let sender = Sender {
+        Ok(Sender {
             fop: start(settings, vs, nnr),
-        };
-        Start {
-            refusal: 0,
-            sender: sender,
-        }
+        })
     }
 
     // Request to transfer an AD unit.
@@ -326,12 +236,11 @@ impl Sender {
         ensures output { output.new ≡ (request_ad_of self.fop unit.now store.old output.old).output }
     {
         let sender = self.fop;
-        let number = request_refusal(sender, unit, store);
-        if number != 0 {
-            return refused(sender, number);
+        if let Err(refusal) = request_refusal(sender, unit, store) {
+            return refused(sender, refusal);
         }
         let event = ad_event(sender);
-        let work = row(begin(sender), event, 0);
+        let work = row(begin(sender), Some(event), 0);
         offer_work(sender, event, work, unit, store, output)
     }
 
@@ -342,12 +251,11 @@ impl Sender {
         ensures output { output.new ≡ (request_bd_of self.fop unit.now store.old output.old).output }
     {
         let sender = self.fop;
-        let number = request_refusal(sender, unit, store);
-        if number != 0 {
-            return refused(sender, number);
+        if let Err(refusal) = request_refusal(sender, unit, store) {
+            return refused(sender, refusal);
         }
         let event = bd_event(sender);
-        let work = row(begin(sender), event, 0);
+        let work = row(begin(sender), Some(event), 0);
         bypass_work(sender, event, work, unit, output)
     }
 
@@ -359,13 +267,11 @@ impl Sender {
     {
         let sender = self.fop;
         let event = directive_event(sender, number, value);
-        if event == 40 {
-            return refused(sender, 12);
+        if let fop::Event::E40 = event {
+            return refused(sender, Refusal::Setting);
         }
         let k = window_of(sender.settings.k, number, value);
-        let work = row(begin(sender), event, value);
-        let written = serve(sender, k, work, store, output);
-        tell_served(sender, event, work, written)
+        served(sender, k, Some(event), value, sender, store, output)
     }
 
     // A tick of the timer.
@@ -375,10 +281,9 @@ impl Sender {
         ensures output { output.new ≡ (tick_of self.fop store.old output.old).output }
     {
         let sender = self.fop;
+        let k = u16::from(sender.settings.k);
         let event = tick_event(sender);
-        let work = row(begin(lower_timer(sender)), event, 0);
-        let written = serve(sender, sender.settings.k as u16, work, store, output);
-        tell_served(sender, event, work, written)
+        served(sender, k, event, 0, lower_timer(sender), store, output)
     }
 
     // An answer of the lower layer.
@@ -388,10 +293,9 @@ impl Sender {
         ensures output { output.new ≡ (lower_layer_of answer self.fop store.old output.old).output }
     {
         let sender = self.fop;
-        let event = lower_event(answer);
-        let work = row(begin(sender), event, 0);
-        let written = serve(sender, sender.settings.k as u16, work, store, output);
-        tell_served(sender, event, work, written)
+        let k = u16::from(sender.settings.k);
+        let event = Some(lower_event(answer));
+        served(sender, k, event, 0, sender, store, output)
     }
 
     // A control word, any octets; 10 where it is not of four octets, 7 where it is another channel's.
@@ -401,23 +305,26 @@ impl Sender {
         ensures output { output.new ≡ (control_word_of octets.now self.fop store.old output.old).output }
     {
         let sender = self.fop;
-        let k = sender.settings.k as u16;
-        let reading = Clcw::read(octets, sender.settings.channel);
-        match reading {
-            WordReading::Word(received) => {
+        let k = u16::from(sender.settings.k);
+        match Clcw::read(octets, sender.settings.channel) {
+            Ok(Some(received)) => {
                 let word = received.word;
-                let event = word_event(sender, word);
-                let work = row(begin(sender), event, word.report as u16);
-                let written = serve(sender, k, work, store, output);
-                tell_served(sender, event, work, written)
+                let event = Some(word_event(sender, word));
+                served(
+                    sender,
+                    k,
+                    event,
+                    u16::from(word.report),
+                    sender,
+                    store,
+                    output,
+                )
             }
-            WordReading::Invalid => {
-                let work = row(begin(sender), 15, 0);
-                let written = serve(sender, k, work, store, output);
-                tell_served(sender, 15, work, written)
+            Ok(None) => {
+                let event = Some(fop::Event::E15);
+                served(sender, k, event, 0, sender, store, output)
             }
-            WordReading::Address => refused(sender, 7),
-            WordReading::Length => refused(sender, 10),
+            Err(refusal) => refused(sender, refusal),
         }
     }
 

@@ -1,5 +1,5 @@
 -- The frame that an event hands down to the lower layer, as crate frame defines it; its unit, and what a unit offered is judged by.
-use Rattle.std.specs.Prelude.{ℕ, ◌+◌, List, [], leb, eqb, length}
+use Rattle.std.specs.Prelude.{ℕ, ◌+◌, List, [], leb, eqb, length, Option, None, Some}
 use Rattle.base.specs.Choice.{pick, must}
 use Rattle.base.specs.Limits.{largest_unit}
 use Rattle.base.specs.Outcome.{Outcome, Outcome.done}
@@ -22,20 +22,20 @@ abbrev pub request_refusal : SenderState → List ℕ → List ℕ → ℕ
 request_refusal s o store = must_be_unit o 10 (must (leb (need_of s) (length store)) 11 0)
 
 -- the frame handed down, with the unit u of an AD or BD frame, into output of the length lent
-unfoldable pub handed_writing : Settings → Handed → List ℕ → ℕ → Outcome (Unit {0})
-handed_writing g handed.None u lent = done [] tt
-handed_writing g (handed.Ad n i) u lent = writing g.spacecraft g.channel (kind.Ad n) u lent
-handed_writing g handed.Bd u lent = writing g.spacecraft g.channel kind.Bd u lent
-handed_writing g handed.Unlock u lent = writing g.spacecraft g.channel kind.Unlock [] lent
-handed_writing g (handed.SetVr n) u lent = writing g.spacecraft g.channel (kind.SetVr n) [] lent
+unfoldable pub handed_writing : Settings → Option Handed → List ℕ → ℕ → Outcome (Unit {0})
+handed_writing g None u lent = done [] tt
+handed_writing g (Some (handed.Ad n i)) u lent = writing g.spacecraft g.channel (kind.Ad n) u lent
+handed_writing g (Some handed.Bd) u lent = writing g.spacecraft g.channel kind.Bd u lent
+handed_writing g (Some handed.Unlock) u lent = writing g.spacecraft g.channel kind.Unlock [] lent
+handed_writing g (Some (handed.SetVr n)) u lent = writing g.spacecraft g.channel (kind.SetVr n) [] lent
 
 -- the place of the unit that is handed down, after the event
-abbrev pub place_handed : Handed → ℕ
-place_handed handed.None = 0
-place_handed (handed.Ad n i) = i
-place_handed handed.Bd = 0
-place_handed handed.Unlock = 0
-place_handed (handed.SetVr n) = 0
+abbrev pub place_handed : Option Handed → ℕ
+place_handed None = 0
+place_handed (Some (handed.Ad n i)) = i
+place_handed (Some handed.Bd) = 0
+place_handed (Some handed.Unlock) = 0
+place_handed (Some (handed.SetVr n)) = 0
 
 -- the unit that is handed down stood, before the event, behind the units that the event confirms
 abbrev pub unit_before : SenderState → Work → List ℕ → List ℕ

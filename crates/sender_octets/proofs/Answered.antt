@@ -1,5 +1,6 @@
 -- The octets of an answer lose nothing: what they tell is what the answer tells (`answer_back`). Each number has its inverse, and the frame
 -- handed down is never larger than the two octets of its length can tell (`down_fits`).
+use Rattle.std.specs.Prelude.{Option, None, Some}
 use mathlib.Core.Path.{◌≡◌, refl}
 use mathlib.Core.Bool.{Bool, true, false}
 use mathlib.Core.List.{List, [], ◌∷◌}
@@ -16,6 +17,7 @@ use Rattle.base.specs.Outcome as outcome
 use Rattle.frame.specs.Frame.{raw_frame, raw_writing, unlock_command, set_vr_command}
 use Rattle.frame.proofs.Lengths.{length_frame}
 use Rattle.sender_values.specs.Limits.{largest_responses}
+use Rattle.fop.specs.declared.Event.{Event as FopEvent}
 use Rattle.fop.specs.declared.Alert.{Alert}
 use Rattle.fop.specs.declared.Alert.TheVariants as alert
 use Rattle.sender_values.specs.declared.Handed.{Handed}
@@ -37,23 +39,23 @@ pub record Fits (a : Answer) : Type 0 where
   pub numbers : length a.responses.numbers ≡ largest_responses
   pub down : a.down ≤ largest_frame
 
-alert_back : (x : Alert) → alert_numbered (alert_number x) ≡ x
-alert_back alert.None = refl
-alert_back alert.Synch = refl
-alert_back alert.Clcw = refl
-alert_back alert.Limit = refl
-alert_back alert.Nnr = refl
-alert_back alert.Lockout = refl
-alert_back alert.T1 = refl
-alert_back alert.Term = refl
-alert_back alert.Llif = refl
+alert_back : (x : Option Alert) → alert_numbered (alert_number x) ≡ x
+alert_back None = refl
+alert_back (Some alert.Synch) = refl
+alert_back (Some alert.Clcw) = refl
+alert_back (Some alert.Limit) = refl
+alert_back (Some alert.Nnr) = refl
+alert_back (Some alert.Lockout) = refl
+alert_back (Some alert.T1) = refl
+alert_back (Some alert.Term) = refl
+alert_back (Some alert.Llif) = refl
 
-kind_back : (x : FrameKind) → kind_numbered (kind_number x) ≡ x
-kind_back kind.None = refl
-kind_back kind.Ad = refl
-kind_back kind.Bd = refl
-kind_back kind.Unlock = refl
-kind_back kind.SetVr = refl
+kind_back : (x : Option FrameKind) → kind_numbered (kind_number x) ≡ x
+kind_back None = refl
+kind_back (Some kind.Ad) = refl
+kind_back (Some kind.Bd) = refl
+kind_back (Some kind.Unlock) = refl
+kind_back (Some kind.SetVr) = refl
 
 bit_back : (b : Bool) → is_set (bit_of b) 1 ≡ b
 bit_back true = refl
@@ -101,20 +103,20 @@ written_fits bypass control number spacecraft channel field room =
     (λ c. checked (leb (length field + 7) room) 11 (done (raw_frame bypass control number spacecraft channel field) tt)
     (λ d. omega (arith, leb-true (length field) largest_unit l, length_frame bypass control number spacecraft channel field))))))
 
-handed_fits : (g : Settings) (h : Handed) (u : List ℕ) (lent : ℕ) → count_of (answer (handed_writing g h u lent)) ≤ largest_frame
+handed_fits : (g : Settings) (h : Option Handed) (u : List ℕ) (lent : ℕ) → count_of (answer (handed_writing g h u lent)) ≤ largest_frame
 unfolding handed_writing
-handed_fits g handed.None u lent = omega arith
-handed_fits g (handed.Ad n i) u lent = written_fits 0 0 n g.spacecraft g.channel u lent
-handed_fits g handed.Bd u lent = written_fits 1 0 0 g.spacecraft g.channel u lent
-handed_fits g handed.Unlock u lent = written_fits 1 1 0 g.spacecraft g.channel unlock_command lent
-handed_fits g (handed.SetVr n) u lent = written_fits 1 1 0 g.spacecraft g.channel (set_vr_command n) lent
+handed_fits g None u lent = omega arith
+handed_fits g (Some (handed.Ad n i)) u lent = written_fits 0 0 n g.spacecraft g.channel u lent
+handed_fits g (Some handed.Bd) u lent = written_fits 1 0 0 g.spacecraft g.channel u lent
+handed_fits g (Some handed.Unlock) u lent = written_fits 1 1 0 g.spacecraft g.channel unlock_command lent
+handed_fits g (Some (handed.SetVr n)) u lent = written_fits 1 1 0 g.spacecraft g.channel (set_vr_command n) lent
 
 -- an answer tells the count of octets written, none where it refuses
-module _ (event : ℕ) (s : SenderState) (w : Work) (lengths : List ℕ) where
+module _ (event : Option FopEvent) (s : SenderState) (w : Work) (lengths : List ℕ) where
   down_written : (x : outcome.Answer (Unit {0})) → (concluded event s w lengths x).down ≡ count_of x
   unfolding answered refusing
   down_written (outcome.Answer.done count more) = refl
   down_written (outcome.Answer.refused number place) = refl
 
-  pub down_fits : (g : Settings) (h : Handed) (u : List ℕ) (lent : ℕ) → (concluded event s w lengths (answer (handed_writing g h u lent))).down ≤ largest_frame
+  pub down_fits : (g : Settings) (h : Option Handed) (u : List ℕ) (lent : ℕ) → (concluded event s w lengths (answer (handed_writing g h u lent))).down ≤ largest_frame
   down_fits g h u lent = omega (arith, down_written (answer (handed_writing g h u lent)), handed_fits g h u lent)

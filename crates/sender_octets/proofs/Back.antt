@@ -1,4 +1,5 @@
 -- A state is read back from its octets, octets that are a state are those of one state only, and any others are refused.
+use Rattle.std.specs.Prelude.{Option, None, Some}
 use mathlib.Core.Path.{◌≡◌, refl, sym, ap, ap₂, ◌∙◌}
 use mathlib.Core.Bool.{Bool, true, false}
 use mathlib.Core.List.{List}
@@ -18,7 +19,8 @@ use Rattle.sender_values.specs.declared.Control.{Control}
 use Rattle.sender_values.specs.declared.Control.TheVariants as control
 use Rattle.sender_values.specs.declared.SenderState.{SenderState}
 use Rattle.sender_state.specs.State.{well_formed}
-use Rattle.sender.specs.Start.{refused_start}
+use Rattle.std.specs.Prelude.{Err}
+use Rattle.base.specs.declared.Refusal.TheVariants.{Setting}
 use Rattle.sender_octets.specs.Kept.{layout, number_octets, octets_of, state_in, is_state, sender_in, state_number, state_numbered, control_number, control_value, control_numbered, pairs_from}
 use Rattle.sender_octets.proofs.Pairs.{pair_back, pairs_back}
 use Rattle.sender_octets.proofs.Parts.{settings_by, variables_by, queues_by, state_by}
@@ -36,10 +38,10 @@ state_back state.S4 = refl
 state_back state.S5 = refl
 state_back state.S6 = refl
 
-control_back : (x : Control) → control_numbered (control_number x) (control_value x) ≡ x
-control_back control.None = refl
-control_back control.Unlock = refl
-control_back (control.SetVr value) = refl
+control_back : (x : Option Control) → control_numbered (control_number x) (control_value x) ≡ x
+control_back None = refl
+control_back (Some control.Unlock) = refl
+control_back (Some (control.SetVr value)) = refl
 
 -- a flag is read back: the bit of its weight is its bit
 flag_back : (n : ℕ) (b : Bool) → n ≡ bit_of b → eqb n 1 ≡ b
@@ -111,11 +113,11 @@ unfolding is_state
 state_only o e = sym (same_equal o (octets_of (state_in o)) (both_left (same o (octets_of (state_in o))) (well_formed (state_in o)) e))
 
 -- octets that are no state give no sender
-pub refused_no_state : (o : List ℕ) → is_state o ≡ false → sender_in o ≡ refused_start 12
+pub refused_no_state : (o : List ℕ) → is_state o ≡ false → sender_in o ≡ Err Setting
 unfolding sender_in
 refused_no_state o e = no _ _ _ e
 
 -- octets of another layout are no state, so they are refused with 12: those of layout 1 too
-pub other_layout : (o : List ℕ) → (get_or o 1 0 ≡ layout → ⊥) → sender_in o ≡ refused_start 12
+pub other_layout : (o : List ℕ) → (get_or o 1 0 ≡ layout → ⊥) → sender_in o ≡ Err Setting
 unfolding octets_of
 other_layout o h = refused_no_state o (not_so (is_state o) (λ t. h (sym (ap (λ (x : List ℕ). get_or x 1 0) (state_only o t)))))

@@ -7,6 +7,9 @@ use native.Mathlib.Omega.{arith}
 use lib.Dec.{eqb}
 use lib.ListN.{length, take, drop, take-append-drop}
 use lib.Seq.{length-take-le}
+use Rattle.std.specs.Prelude.{Result, Err}
+use Rattle.base.specs.declared.Refusal.{Refusal}
+use Rattle.base.specs.declared.Refusal.TheVariants.{Setting}
 use Rattle.base.specs.Choice.{pick, both}
 use Rattle.base.specs.Octets.{Octets, same}
 use Rattle.base.proofs.Lists.{same_length_not, same_self}
@@ -14,8 +17,8 @@ use Rattle.base.proofs.Tests.{no}
 use Rattle.store.specs.Places.{places}
 use Rattle.sender_values.specs.declared.SenderState.{SenderState}
 use Rattle.sender_state.specs.State.{well_formed}
-use Rattle.sender.specs.Start.{restored_of, refused_start}
-use Rattle.sender.specs.declared.Start.{Start}
+use Rattle.sender.specs.Start.{restored_of}
+use Rattle.sender.specs.declared.Sender.{Sender}
 use Rattle.sender_octets.specs.Kept.{number_octets, state_octets, octets_of, state_in, is_state, sender_in, pairs}
 use Rattle.sender_octets.proofs.Pairs.{length_pairs, length_from, pairs_from_lem}
 
@@ -28,7 +31,7 @@ twice : {A : Type 0} (b : Bool) (x y : A) → pick b x y ≡ pick b (pick b x y)
 twice true x y = refl
 twice false x y = refl
 
-restored_where : (s : SenderState) → restored_of s ≡ pick (well_formed s) (restored_of s) (refused_start 12)
+restored_where : (s : SenderState) → restored_of s ≡ pick (well_formed s) (restored_of s) (Err Setting)
 unfolding restored_of
 restored_where s = twice (well_formed s) _ _
 
@@ -47,13 +50,13 @@ module _ (o : List ℕ) where
   pub no_length : (length o ≡ state_octets → ⊥) → same o (octets_of (state_in o)) ≡ false
   no_length h = same_length_not o (octets_of (state_in o)) (λ e. h (e ∙ length_in))
 
-  pub no_state : {r : Start} → same o (octets_of (state_in o)) ≡ false → r ≡ refused_start 12 → r ≡ sender_in o
+  pub no_state : {r : Result Sender Refusal} → same o (octets_of (state_in o)) ≡ false → r ≡ Err Setting → r ≡ sender_in o
   unfolding sender_in is_state
   no_state d e = e ∙ sym (no _ _ _ (ap (λ (b : Bool). both b (well_formed (state_in o))) d))
 
-  pub judged : {r : Start} → same o (octets_of (state_in o)) ≡ true → r ≡ restored_of (state_in o) → r ≡ sender_in o
+  pub judged : {r : Result Sender Refusal} → same o (octets_of (state_in o)) ≡ true → r ≡ restored_of (state_in o) → r ≡ sender_in o
   unfolding sender_in is_state
-  judged d e = e ∙ restored_where (state_in o) ∙ sym (ap (λ (b : Bool). pick (both b (well_formed (state_in o))) (restored_of (state_in o)) (refused_start 12)) d)
+  judged d e = e ∙ restored_where (state_in o) ∙ sym (ap (λ (b : Bool). pick (both b (well_formed (state_in o))) (restored_of (state_in o)) (Err Setting)) d)
 
   -- the comparison that the code makes, of the numbers of the state that it read: the lengths are always those that stand there
   pub compared : {s : SenderState} (n : List ℕ) {b c : Bool} → Octets o → length o ≡ state_octets → s ≡ state_in o → n ++ pairs s.lengths ≡ octets_of s

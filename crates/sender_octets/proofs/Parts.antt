@@ -1,10 +1,11 @@
--- The octets of a state and of an answer by their parts, and the state that octets would hold by its parts.
+-- The state that octets would hold, by its parts.
+use Rattle.std.specs.Prelude.{Option}
 use mathlib.Core.Path.{◌≡◌, ap, ap₂, ◌∙◌}
 use mathlib.Core.Bool.{Bool}
-use mathlib.Core.List.{List, [], ◌∷◌, ◌++◌}
-use Prim.Native.Nat.{ℕ, ◌/◌, ◌%◌}
+use mathlib.Core.List.{List}
+use Prim.Native.Nat.{ℕ}
 use lib.ListN.{get_or}
-use Rattle.base.specs.Flags.{bit_of, is_set}
+use Rattle.base.specs.Flags.{is_set}
 use Rattle.store.specs.Places.{places}
 use Rattle.fop.specs.declared.State.{State}
 use Rattle.sender_values.specs.declared.Settings.{Settings}
@@ -12,42 +13,7 @@ use Rattle.sender_values.specs.declared.Variables.{Variables}
 use Rattle.sender_values.specs.declared.Queues.{Queues}
 use Rattle.sender_values.specs.declared.Control.{Control}
 use Rattle.sender_values.specs.declared.SenderState.{SenderState}
-use Rattle.sender.specs.declared.Answer.{Answer}
-use Rattle.sender_octets.specs.Kept.{layout, number_octets, octets_of, state_in, state_number, state_numbered, control_number, control_value, control_numbered, flags_of, pairs, pair_at, pairs_from}
-use Rattle.sender_octets.specs.Answer.{octets_of_answer, alert_number, kind_number}
-
--- the octets before the lengths, with the state's number, the flags and the type-BC frame given
-abbrev pub numbers_with : SenderState → ℕ → ℕ → ℕ → ℕ → List ℕ
-numbers_with s number flags control value =
-    0x53 ∷ layout ∷ number
-    ∷ s.settings.k ∷ s.settings.t1_initial / 256 ∷ s.settings.t1_initial % 256 ∷ s.settings.transmission_limit ∷ s.settings.timeout_type
-    ∷ s.settings.spacecraft / 256 ∷ s.settings.spacecraft % 256 ∷ s.settings.channel
-    ∷ s.variables.vs ∷ s.variables.nnr ∷ s.variables.timer / 256 ∷ s.variables.timer % 256 ∷ s.variables.transmission_count
-    ∷ flags ∷ s.variables.suspend_state ∷ s.queues.sent ∷ s.queues.marked ∷ control ∷ value ∷ []
-
-pub numbers_by : (s : SenderState) {number flags control value : ℕ} → number ≡ state_number s.state → flags ≡ flags_of s
-    → control ≡ control_number s.queues.control → value ≡ control_value s.queues.control → numbers_with s number flags control value ++ pairs s.lengths ≡ octets_of s
-unfolding octets_of
-numbers_by s {number} {flags} {control} {value} en ef ec ev =
-    ap (λ (n : ℕ). numbers_with s n flags control value ++ pairs s.lengths) en
-    ∙ ap (λ (n : ℕ). numbers_with s (state_number s.state) n control value ++ pairs s.lengths) ef
-    ∙ ap₂ (λ (n m : ℕ). numbers_with s (state_number s.state) (flags_of s) n m ++ pairs s.lengths) ec ev
-
--- the octets of an answer, with the state's number, the alert's, the kind's and the bits given
-abbrev pub answer_with : Answer → ℕ → ℕ → ℕ → ℕ → ℕ → List ℕ
-answer_with a state abort alert suspended kind =
-    a.refusal ∷ a.event ∷ state ∷ a.down / 256 % 256 ∷ a.down % 256 ∷ abort ∷ alert ∷ suspended
-    ∷ a.responses.count ∷ get_or a.responses.numbers 0 0 ∷ get_or a.responses.numbers 1 0 ∷ get_or a.responses.numbers 2 0 ∷ get_or a.responses.numbers 3 0
-    ∷ a.confirmed.number ∷ a.confirmed.count ∷ a.denied.number ∷ a.denied.count ∷ kind ∷ []
-
-pub answer_by_lem : (a : Answer) {state abort alert suspended kind : ℕ} → state ≡ state_number a.state → abort ≡ bit_of a.abort
-    → alert ≡ alert_number a.alert → suspended ≡ bit_of a.suspended → kind ≡ kind_number a.kind
-    → answer_with a state abort alert suspended kind ≡ octets_of_answer a
-unfolding octets_of_answer
-answer_by_lem a {state} {abort} {alert} {suspended} {kind} es eb el eu ek =
-    ap₂ (λ (n m : ℕ). answer_with a n m alert suspended kind) es eb
-    ∙ ap₂ (λ (n m : ℕ). answer_with a (state_number a.state) (bit_of a.abort) n m kind) el eu
-    ∙ ap (answer_with a (state_number a.state) (bit_of a.abort) (alert_number a.alert) (bit_of a.suspended)) ek
+use Rattle.sender_octets.specs.Kept.{number_octets, state_in, state_numbered, control_numbered, pair_at, pairs_from}
 
 module _ (o : List ℕ) where
   abbrev pub settings_with : ℕ → ℕ → Settings
@@ -82,7 +48,7 @@ module _ (o : List ℕ) where
   variables_by {bc = bc} {bd = bd} et ea ec ed =
       ap₂ (λ (t : ℕ) (a : Bool). variables_with t a bc bd) et ea ∙ ap₂ (λ (c d : Bool). variables_with (pair_at o 13) (is_set (get_or o 16 0) 1) c d) ec ed
 
-  abbrev pub queues_with : Bool → Control → Bool → Queues
+  abbrev pub queues_with : Bool → Option Control → Bool → Queues
   queues_with waiting control marked = record {
     sent = get_or o 18 0;
     marked = get_or o 19 0;
@@ -91,11 +57,11 @@ module _ (o : List ℕ) where
     control_marked = marked;
   }
 
-  pub queues_by : {waiting : Bool} {control : Control} {marked : Bool} → waiting ≡ is_set (get_or o 16 0) 8
+  pub queues_by : {waiting : Bool} {control : Option Control} {marked : Bool} → waiting ≡ is_set (get_or o 16 0) 8
       → control ≡ control_numbered (get_or o 20 0) (get_or o 21 0) → marked ≡ is_set (get_or o 16 0) 16 → queues_with waiting control marked ≡ (state_in o).queues
   unfolding state_in
   queues_by {marked = marked} ew ec em =
-      ap₂ (λ (w : Bool) (c : Control). queues_with w c marked) ew ec
+      ap₂ (λ (w : Bool) (c : Option Control). queues_with w c marked) ew ec
       ∙ ap (queues_with (is_set (get_or o 16 0) 8) (control_numbered (get_or o 20 0) (get_or o 21 0))) em
 
   -- the state with these parts

@@ -7,12 +7,14 @@
 -- The responses: 1 and 2 accept and reject of an AD unit, 3 and 4 of a BD unit, 5 and 6 of a directive; 7 and 8 positive and negative confirm of
 -- a directive. The alerts: 1 synch, 2 CLCW, 3 limit, 4 NN(R), 5 lockout, 6 T1, 7 term, 8 LLIF; 0 none.
 -- The kinds: 1 AD, 2 BD, 3 Unlock, 4 Set V(R); 0 none.
-use Rattle.std.specs.Prelude.{ℕ, ◌/◌, ◌%◌, Bool, List, [], ◌∷◌, eqb, take, drop, get_or}
+use Rattle.std.specs.Prelude.{ℕ, ◌/◌, ◌%◌, Bool, List, [], ◌∷◌, Option, None, Some, eqb, take, drop, get_or}
 use Rattle.base.specs.Choice.{pick}
 use Rattle.base.specs.Flags.{bit_of, is_set}
 use Rattle.sender_values.specs.Limits.{largest_responses}
 use Rattle.fop.specs.declared.Alert.{Alert}
 use Rattle.fop.specs.declared.Alert.TheVariants as alert
+use Rattle.fop.specs.declared.Event.{Event as FopEvent}
+use Rattle.fop.specs.Table.{event_number}
 use Rattle.sender_values.specs.declared.Responses.{Responses}
 use Rattle.fop.specs.declared.Run.{Run}
 use Rattle.fop.specs.declared.State.{State as FopState}
@@ -25,42 +27,50 @@ use Rattle.sender_octets.specs.Kept.{state_number, state_numbered, pair_at}
 abbrev pub answer_octets : ℕ
 answer_octets = 18
 
--- table 7-4: the reason of an Alert notification by number
-abbrev pub alert_number : Alert → ℕ
-alert_number alert.None = 0
-alert_number alert.Synch = 1
-alert_number alert.Clcw = 2
-alert_number alert.Limit = 3
-alert_number alert.Nnr = 4
-alert_number alert.Lockout = 5
-alert_number alert.T1 = 6
-alert_number alert.Term = 7
-alert_number alert.Llif = 8
+-- table 7-4: the reason of an Alert notification by number, 0 where there is none
+abbrev pub alert_number : Option Alert → ℕ
+alert_number None = 0
+alert_number (Some alert.Synch) = 1
+alert_number (Some alert.Clcw) = 2
+alert_number (Some alert.Limit) = 3
+alert_number (Some alert.Nnr) = 4
+alert_number (Some alert.Lockout) = 5
+alert_number (Some alert.T1) = 6
+alert_number (Some alert.Term) = 7
+alert_number (Some alert.Llif) = 8
 
 -- and back; any other number as none
-abbrev pub alert_numbered : ℕ → Alert
+abbrev pub alert_numbered : ℕ → Option Alert
 alert_numbered n =
-    pick (eqb n 1) alert.Synch
-    (pick (eqb n 2) alert.Clcw
-    (pick (eqb n 3) alert.Limit
-    (pick (eqb n 4) alert.Nnr (pick (eqb n 5) alert.Lockout (pick (eqb n 6) alert.T1 (pick (eqb n 7) alert.Term (pick (eqb n 8) alert.Llif alert.None)))))))
+    pick (eqb n 1) (Some alert.Synch)
+    (pick (eqb n 2) (Some alert.Clcw)
+    (pick (eqb n 3) (Some alert.Limit)
+    (pick (eqb n 4) (Some alert.Nnr)
+    (pick (eqb n 5) (Some alert.Lockout)
+    (pick (eqb n 6) (Some alert.T1) (pick (eqb n 7) (Some alert.Term) (pick (eqb n 8) (Some alert.Llif) None)))))))
 
 -- table 6-3 and clause 7.8: the kind of the frame handed down by number
-abbrev pub kind_number : FrameKind → ℕ
-kind_number kind.None = 0
-kind_number kind.Ad = 1
-kind_number kind.Bd = 2
-kind_number kind.Unlock = 3
-kind_number kind.SetVr = 4
+abbrev pub kind_number : Option FrameKind → ℕ
+kind_number None = 0
+kind_number (Some kind.Ad) = 1
+kind_number (Some kind.Bd) = 2
+kind_number (Some kind.Unlock) = 3
+kind_number (Some kind.SetVr) = 4
 
 -- and back; any other number as none
-abbrev pub kind_numbered : ℕ → FrameKind
-kind_numbered n = pick (eqb n 1) kind.Ad (pick (eqb n 2) kind.Bd (pick (eqb n 3) kind.Unlock (pick (eqb n 4) kind.SetVr kind.None)))
+abbrev pub kind_numbered : ℕ → Option FrameKind
+kind_numbered n =
+    pick (eqb n 1) (Some kind.Ad) (pick (eqb n 2) (Some kind.Bd) (pick (eqb n 3) (Some kind.Unlock) (pick (eqb n 4) (Some kind.SetVr) None)))
+
+-- the event of table 7-8 by number, 0 where there is none
+abbrev pub number_if : Option FopEvent → ℕ
+number_if None = 0
+number_if (Some e) = event_number e
 
 -- an answer as octets
 unfoldable pub octets_of_answer : Answer → List ℕ
 octets_of_answer a =
-    a.refusal ∷ a.event ∷ state_number a.state ∷ a.down / 256 % 256 ∷ a.down % 256 ∷ bit_of a.abort ∷ alert_number a.alert ∷ bit_of a.suspended
+    a.refusal ∷ number_if a.event ∷ state_number a.state ∷ a.down / 256 % 256 ∷ a.down % 256 ∷ bit_of a.abort ∷ alert_number a.alert ∷ bit_of a.suspended
     ∷ a.responses.count ∷ get_or a.responses.numbers 0 0 ∷ get_or a.responses.numbers 1 0 ∷ get_or a.responses.numbers 2 0 ∷ get_or a.responses.numbers 3 0
     ∷ a.confirmed.number ∷ a.confirmed.count ∷ a.denied.number ∷ a.denied.count ∷ kind_number a.kind ∷ []
 
@@ -71,18 +81,18 @@ pub record Told : Type 0 where
   pub state : FopState
   pub down : ℕ
   pub abort : Bool
-  pub alert : Alert
+  pub alert : Option Alert
   pub suspended : Bool
   pub responses : Responses
   pub confirmed : Run
   pub denied : Run
-  pub kind : FrameKind
+  pub kind : Option FrameKind
 
 -- what an answer tells
 abbrev pub told_by : Answer → Told
 told_by a = record {
   refusal = a.refusal;
-  event = a.event;
+  event = number_if a.event;
   state = a.state;
   down = a.down;
   abort = a.abort;

@@ -8,10 +8,12 @@
 --   6 Transmission_Limit, 7 Timeout_Type
 --
 -- Layout 1 had 33 places, of units to 249 octets (before document 02's order 7): its octets are no state.
-use Rattle.std.specs.Prelude.{ℕ, zero, suc, ◌+◌, ◌*◌, ◌/◌, ◌%◌, Bool, List, [], ◌∷◌, eqb, get_or}
+use Rattle.std.specs.Prelude.{ℕ, zero, suc, ◌+◌, ◌*◌, ◌/◌, ◌%◌, Bool, List, [], ◌∷◌, eqb, get_or, Option, None, Some, Result, Err}
 use Rattle.base.specs.Choice.{pick, both}
 use Rattle.base.specs.Octets.{same}
 use Rattle.base.specs.Flags.{bit_of, is_set}
+use Rattle.base.specs.declared.Refusal.{Refusal}
+use Rattle.base.specs.declared.Refusal.TheVariants.{Setting}
 use Rattle.store.specs.Places.{places}
 use Rattle.fop.specs.declared.State.{State}
 use Rattle.fop.specs.declared.State.TheVariants as state
@@ -19,8 +21,8 @@ use Rattle.sender_values.specs.declared.Control.{Control}
 use Rattle.sender_values.specs.declared.Control.TheVariants as control
 use Rattle.sender_values.specs.declared.SenderState.{SenderState}
 use Rattle.sender_state.specs.State.{well_formed}
-use Rattle.sender.specs.Start.{restored_of, refused_start}
-use Rattle.sender.specs.declared.Start.{Start}
+use Rattle.sender.specs.Start.{restored_of}
+use Rattle.sender.specs.declared.Sender.{Sender}
 
 -- the number of this layout
 abbrev pub layout : ℕ
@@ -49,20 +51,20 @@ state_numbered n =
     pick (eqb n 1) state.S1 (pick (eqb n 2) state.S2 (pick (eqb n 3) state.S3 (pick (eqb n 4) state.S4 (pick (eqb n 5) state.S5 state.S6))))
 
 -- the type-BC frame on the Sent_Queue by number
-abbrev pub control_number : Control → ℕ
-control_number control.None = 0
-control_number control.Unlock = 1
-control_number (control.SetVr value) = 2
+abbrev pub control_number : Option Control → ℕ
+control_number None = 0
+control_number (Some control.Unlock) = 1
+control_number (Some (control.SetVr value)) = 2
 
 -- and V*(R), the value that a Set V(R) carries
-abbrev pub control_value : Control → ℕ
-control_value control.None = 0
-control_value control.Unlock = 0
-control_value (control.SetVr value) = value
+abbrev pub control_value : Option Control → ℕ
+control_value None = 0
+control_value (Some control.Unlock) = 0
+control_value (Some (control.SetVr value)) = value
 
 -- and back; any other number as none
-abbrev pub control_numbered : ℕ → ℕ → Control
-control_numbered n value = pick (eqb n 1) control.Unlock (pick (eqb n 2) (control.SetVr value) control.None)
+abbrev pub control_numbered : ℕ → ℕ → Option Control
+control_numbered n value = pick (eqb n 1) (Some control.Unlock) (pick (eqb n 2) (Some (control.SetVr value)) None)
 
 -- numbers as two octets each, the most significant first
 abbrev pub pairs : List ℕ → List ℕ
@@ -132,5 +134,5 @@ unfoldable pub is_state : List ℕ → Bool
 is_state o = both (same o (octets_of (state_in o))) (well_formed (state_in o))
 
 -- a sender from octets; 12 where they are no state
-unfoldable pub sender_in : List ℕ → Start
-sender_in o = pick (is_state o) (restored_of (state_in o)) (refused_start 12)
+unfoldable pub sender_in : List ℕ → Result Sender Refusal
+sender_in o = pick (is_state o) (restored_of (state_in o)) (Err Setting)

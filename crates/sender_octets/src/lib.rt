@@ -1,17 +1,18 @@
 // The sender's state and its answer as octets, for a unit that keeps the state over a reset and for callers in other languages.
-#![tactic(auto)]
+#![tactic(auto, unfolding(crate::specs::Answer::octets_of_answer))]
 
 mod reader;
 pub mod writer;
 
 ghost use Rattle.std.specs.Prelude.{◌≡◌};
 ghost use Rattle.sender_octets.specs.Kept.{octets_of, sender_in};
-ghost use Rattle.sender_octets.specs.Answer.{alert_number, kind_number, octets_of_answer};
+ghost use Rattle.sender_octets.specs.Answer.{alert_number, kind_number, number_if, octets_of_answer};
 
 use crate::reader::state_in;
-use crate::writer::{numbers_of, put_state, state_number, truth};
-use fop::Alert;
-use sender::{Answer, FrameKind, Sender, Start, refused_state};
+use crate::writer::{numbers_of, put_state, state_number};
+use base::Refusal;
+use fop::{Alert, Event};
+use sender::{Answer, FrameKind, Sender};
 use store::PLACES;
 use text::same;
 
@@ -34,73 +35,73 @@ pub fn octets_of(state: sender_values::SenderState) -> [u8; STATE_OCTETS]
 }
 
 // A sender from octets; 12 where they are no state. Any two octets are those of a length, so that the numbers alone are compared.
-pub fn sender_in(octets: &[u8]) -> Start
+pub fn sender_in(octets: &[u8]) -> Result<Sender, Refusal>
     ensures { result ≡ sender_in octets.now }
 {
-    if octets.len() != STATE_OCTETS {
-        return refused_state();
-    }
+    let Ok(octets) = <&[u8; STATE_OCTETS]>::try_from(octets) else {
+        return Err(Refusal::Setting);
+    };
     let state = state_in(octets);
-    let numbers = numbers_of(state);
-    if !same(&octets[..NUMBER_OCTETS], &numbers) {
-        return refused_state();
+    if !same(&octets[..NUMBER_OCTETS], &numbers_of(state)) {
+        return Err(Refusal::Setting);
     }
     Sender::restore(state)
 }
 
-// The reason of an Alert notification by its number.
-fn alert_number(alert: Alert) -> u8
+// The reason of an Alert notification by its number, 0 where there is none.
+fn alert_number(alert: Option<Alert>) -> u8
     ensures { result ≡ alert_number alert }
 {
     match alert {
-        Alert::None => 0,
-        Alert::Synch => 1,
-        Alert::Clcw => 2,
-        Alert::Limit => 3,
-        Alert::Nnr => 4,
-        Alert::Lockout => 5,
-        Alert::T1 => 6,
-        Alert::Term => 7,
-        Alert::Llif => 8,
+        None => 0,
+        Some(Alert::Synch) => 1,
+        Some(Alert::Clcw) => 2,
+        Some(Alert::Limit) => 3,
+        Some(Alert::Nnr) => 4,
+        Some(Alert::Lockout) => 5,
+        Some(Alert::T1) => 6,
+        Some(Alert::Term) => 7,
+        Some(Alert::Llif) => 8,
     }
 }
 
 // The kind of the frame handed down by its number.
-fn kind_number(kind: FrameKind) -> u8
+fn kind_number(kind: Option<FrameKind>) -> u8
     ensures { result ≡ kind_number kind }
 {
     match kind {
-        FrameKind::None => 0,
-        FrameKind::Ad => 1,
-        FrameKind::Bd => 2,
-        FrameKind::Unlock => 3,
-        FrameKind::SetVr => 4,
+        None => 0,
+        Some(FrameKind::Ad) => 1,
+        Some(FrameKind::Bd) => 2,
+        Some(FrameKind::Unlock) => 3,
+        Some(FrameKind::SetVr) => 4,
     }
 }
 
-// An answer as octets.
+// The event of table 7-8 by its number, 0 where there is none.
+fn number_if(event: Option<Event>) -> u8
+    ensures { result ≡ number_if event }
+{
+    match event {
+        None => 0,
+        Some(event) => event.number(),
+    }
+}
+
+// An answer as octets. The count of octets handed down is told by its lowest two octets.
 pub fn octets_of_answer(answer: Answer) -> [u8; ANSWER_OCTETS]
     ensures { result ≡ octets_of_answer answer }
 {
-    let down = answer.down;
     let responses = answer.responses.numbers;
-    let state = answer.state;
-    let state = state_number(state);
-    let abort = truth(answer.abort);
-    let alert = answer.alert;
-    let alert = alert_number(alert);
-    let suspended = truth(answer.suspended);
-    let kind = answer.kind;
-    let kind = kind_number(kind);
     [
         answer.refusal,
-        answer.event,
-        state,
-        (down / 256 % 256) as u8,
-        (down % 256) as u8,
-        abort,
-        alert,
-        suspended,
+        number_if(answer.event),
+        state_number(answer.state),
+        (answer.down / 256 % 256) as u8,
+        (answer.down % 256) as u8,
+        u8::from(answer.abort),
+        alert_number(answer.alert),
+        u8::from(answer.suspended),
         answer.responses.count,
         responses[0],
         responses[1],
@@ -110,6 +111,6 @@ pub fn octets_of_answer(answer: Answer) -> [u8; ANSWER_OCTETS]
         answer.confirmed.count,
         answer.denied.number,
         answer.denied.count,
-        kind,
+        kind_number(answer.kind),
     ]
 }

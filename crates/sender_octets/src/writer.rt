@@ -1,4 +1,6 @@
 // A state as octets: numbers and flags, then two for each length, the most significant first.
+#![tactic(auto, unfolding(crate::specs::Kept::octets_of))]
+
 ghost use Rattle.std.specs.Prelude.{◌≡◌, ◌++◌, ◌*◌, ◌<◌, ◌≤◌, ◌/◌, ◌%◌, length, get_or};
 ghost use Rattle.base.specs.Flags.{bit_of};
 ghost use Rattle.memory.specs.Placed.{placed};
@@ -29,36 +31,24 @@ pub fn state_number(state: State) -> u8
     }
 }
 
-// A truth value, 1 or 0.
-pub fn truth(value: bool) -> u8
-    ensures number { result ≡ bit_of value }
-    ensures bit { result ≤ 1 }
-{
-    if value {
-        return 1;
-    }
-    0
-}
-
 // The type-BC frame by number: none, Unlock, Set V(R).
-fn control_number(control: Control) -> u8
+fn control_number(control: Option<Control>) -> u8
     ensures { result ≡ control_number control }
 {
     match control {
-        Control::None => 0,
-        Control::Unlock => 1,
-        Control::SetVr(_) => 2,
+        None => 0,
+        Some(Control::Unlock) => 1,
+        Some(Control::SetVr(_)) => 2,
     }
 }
 
 // The value of Set V(R), else 0.
-fn control_value(control: Control) -> u8
+fn control_value(control: Option<Control>) -> u8
     ensures { result ≡ control_value control }
 {
     match control {
-        Control::None => 0,
-        Control::Unlock => 0,
-        Control::SetVr(value) => value,
+        Some(Control::SetVr(value)) => value,
+        _ => 0,
     }
 }
 
@@ -66,11 +56,11 @@ fn control_value(control: Control) -> u8
 fn flags_of(state: SenderState) -> u8
     ensures { result ≡ flags_of state }
 {
-    let ad_out = truth(state.variables.ad_out);
-    let bc_out = truth(state.variables.bc_out);
-    let bd_out = truth(state.variables.bd_out);
-    let waiting = truth(state.queues.waiting);
-    let marked = truth(state.queues.control_marked);
+    let ad_out = u8::from(state.variables.ad_out);
+    let bc_out = u8::from(state.variables.bc_out);
+    let bd_out = u8::from(state.variables.bd_out);
+    let waiting = u8::from(state.queues.waiting);
+    let marked = u8::from(state.queues.control_marked);
     ad_out + bc_out * 2 + bd_out * 4 + waiting * 8 + marked * 16
 }
 
@@ -78,66 +68,45 @@ fn flags_of(state: SenderState) -> u8
 pub fn numbers_of(state: SenderState) -> [u8; NUMBER_OCTETS]
     ensures { result ++ pairs state.lengths ≡ octets_of state }
 {
-    let fop_state = state.state;
-    let queues = state.queues;
-    let control = queues.control;
-    let number = state_number(fop_state);
-    let flags = flags_of(state);
-    let control_number = control_number(control);
-    let control_value = control_value(control);
+    let [t1_first, t1_second] = state.settings.t1_initial.to_be_bytes();
+    let [spacecraft_first, spacecraft_second] = state.settings.spacecraft.to_be_bytes();
+    let [timer_first, timer_second] = state.variables.timer.to_be_bytes();
     [
         MARK,
         LAYOUT,
-        number,
+        state_number(state.state),
         state.settings.k,
-        (state.settings.t1_initial / 256) as u8,
-        (state.settings.t1_initial % 256) as u8,
+        t1_first,
+        t1_second,
         state.settings.transmission_limit,
         state.settings.timeout_type,
-        (state.settings.spacecraft / 256) as u8,
-        (state.settings.spacecraft % 256) as u8,
+        spacecraft_first,
+        spacecraft_second,
         state.settings.channel,
         state.variables.vs,
         state.variables.nnr,
-        (state.variables.timer / 256) as u8,
-        (state.variables.timer % 256) as u8,
+        timer_first,
+        timer_second,
         state.variables.transmission_count,
-        flags,
+        flags_of(state),
         state.variables.suspend_state,
         state.queues.sent,
         state.queues.marked,
-        control_number,
-        control_value,
+        control_number(state.queues.control),
+        control_value(state.queues.control),
     ]
 }
 
-// The two octets of a number.
-fn high(number: u16) -> u8
-    ensures { result ≡ number / 256 }
-{
-    (number / 256) as u8
-}
-
-fn low(number: u16) -> u8
-    ensures { result ≡ number % 256 }
-{
-    (number % 256) as u8
-}
-
-// Puts the lengths behind the numbers.
+// Puts the lengths behind the numbers, each at its place, since the library says nothing of what is written through `chunks_exact_mut`.
 fn put_lengths(octets: &mut [u8], lengths: &[u16; PLACES])
     requires { (state_octets ≤ length octets.old) × (length lengths.now ≡ places) }
     ensures { octets.new ≡ placed octets.old number_octets (pairs lengths.now) }
 {
-    let mut i = 0;
-    while i < PLACES {
-        let length = lengths[i];
+    for (i, length) in lengths.iter().enumerate() {
         let place = NUMBER_OCTETS + 2 * i;
-        let first = high(length);
-        let second = low(length);
+        let [first, second] = length.to_be_bytes();
         octets[place] = first;
         octets[place + 1] = second;
-        i += 1;
     }
 }
 
@@ -157,44 +126,5 @@ fn put_parts(octets: &mut [u8], numbers: &[u8; NUMBER_OCTETS], lengths: &[u16; P
 pub fn put_state(octets: &mut [u8], state: SenderState)
     ensures { octets.new ≡ placed octets.old 0 (octets_of state) }
 {
-    let numbers = numbers_of(state);
-    let lengths = state.lengths;
-    put_parts(octets, &numbers, &lengths);
-}
-
-// The octet at a place of the lengths as octets.
-fn length_octet(lengths: &[u16; PLACES], place: usize) -> u8
-    requires { place < 2 * places }
-    ensures { result ≡ get_or (pairs lengths.now) place 0 }
-{
-    let length = lengths[place / 2];
-    if place % 2 == 0 {
-        return high(length);
-    }
-    low(length)
-}
-
-// The octet at a place of a state.
-fn octet_at(numbers: &[u8; NUMBER_OCTETS], lengths: &[u16; PLACES], place: usize) -> u8
-    requires { (place < state_octets) × (length numbers.now ≡ number_octets) }
-    ensures { result ≡ get_or (numbers.now ++ pairs lengths.now) place 0 }
-{
-    if place < NUMBER_OCTETS {
-        return numbers[place];
-    }
-    length_octet(lengths, place - NUMBER_OCTETS)
-}
-
-// The numbers and flags, then the lengths.
-pub fn join(numbers: [u8; NUMBER_OCTETS], lengths: [u16; PLACES]) -> [u8; STATE_OCTETS]
-    ensures { result ≡ numbers ++ pairs lengths }
-{
-    let mut octets = [0u8; STATE_OCTETS];
-    let mut i = 0;
-    while i < STATE_OCTETS {
-        let octet = octet_at(&numbers, &lengths, i);
-        octets[i] = octet;
-        i += 1;
-    }
-    octets
+    put_parts(octets, &numbers_of(state), &state.lengths);
 }

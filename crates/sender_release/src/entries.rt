@@ -2,21 +2,20 @@
 ghost use Rattle.std.specs.Prelude.{◌≡◌};
 ghost use Rattle.sender_values.specs.Actions.{add_to_wait_queue, release_bc_frame};
 
+use sender_values::Work;
 use sender_values::values::hold_control;
-use sender_values::{Control, Work};
 
 // Add to Wait_Queue a unit, which stands in the store behind the sent ones.
-pub fn add_to_wait_queue(work: Work) -> Work
+pub fn add_to_wait_queue(mut work: Work) -> Work
     ensures { result ≡ add_to_wait_queue work }
 {
-    let mut next = work;
-    next.queues.waiting = true;
-    next
+    work.queues.waiting = true;
+    work
 }
 
 // Release type-BC frame.
 pub fn release_bc_frame(work: Work) -> Work
     ensures { result ≡ release_bc_frame work }
 {
-    hold_control(work, Control::None, false)
+    hold_control(work, None, false)
 }

@@ -4,7 +4,7 @@
 pub mod entries;
 
 ghost use Rattle.std.specs.Prelude.{◌≡◌};
-ghost use Rattle.sender_values.specs.Actions.{least, run_from, staying, removed, remove_acknowledged_frames, emptied, deny_control, purge_sent_queue, not_waiting, purge_wait_queue, alert, initialise};
+ghost use Rattle.sender_values.specs.Actions.{run_from, staying, removed, remove_acknowledged_frames, emptied, deny_control, purge_sent_queue, not_waiting, purge_wait_queue, alert, initialise};
 
 use crate::entries::release_bc_frame;
 use fop::{Alert, Response, Run};
@@ -12,30 +12,12 @@ use sender_values::answers::{notify, respond};
 use sender_values::values::{cancel_timer, count_one, difference, set_suspend_state};
 use sender_values::{Control, Work};
 
-// The least of two numbers.
-fn least(a: u8, b: u8) -> u8
-    ensures { result ≡ least a b }
-{
-    if a < b {
-        return a;
-    }
-    b
-}
-
 // A run of units from a number on; 0 and 0 where empty.
 fn run_from(number: u8, count: u8) -> Run
     ensures { result ≡ run_from number count }
 {
-    if count == 0 {
-        return Run {
-            number: 0,
-            count: count,
-        };
-    }
-    Run {
-        number: number,
-        count: count,
-    }
+    let number = if count == 0 { 0 } else { number };
+    Run { number, count }
 }
 
 // The units that stay where those before a number are removed.
@@ -43,53 +25,41 @@ fn staying(work: Work, number: u8) -> u8
     ensures { result ≡ staying number work }
 {
     let outstanding = difference(work.variables.vs, number);
-    least(work.queues.sent, outstanding)
+    work.queues.sent.min(outstanding)
 }
 
 // Clause 7.9.2.13, Remove acknowledged frames from Sent_Queue: those before N(R).
-pub fn remove_acknowledged_frames(work: Work, number: u8) -> Work
+pub fn remove_acknowledged_frames(mut work: Work, number: u8) -> Work
     ensures { result ≡ remove_acknowledged_frames number work }
 {
-    let mut queues = work.queues;
+    let sent = work.queues.sent;
     let rest = staying(work, number);
-    let removed = difference(queues.sent, rest);
-    let marked = least(queues.marked, rest);
-    let run = run_from(difference(work.variables.vs, queues.sent), removed);
-    queues.sent = rest;
-    queues.marked = marked;
-    let mut told = work.told;
-    told.confirmed = run;
-    let mut next = work;
-    next.variables.nnr = number;
-    next.variables.transmission_count = 1;
-    next.queues = queues;
-    next.told = told;
-    next
+    work.told.confirmed = run_from(difference(work.variables.vs, sent), difference(sent, rest));
+    work.queues.sent = rest;
+    work.queues.marked = work.queues.marked.min(rest);
+    work.variables.nnr = number;
+    work.variables.transmission_count = 1;
+    work
 }
 
 // The sent queue without its frames; its units are denied.
-fn empty_sent_queue(work: Work) -> Work
+fn empty_sent_queue(mut work: Work) -> Work
     ensures { result ≡ emptied work }
 {
     let sent = work.queues.sent;
-    let run = run_from(difference(work.variables.vs, sent), sent);
-    let mut told = work.told;
-    told.denied = run;
-    let mut next = work;
-    next.queues.sent = 0;
-    next.queues.marked = 0;
-    next.told = told;
-    release_bc_frame(next)
+    work.told.denied = run_from(difference(work.variables.vs, sent), sent);
+    work.queues.sent = 0;
+    work.queues.marked = 0;
+    release_bc_frame(work)
 }
 
 // A type-BC frame purged gives the Negative Confirm of its directive.
-fn deny_control(work: Work, control: Control) -> Work
+fn deny_control(work: Work, control: Option<Control>) -> Work
     ensures { result ≡ deny_control control work }
 {
     match control {
-        Control::None => work,
-        Control::Unlock => respond(work, Response::DenyDirective),
-        Control::SetVr(_) => respond(work, Response::DenyDirective),
+        None => work,
+        Some(_) => respond(work, Response::DenyDirective),
     }
 }
 
@@ -97,26 +67,22 @@ fn deny_control(work: Work, control: Control) -> Work
 pub fn purge_sent_queue(work: Work) -> Work
     ensures { result ≡ purge_sent_queue work }
 {
-    let queues = work.queues;
-    let control = queues.control;
-    deny_control(empty_sent_queue(work), control)
+    deny_control(empty_sent_queue(work), work.queues.control)
 }
 
 // The wait queue without its unit.
-fn not_waiting(work: Work) -> Work
+fn not_waiting(mut work: Work) -> Work
     ensures { result ≡ not_waiting work }
 {
-    let mut next = work;
-    next.queues.waiting = false;
-    next
+    work.queues.waiting = false;
+    work
 }
 
 // Clause 7.9.2.5, Purging the Wait_Queue: its unit is rejected.
 pub fn purge_wait_queue(work: Work) -> Work
     ensures { result ≡ purge_wait_queue work }
 {
-    let waiting = work.queues.waiting;
-    if waiting {
+    if work.queues.waiting {
         return respond(not_waiting(work), Response::RejectAdUnit);
     }
     work

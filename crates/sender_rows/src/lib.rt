@@ -4,57 +4,44 @@
 mod actions;
 
 ghost use Rattle.std.specs.Prelude.{◌≡◌};
-ghost use Rattle.sender_table.specs.Rows.{row_numbered};
-ghost use Rattle.sender_table.specs.Numbers.{done_numbers, unless_suspended};
+ghost use Rattle.sender_table.specs.Rows.{done_all, row_if};
+ghost use Rattle.sender_table.specs.Cells.{unless_suspended};
 
 use crate::actions::perform;
+use fop::{Action, Event};
 use sender_table::cell;
-use sender_table::table::IGNORE;
 use sender_values::Work;
 use sender_values::values::to_state;
 
 // Row E35 while suspended is that of the invalid directive, E40.
-fn unless_suspended(event: u8, suspend_state: u8) -> u8
+fn unless_suspended(event: Event, suspend_state: u8) -> Event
     ensures { result ≡ unless_suspended event suspend_state }
 {
-    if event == 35 {
-        if suspend_state == 0 {
-            return event;
-        }
-        return 40;
+    match event {
+        Event::E35 if suspend_state != 0 => Event::E40,
+        _ => event,
     }
-    event
 }
 
-// The actions with these numbers in their order; Ignore fills a cell up, and nothing is done for it.
-fn perform_all(work: Work, numbers: [u8; 5], value: u16) -> Work
-    ensures { result ≡ done_numbers numbers value work }
+// The actions in their order.
+fn perform_all(mut work: Work, actions: &[Action], value: u16) -> Work
+    ensures { result ≡ done_all actions.now value work }
 {
-    let mut next = work;
-    let mut i = 0;
-    while i < 5 {
-        let number = numbers[i];
-        if number != IGNORE {
-            next = perform(next, number, value);
-        }
-        i += 1;
+    for action in actions {
+        work = perform(work, *action, value);
     }
-    next
+    work
 }
 
-// The work by the row of the event with this number; value is N(R) or a directive's. A number that is no event's does
-// nothing; most ticks bring 0, so the table is not asked there.
-pub fn row(work: Work, event: u8, value: u16) -> Work
-    ensures { result ≡ row_numbered event value work }
+// The work by the row of an event, if there is one; value is N(R) or a directive's. Most ticks bring no event.
+pub fn row(work: Work, event: Option<Event>, value: u16) -> Work
+    ensures { result ≡ row_if event value work }
 {
-    if event == 0 {
+    let Some(event) = event else {
         return work;
-    }
-    let state = work.state;
+    };
     let chosen = unless_suspended(event, work.variables.suspend_state);
-    let asked = cell(chosen, state);
-    let next = asked.next;
-    let actions = asked.actions;
-    let after = perform_all(work, actions, value);
-    to_state(after, next)
+    let asked = cell(chosen, work.state);
+    let next = asked.next.unwrap_or(work.state);
+    to_state(perform_all(work, asked.actions, value), next)
 }

@@ -1,4 +1,5 @@
 -- A cell that is allowed shows the machine's work: its actions lead to a mode that its next state asks, and from there the next state is set.
+use Rattle.std.specs.Prelude.{Option, None}
 use Prim.Native.Nat.{ℕ, suc, ◌+◌, ◌≤◌, ◌<◌}
 use mathlib.Core.Path.{◌≡◌, refl, sym, ap, subst, ◌∙◌}
 use mathlib.Core.Bool.{Bool, true, false, not}
@@ -12,12 +13,12 @@ use Rattle.store.proofs.Parts.{slid_none}
 use Rattle.store.proofs.Moving.{without_none}
 use Rattle.fop.specs.Limits.{largest_suspend_state}
 use Rattle.fop.specs.Effective.{effective_of, in_service}
-use Rattle.fop.specs.Table.{Action, Cell, cell, if_not_suspended, NotApplicable}
+use Rattle.fop.specs.declared.Action.{Action}
+use Rattle.fop.specs.Table.{Cell, cell, if_not_suspended, NotApplicable}
 use Rattle.fop.specs.Variables as machine
 use Rattle.fop.specs.Answers.{run_of}
 use Rattle.fop.specs.Machine.{perform_all, perform_cell}
 use Rattle.sender_values.specs.declared.Control.{Control}
-use Rattle.sender_values.specs.declared.Handed.TheVariants as handed
 use Rattle.fop.specs.declared.State.{State}
 use Rattle.fop.specs.declared.State.TheVariants as state
 use Rattle.sender_values.specs.declared.Work.{Work}
@@ -114,7 +115,7 @@ agrees_is : (a b : Bool) → agrees a b ≡ true → b ≡ a
 agrees_is true b t = t
 agrees_is false b t = not-true b t
 
-covered : (asked z : Idle) {timer sent : ℕ} {waiting : Bool} {bc : Control} {suspend : ℕ} → covers asked z ≡ true → z.suspend ≡ asked.suspend
+covered : (asked z : Idle) {timer sent : ℕ} {waiting : Bool} {bc : Option Control} {suspend : ℕ} → covers asked z ≡ true → z.suspend ≡ asked.suspend
     → IdleIs z timer sent waiting bc suspend → IdleIs asked timer sent waiting bc suspend
 covered asked z t n q =
     let a : Bool = implied asked.unsent z.unsent in
@@ -226,7 +227,7 @@ module _ (x : Case) (good : Good x.own x.sender x.store) (meets : Needed (brings
   unchanged a =
       shown x (begun x.sender) (seen x [] [] (begun x.sender) x.sender.lengths x.store) x.sender.lengths x.store
       (left_after x x.sender.lengths x.store (begun x.sender) kept (refl, refl) (refl, refl) (brings x.event) a) (few_after x (begun x.sender) kept (brings x.event) a (no_more_first x))
-      (record { is = refl; confirmed = refl; denied = refl; good = good; sent = none_below handed.None x.sender.queues.sent refl })
+      (record { is = refl; confirmed = refl; denied = refl; good = good; sent = none_below None x.sender.queues.sent refl })
 
   -- the work as it begins
   few_again : (b : Brings) → Needed b x.octets x.value x.sender → Where (repeats b) (x.sender.variables.transmission_count < 255)

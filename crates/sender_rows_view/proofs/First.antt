@@ -1,5 +1,6 @@
 -- The actions that change the store and the lengths stand first in their cells: Remove acknowledged frames moves them down, Add to Wait_Queue
 -- puts a unit into the store and sets its length. What is known before them is what is known of the sender.
+use Rattle.std.specs.Prelude.{None}
 use Prim.Native.Nat.{ℕ, ◌+◌, ◌-◌, ◌%◌, ◌≤◌, ◌<◌}
 use mathlib.Core.Path.{◌≡◌, refl, sym, ap, subst, ◌∙◌}
 use mathlib.Core.Bool.{Bool, true, false}
@@ -15,10 +16,9 @@ use Rattle.store.specs.Places.{unit_put, without}
 use Rattle.store.specs.Slid.{slid}
 use Rattle.store.proofs.Parts.{slid_at}
 use Rattle.fop.specs.Limits.{largest_k}
-use Rattle.fop.specs.Table as table
+use Rattle.fop.specs.declared.Action.TheVariants as action
 use Rattle.fop.specs.Variables as machine
 use Rattle.fop.specs.Machine.{perform, fdus}
-use Rattle.sender_values.specs.declared.Handed.TheVariants as handed
 use Rattle.sender_values.specs.declared.Work.{Work}
 use Rattle.sender_values.specs.Limits.{largest_responses}
 use Rattle.sender_values.specs.Parts.{with_variables, with_queues, with_told}
@@ -72,7 +72,7 @@ module _ (x : Case) (good : Good x.own x.sender x.store) where
 
   removes : (f : Bool) (z : Idle) (m : machine.Work) → Fresh x f z (begun x.sender) m → x.value < 256
       → offset x.value x.sender.variables.nnr ≤ offset x.sender.variables.vs x.sender.variables.nnr
-      → Open x moved true (remaining z) true largest_responses (act.remove_acknowledged_frames x.value (begun x.sender)) (perform table.RemoveAcknowledgedFrames m)
+      → Open x moved true (remaining z) true largest_responses (act.remove_acknowledged_frames x.value (begun x.sender)) (perform action.RemoveAcknowledgedFrames m)
   unfolding begun none_told act.remove_acknowledged_frames with_variables with_queues with_told
   removes f z m h o i =
       let w = begun x.sender in
@@ -86,7 +86,7 @@ module _ (x : Case) (good : Good x.own x.sender x.store) where
         store = without lengths gone (all_held - gone) x.store;
         c = fdus (take gone (entries_of lengths x.store x.sender.variables.vs q.sent q.marked));
         d = [];
-        is = ap (perform table.RemoveAcknowledgedFrames) h.is ∙ removal.remove_acknowledged_frames_lem _ _ _ _ w lengths x.store refl good.formed o i;
+        is = ap (perform action.RemoveAcknowledgedFrames) h.is ∙ removal.remove_acknowledged_frames_lem _ _ _ _ w lengths x.store refl good.formed o i;
         formed = well.remove_acknowledged_frames_lem w lengths x.store good.formed x.value gone (all_held - gone) o;
         ended = record {
           settled = good_settled good;
@@ -100,7 +100,7 @@ module _ (x : Case) (good : Good x.own x.sender x.store) where
             of_denied = refl;
           };
           idle = record { unsent = tt; unasked = h.idle.unasked; stopped = h.idle.stopped; frame = h.idle.frame; is_suspend = h.idle.is_suspend };
-          below = none_below handed.None _ refl;
+          below = none_below None _ refl;
         };
         going = record { none = refl; room = room_begun x.sender; undenied = refl; few = omega arith };
       }
@@ -121,7 +121,7 @@ module _ (x : Case) (good : Good x.own x.sender x.store) where
         rw (← k, get_or-set_same x.sender.lengths i (length x.octets) 0 here) o
 
   adds : (f : Bool) (z : Idle) (m : machine.Work) → Fresh x f z (begun x.sender) m → 1 ≤ length x.octets → length x.octets ≤ largest_unit
-      → Open x put f (offered z) true largest_responses (act.add_to_wait_queue (begun x.sender)) (perform table.AddToWaitQueue m)
+      → Open x put f (offered z) true largest_responses (act.add_to_wait_queue (begun x.sender)) (perform action.AddToWaitQueue m)
   unfolding begun none_told act.add_to_wait_queue with_queues
   adds f z m h o i =
       let w = begun x.sender in
@@ -131,7 +131,7 @@ module _ (x : Case) (good : Good x.own x.sender x.store) where
         store = unit_put q.sent x.octets x.store;
         c = [];
         d = [];
-        is = ap (perform table.AddToWaitQueue) h.is ∙ waiting.add_to_wait_queue_lem _ _ _ _ _ w x.sender.lengths x.store refl good.formed i;
+        is = ap (perform action.AddToWaitQueue) h.is ∙ waiting.add_to_wait_queue_lem _ _ _ _ _ w x.sender.lengths x.store refl good.formed i;
         formed = well.add_to_wait_queue_lem w x.sender.lengths x.store good.formed x.octets i;
         ended = record {
           settled = good_settled good;
@@ -140,7 +140,7 @@ module _ (x : Case) (good : Good x.own x.sender x.store) where
           no_more = omega arith;
           runs = record { stored = refl; measured = refl; of_confirmed = refl; of_denied = refl };
           idle = record { unsent = h.idle.unsent; unasked = tt; stopped = h.idle.stopped; frame = h.idle.frame; is_suspend = h.idle.is_suspend };
-          below = none_below handed.None _ refl;
+          below = none_below None _ refl;
         };
         going = record { none = refl; room = room_begun x.sender; undenied = refl; few = h.few };
       }
@@ -150,14 +150,14 @@ module _ (x : Case) (f : Bool) (z : Idle) (w : Work) (m : machine.Work) (h : Fre
   again = record { begins = refl; is = h.is; good = h.good; few = h.few; idle = h.idle }
 
   pub remove_acknowledged_frames_lem : (x.value < 256) × (offset x.value x.sender.variables.nnr ≤ offset x.sender.variables.vs x.sender.variables.nnr)
-      → Open x moved true (remaining z) true largest_responses (act.remove_acknowledged_frames (x.value % 256) w) (perform table.RemoveAcknowledgedFrames m)
+      → Open x moved true (remaining z) true largest_responses (act.remove_acknowledged_frames (x.value % 256) w) (perform action.RemoveAcknowledgedFrames m)
   remove_acknowledged_frames_lem o =
-      subst (λ (v : Work). Open x moved true (remaining z) true largest_responses (act.remove_acknowledged_frames (x.value % 256) v) (perform table.RemoveAcknowledgedFrames m)) (sym h.begins)
-      (subst (λ (k : ℕ). Open x moved true (remaining z) true largest_responses (act.remove_acknowledged_frames k (begun x.sender)) (perform table.RemoveAcknowledgedFrames m))
+      subst (λ (v : Work). Open x moved true (remaining z) true largest_responses (act.remove_acknowledged_frames (x.value % 256) v) (perform action.RemoveAcknowledgedFrames m)) (sym h.begins)
+      (subst (λ (k : ℕ). Open x moved true (remaining z) true largest_responses (act.remove_acknowledged_frames k (begun x.sender)) (perform action.RemoveAcknowledgedFrames m))
       (sym (octet_is x.value o.0)) (removes x h.good f z m again o.0 o.1))
 
   pub add_to_wait_queue_lem : (1 ≤ length x.octets) × (length x.octets ≤ largest_unit)
-      → Open x put f (offered z) true largest_responses (act.add_to_wait_queue w) (perform table.AddToWaitQueue m)
+      → Open x put f (offered z) true largest_responses (act.add_to_wait_queue w) (perform action.AddToWaitQueue m)
   add_to_wait_queue_lem o =
-      subst (λ (v : Work). Open x put f (offered z) true largest_responses (act.add_to_wait_queue v) (perform table.AddToWaitQueue m)) (sym h.begins)
+      subst (λ (v : Work). Open x put f (offered z) true largest_responses (act.add_to_wait_queue v) (perform action.AddToWaitQueue m)) (sym h.begins)
       (adds x h.good f z m again o.0 o.1)

@@ -1,4 +1,5 @@
 -- The actions that hand down a frame, or look for one to hand down: they are the last of a cell. A unit handed down is one of those sent.
+use Rattle.std.specs.Prelude.{Option, None, Some}
 use Prim.Native.Nat.{ℕ, suc, ◌%◌, ◌≤◌, ◌<◌}
 use mathlib.Core.Path.{◌≡◌, refl, sym, ap, subst, ◌∙◌}
 use mathlib.Core.Bool.{Bool, true, false}
@@ -10,7 +11,7 @@ use Rattle.base.specs.Choice.{pick}
 use Rattle.base.specs.Modulo.{advanced, offset}
 use Rattle.fop.specs.Limits.{largest_k}
 use Rattle.fop.specs.Units.{Fdu}
-use Rattle.fop.specs.Table as table
+use Rattle.fop.specs.declared.Action.TheVariants as action
 use Rattle.fop.specs.Variables as machine
 use Rattle.fop.specs.Machine.{perform}
 use Rattle.sender_values.specs.declared.Control.{Control}
@@ -31,29 +32,29 @@ use Rattle.sender_rows_view.proofs.Known.{Case, seen, Counted, IdleIs, NoMore, E
 use Rattle.sender_rows_view.proofs.Onward.{shuts}
 
 -- a frame of another type than AD
-data OtherFrame : Handed → Type 0 where
-  bd : OtherFrame handed.Bd
-  unlock : OtherFrame handed.Unlock
-  set_vr : (n : ℕ) → OtherFrame (handed.SetVr n)
+data OtherFrame : Option Handed → Type 0 where
+  bd : OtherFrame (Some handed.Bd)
+  unlock : OtherFrame (Some handed.Unlock)
+  set_vr : (n : ℕ) → OtherFrame (Some (handed.SetVr n))
 
-not_ad : (down : Handed) → OtherFrame down → (sent k i : ℕ) → down ≡ handed.Ad k i → i < sent
-not_ad handed.None t sent k i q = elim t [ ]
-not_ad (handed.Ad _ _) t sent k i q = elim t [ ]
-not_ad handed.Bd t sent k i q = let z : ◌≡◌ {A = ℕ} 0 1 = cc in omega arith
-not_ad handed.Unlock t sent k i q = let z : ◌≡◌ {A = ℕ} 0 1 = cc in omega arith
-not_ad (handed.SetVr n) t sent k i q = let z : ◌≡◌ {A = ℕ} 0 1 = cc in omega arith
+not_ad : (down : Option Handed) → OtherFrame down → (sent k i : ℕ) → down ≡ (Some (handed.Ad k i)) → i < sent
+not_ad None t sent k i q = elim t [ ]
+not_ad (Some (handed.Ad _ _)) t sent k i q = elim t [ ]
+not_ad (Some handed.Bd) t sent k i q = let z : ◌≡◌ {A = ℕ} 0 1 = cc in omega arith
+not_ad (Some handed.Unlock) t sent k i q = let z : ◌≡◌ {A = ℕ} 0 1 = cc in omega arith
+not_ad (Some (handed.SetVr n)) t sent k i q = let z : ◌≡◌ {A = ℕ} 0 1 = cc in omega arith
 
 -- Frames of other types.
 module _ (x : Case) (w : Work) (lengths store : List ℕ) (p : Stored) (z : Idle) (c d : List Fdu) (e : EndedOf x p z lengths store c d w) where
-  other_handed : (down : Handed) → OtherFrame down → EndedOf x p z lengths store c d (act.hand_down down w)
+  other_handed : (down : Option Handed) → OtherFrame down → EndedOf x p z lengths store c d (act.hand_down down w)
   unfolding act.hand_down with_told
   other_handed down t = record { settled = e.settled; counted = e.counted; filled = e.filled; no_more = e.no_more; runs = e.runs; idle = e.idle; below = not_ad down t w.queues.sent }
 
-  bc_sent : (k : Control) → is_frame k ≡ true → (down : Handed) → OtherFrame down → EndedOf x p (framed (started z)) lengths store c d (act.transmit_bc_frame k down w)
+  bc_sent : (k : Option Control) → is_frame k ≡ true → (down : Option Handed) → OtherFrame down → EndedOf x p (framed (started z)) lengths store c d (act.transmit_bc_frame k down w)
   unfolding act.transmit_bc_frame act.start_timer act.hand_down act.hold_control with_variables with_queues with_told
   bc_sent k b down t = idle_again (other_handed down t) counts_one (frames (starts e.idle) b)
 
-  marked_sent : (down : Handed) → OtherFrame down → EndedOf x p z lengths store c d (act.send_marked_control down w)
+  marked_sent : (down : Option Handed) → OtherFrame down → EndedOf x p z lengths store c d (act.send_marked_control down w)
   unfolding act.send_marked_control act.send_control act.hold_control act.hand_down with_variables with_queues with_told
   marked_sent down t = by w.variables.bc_out w.queues.control_marked where
     by : (a m : Bool) → EndedOf x p z lengths store c d (pick a (pick m (act.send_control down w) w) w)
@@ -61,40 +62,40 @@ module _ (x : Case) (w : Work) (lengths store : List ℕ) (p : Stored) (z : Idle
     by true false = e
     by false m = e
 
-  directive_looked : (k : Control) → EndedOf x p z lengths store c d (act.look_for_directive_of k w)
+  directive_looked : (k : Option Control) → EndedOf x p z lengths store c d (act.look_for_directive_of k w)
   unfolding act.look_for_directive_of
-  directive_looked control.None = e
-  directive_looked control.Unlock = marked_sent handed.Unlock unlock
-  directive_looked (control.SetVr n) = marked_sent (handed.SetVr n) (set_vr n)
+  directive_looked None = e
+  directive_looked (Some control.Unlock) = marked_sent (Some handed.Unlock) unlock
+  directive_looked (Some (control.SetVr n)) = marked_sent (Some (handed.SetVr n)) (set_vr n)
 
 module _ (x : Case) (w : Work) (m : machine.Work) {p : Stored} {f : Bool} {z : Idle} {u : Bool} {l : ℕ} (h : Open x p f z u l w m) where
-  pub transmit_unlock_lem : Shut x p (framed (started z)) (act.transmit_unlock w) (perform table.TransmitUnlock m)
+  pub transmit_unlock_lem : Shut x p (framed (started z)) (act.transmit_unlock w) (perform action.TransmitUnlock m)
   unfolding act.transmit_unlock act.transmit_bc_frame act.start_timer act.hand_down act.hold_control with_variables with_queues with_told
   transmit_unlock_lem =
-      shuts h table.TransmitUnlock (act.transmit_unlock w) (transmit.transmit_unlock_lem _ _ _ _ _ w h.lengths h.store h.going.none) h.formed
-      (bc_sent x w h.lengths h.store p z h.c h.d h.ended control.Unlock refl handed.Unlock unlock)
+      shuts h action.TransmitUnlock (act.transmit_unlock w) (transmit.transmit_unlock_lem _ _ _ _ _ w h.lengths h.store h.going.none) h.formed
+      (bc_sent x w h.lengths h.store p z h.c h.d h.ended (Some control.Unlock) refl (Some handed.Unlock) unlock)
 
-  pub transmit_set_vr_lem : x.value < 256 → Shut x p (framed (started z)) (act.transmit_set_vr (x.value % 256) w) (perform table.TransmitSetVr m)
+  pub transmit_set_vr_lem : x.value < 256 → Shut x p (framed (started z)) (act.transmit_set_vr (x.value % 256) w) (perform action.TransmitSetVr m)
   unfolding act.transmit_set_vr act.transmit_bc_frame act.start_timer act.hand_down act.hold_control with_variables with_queues with_told
   transmit_set_vr_lem n =
-      shuts h table.TransmitSetVr (act.transmit_set_vr (x.value % 256) w)
+      shuts h action.TransmitSetVr (act.transmit_set_vr (x.value % 256) w)
       (transmit.transmit_set_vr_lem _ _ _ _ _ w h.lengths h.store h.going.none
       ∙ ap (λ (k : ℕ). seen x h.c h.d (act.transmit_set_vr k w) h.lengths h.store) (sym (octet_is x.value n))) h.formed
-      (bc_sent x w h.lengths h.store p z h.c h.d h.ended (control.SetVr (x.value % 256)) refl (handed.SetVr (x.value % 256)) (set_vr (x.value % 256)))
+      (bc_sent x w h.lengths h.store p z h.c h.d h.ended (Some (control.SetVr (x.value % 256))) refl (Some (handed.SetVr (x.value % 256))) (set_vr (x.value % 256)))
 
-  pub transmit_bd : Shut x p z (act.transmit_bd_frame w) (perform table.TransmitBd m)
+  pub transmit_bd : Shut x p z (act.transmit_bd_frame w) (perform action.TransmitBd m)
   unfolding act.transmit_bd_frame act.hand_down with_variables with_told
   transmit_bd =
-      shuts h table.TransmitBd (act.transmit_bd_frame w) (transmit.transmit_bd _ _ _ _ _ w h.lengths h.store h.going.none) h.formed
-      (other_handed x w h.lengths h.store p z h.c h.d h.ended handed.Bd bd)
+      shuts h action.TransmitBd (act.transmit_bd_frame w) (transmit.transmit_bd _ _ _ _ _ w h.lengths h.store h.going.none) h.formed
+      (other_handed x w h.lengths h.store p z h.c h.d h.ended (Some handed.Bd) bd)
 
-  pub look_for_directive_lem : Shut x p z (act.look_for_directive w) (perform table.LookForDirective m)
+  pub look_for_directive_lem : Shut x p z (act.look_for_directive w) (perform action.LookForDirective m)
   look_for_directive_lem =
-      shuts h table.LookForDirective (act.look_for_directive w) (transmit.look_for_directive_lem _ _ _ _ _ w h.lengths h.store h.going.none)
+      shuts h action.LookForDirective (act.look_for_directive w) (transmit.look_for_directive_lem _ _ _ _ _ w h.lengths h.store h.going.none)
       (well.look_for_directive_lem w h.lengths h.store h.formed) (directive_looked x w h.lengths h.store p z h.c h.d h.ended w.queues.control)
 
 -- AD frames.
-ad_place : (down : Handed) (n j k i : ℕ) → down ≡ handed.Ad n j → down ≡ handed.Ad k i → i ≡ j
+ad_place : (down : Option Handed) (n j k i : ℕ) → down ≡ (Some (handed.Ad n j)) → down ≡ (Some (handed.Ad k i)) → i ≡ j
 ad_place down n j k i a b = cc
 
 oldest_marked : (sent marked : ℕ) → 0 < marked → marked ≤ sent → sent ≤ largest_k → offset sent marked < sent
@@ -125,7 +126,7 @@ module _ (x : Case) (w : Work) (lengths store : List ℕ) {p : Stored} {z : Idle
         no_more = e.no_more;
         runs = e.runs;
         idle = any_sent;
-        below = λ k i b. omega (arith, here, ad_place (handed.Ad (offset w.variables.vs q.marked) (offset q.sent q.marked)) _ _ k i refl b);
+        below = λ k i b. omega (arith, here, ad_place (Some (handed.Ad (offset w.variables.vs q.marked) (offset q.sent q.marked))) _ _ k i refl b);
       }
 
   new_sent : w.queues.waiting ≡ true → EndedOf x p (sending z) lengths store c d (act.transmit_ad_frame (act.respond AcceptAdUnit w))
@@ -140,7 +141,7 @@ module _ (x : Case) (w : Work) (lengths store : List ℕ) {p : Stored} {z : Idle
         no_more = omega (arith, more, subst (λ (y : Bool). NoMore x p w.told.confirmed.count q.sent y) t e.no_more);
         runs = e.runs;
         idle = any_sent;
-        below = λ k i b. omega (arith, more, ad_place (handed.Ad w.variables.vs q.sent) _ _ k i refl b);
+        below = λ k i b. omega (arith, more, ad_place (Some (handed.Ad w.variables.vs q.sent)) _ _ k i refl b);
       }
 
   same_sent : EndedOf x p (sending z) lengths store c d w
@@ -158,9 +159,9 @@ module _ (x : Case) (w : Work) (lengths store : List ℕ) {p : Stored} {z : Idle
     by true false y false j r = same_sent
 
 pub look_for_fdu_lem : (x : Case) (w : Work) (m : machine.Work) {p : Stored} {f : Bool} {z : Idle} {u : Bool} {l : ℕ} → Open x p f z u (suc l) w m
-    → Shut x p (sending z) (act.look_for_fdu w) (perform table.LookForFdu m)
+    → Shut x p (sending z) (act.look_for_fdu w) (perform action.LookForFdu m)
 look_for_fdu_lem x w m {p} {f} {z} {u} {l} h =
     let g = h.going in
-    shuts h table.LookForFdu (act.look_for_fdu w)
+    shuts h action.LookForFdu (act.look_for_fdu w)
     (transmit.look_for_fdu_lem _ _ _ _ _ w h.lengths h.store g.none h.formed (less_room 1 (suc l) w.told.responses (omega arith) g.room))
     (well.look_for_fdu_lem w h.lengths h.store h.formed h.ended.settled.in_window) (fdu_looked x w h.lengths h.store h.ended h.formed)

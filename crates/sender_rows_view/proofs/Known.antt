@@ -1,5 +1,6 @@
 -- What a mode says of the work on an event and of the machine's work on it. The facts are stated of the values of fields, so that an
 -- action that leaves those fields alone keeps them as they stand.
+use Rattle.std.specs.Prelude.{Option, None, Some}
 use Prim.Native.Nat.{ℕ, suc, ◌+◌, ◌-◌, ◌%◌, ◌≤◌, ◌<◌}
 use mathlib.Core.Path.{◌≡◌, refl, sym, subst}
 use mathlib.Core.Bool.{Bool, true, false}
@@ -12,11 +13,10 @@ use Rattle.store.specs.Places.{unit_put, without}
 use Rattle.store.specs.Slid.{slid}
 use Rattle.fop.specs.Limits.{largest_k, largest_transmission_limit, largest_timeout_type}
 use Rattle.fop.specs.Units.{Fdu, Own}
-use Rattle.fop.specs.Table.{FopEvent}
+use Rattle.fop.specs.declared.Event.{Event as FopEvent}
 use Rattle.fop.specs.Variables as machine
 use Rattle.fop.specs.Answers.{run_of}
 use Rattle.sender_values.specs.declared.Control.{Control}
-use Rattle.sender_values.specs.declared.Control.TheVariants as control
 use Rattle.sender_values.specs.declared.Handed.{Handed}
 use Rattle.sender_values.specs.declared.Handed.TheVariants as handed
 use Rattle.sender_values.specs.declared.Responses.{Responses}
@@ -87,7 +87,7 @@ pub record Counted (count : ℕ) : Type 0 where
   pub most : count ≤ largest_transmission_limit
 
 -- the queues, the timer and Suspend_State
-pub record IdleIs (z : Idle) (timer sent : ℕ) (waiting : Bool) (bc : Control) (suspend : ℕ) : Type 0 where
+pub record IdleIs (z : Idle) (timer sent : ℕ) (waiting : Bool) (bc : Option Control) (suspend : ℕ) : Type 0 where
   pub unsent : Where z.unsent (sent ≡ 0)
   pub unasked : Where z.unasked (waiting ≡ false)
   pub stopped : Where z.stopped (timer ≡ 0)
@@ -113,19 +113,19 @@ NoMore x p count sent waiting = count + units_held sent waiting ≤ most x p
 
 -- what is known all along
 pub record Ended (x : Case) (p : Stored) (z : Idle) (store : List ℕ) (c d : List Fdu) (g : Settings) (timer count suspend sent : ℕ)
-    (waiting : Bool) (bc : Control) (lengths : List ℕ) (down : Handed) (confirmed denied : Run) : Type 0 where
+    (waiting : Bool) (bc : Option Control) (lengths : List ℕ) (down : Option Handed) (confirmed denied : Run) : Type 0 where
   pub settled : Settled x.own x.sender.settings.k g
   pub counted : Counted count
   pub filled : (i : ℕ) → i < units_held sent waiting → 1 ≤ get_or lengths i 0
   pub no_more : NoMore x p confirmed.count sent waiting
   pub runs : Runs x p store lengths c d confirmed denied
   pub idle : IdleIs z timer sent waiting bc suspend
-  pub below : (k i : ℕ) → down ≡ handed.Ad k i → i < sent
+  pub below : (k i : ℕ) → down ≡ (Some (handed.Ad k i)) → i < sent
 
 -- what is known besides, while no frame is handed down: f is whether Transmission_Count is below 255, u whether no unit is denied yet,
 -- l the room left for responses
-pub record Going (f u : Bool) (l : ℕ) (d : List Fdu) (count : ℕ) (down : Handed) (responses : Responses) : Type 0 where
-  pub none : down ≡ handed.None
+pub record Going (f u : Bool) (l : ℕ) (d : List Fdu) (count : ℕ) (down : Option Handed) (responses : Responses) : Type 0 where
+  pub none : down ≡ None
   pub room : Room l responses
   pub undenied : Where u (d ≡ [])
   pub few : Where f (count < 255)
@@ -206,29 +206,29 @@ where_on true f = f refl
 where_on false f = tt
 
 -- the timer started, and stopped; the type-BC frame put on the Sent_Queue, and taken off it; Suspend_State set
-module _ {z : Idle} {timer sent : ℕ} {waiting : Bool} {bc : Control} {suspend : ℕ} (q : IdleIs z timer sent waiting bc suspend) where
+module _ {z : Idle} {timer sent : ℕ} {waiting : Bool} {bc : Option Control} {suspend : ℕ} (q : IdleIs z timer sent waiting bc suspend) where
   pub starts : {t : ℕ} → IdleIs (started z) t sent waiting bc suspend
   starts = record { unsent = q.unsent; unasked = q.unasked; stopped = tt; frame = q.frame; is_suspend = q.is_suspend }
 
   pub stops : IdleIs (ceased z) 0 sent waiting bc suspend
   stops = record { unsent = q.unsent; unasked = q.unasked; stopped = refl; frame = q.frame; is_suspend = q.is_suspend }
 
-  pub frames : {k : Control} → is_frame k ≡ true → IdleIs (framed z) timer sent waiting k suspend
+  pub frames : {k : Option Control} → is_frame k ≡ true → IdleIs (framed z) timer sent waiting k suspend
   frames t = record { unsent = q.unsent; unasked = q.unasked; stopped = q.stopped; frame = t; is_suspend = q.is_suspend }
 
-  pub releases : IdleIs (released z) timer sent waiting control.None suspend
+  pub releases : IdleIs (released z) timer sent waiting None suspend
   releases = record { unsent = q.unsent; unasked = q.unasked; stopped = q.stopped; frame = refl; is_suspend = q.is_suspend }
 
   pub suspends : (n : ℕ) → IdleIs (suspended_at n z) timer sent waiting bc n
   suspends n = record { unsent = q.unsent; unasked = q.unasked; stopped = q.stopped; frame = q.frame; is_suspend = refl }
 
 -- other settings; another Transmission_Count, timer or type-BC frame
-module _ {x : Case} {p : Stored} {z : Idle} {store : List ℕ} {c d : List Fdu} {g : Settings} {timer count suspend sent : ℕ} {waiting : Bool} {bc : Control} {lengths : List ℕ}
-    {down : Handed} {confirmed denied : Run} (e : Ended x p z store c d g timer count suspend sent waiting bc lengths down confirmed denied) where
+module _ {x : Case} {p : Stored} {z : Idle} {store : List ℕ} {c d : List Fdu} {g : Settings} {timer count suspend sent : ℕ} {waiting : Bool} {bc : Option Control} {lengths : List ℕ}
+    {down : Option Handed} {confirmed denied : Run} (e : Ended x p z store c d g timer count suspend sent waiting bc lengths down confirmed denied) where
   pub resettled : {g' : Settings} → Settled x.own x.sender.settings.k g' → Ended x p z store c d g' timer count suspend sent waiting bc lengths down confirmed denied
   resettled s = record { settled = s; counted = e.counted; filled = e.filled; no_more = e.no_more; runs = e.runs; idle = e.idle; below = e.below }
 
-  pub idle_again : {z' : Idle} {t n s : ℕ} {k : Control} → Counted n → IdleIs z' t sent waiting k s
+  pub idle_again : {z' : Idle} {t n s : ℕ} {k : Option Control} → Counted n → IdleIs z' t sent waiting k s
       → Ended x p z' store c d g t n s sent waiting k lengths down confirmed denied
   idle_again n q = record { settled = e.settled; counted = n; filled = e.filled; no_more = e.no_more; runs = e.runs; idle = q; below = e.below }
 
@@ -257,7 +257,7 @@ pub counts_more : {n : ℕ} → n < 255 → Counted n → Counted (advanced n 1)
 counts_more h k = record { least = omega arith; most = omega arith }
 
 -- the work as it begins, with nothing told
-pub none_below : (down : Handed) (sent : ℕ) → down ≡ handed.None → (k i : ℕ) → down ≡ handed.Ad k i → i < sent
+pub none_below : (down : Option Handed) (sent : ℕ) → down ≡ None → (k i : ℕ) → down ≡ (Some (handed.Ad k i)) → i < sent
 none_below down sent h k i q = let z : ◌≡◌ {A = ℕ} 0 1 = cc in omega arith
 
 pub no_more_first : (x : Case) → NoMore x kept 0 x.sender.queues.sent x.sender.queues.waiting
@@ -281,7 +281,7 @@ opens x f z m h =
         no_more = no_more_first x;
         runs = record { stored = (refl, refl); measured = (refl, refl); of_confirmed = refl; of_denied = refl };
         idle = h.idle;
-        below = none_below handed.None x.sender.queues.sent refl;
+        below = none_below None x.sender.queues.sent refl;
       };
       going = record { none = refl; room = room_begun x.sender; undenied = refl; few = h.few };
     }

@@ -4,7 +4,7 @@ use mathlib.Core.Path.{◌≡◌, refl, ap, ◌∙◌}
 use mathlib.Core.Bool.{Bool, true, false}
 use mathlib.Core.List.{List}
 use Rattle.fop.specs.Units.{Fdu}
-use Rattle.fop.specs.Table.{Action}
+use Rattle.fop.specs.declared.Action.{Action}
 use Rattle.fop.specs.Variables as machine
 use Rattle.fop.specs.Machine.{perform}
 use Rattle.sender_values.specs.declared.Work.{Work}

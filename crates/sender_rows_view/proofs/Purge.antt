@@ -1,4 +1,5 @@
 -- Alert and Initialise: both queues are purged, which denies the units sent and leaves both empty, with no type-BC frame.
+use Rattle.std.specs.Prelude.{Option, None, Some}
 use Prim.Native.Nat.{ℕ, suc, ◌≤◌}
 use mathlib.Core.Path.{◌≡◌, refl, ap, ◌∙◌}
 use mathlib.Core.Bool.{Bool, true, false}
@@ -8,7 +9,7 @@ use Rattle.base.specs.Choice.{pick}
 use Rattle.base.specs.Modulo.{offset}
 use Rattle.fop.specs.Units.{Fdu}
 use Rattle.fop.specs.declared.Alert.{Alert}
-use Rattle.fop.specs.Table as table
+use Rattle.fop.specs.declared.Action.TheVariants as action
 use Rattle.fop.specs.Variables as machine
 use Rattle.fop.specs.Answers.{run_of}
 use Rattle.fop.specs.Machine.{perform, fdus}
@@ -41,8 +42,8 @@ unfolding act.alert act.notify act.purge_wait_queue act.purge_sent_queue act.den
 units_run w lengths store =
     let q = w.queues in
     denied_run
-    (with_queues (record { sent = q.sent; marked = q.marked; waiting = false; control = control.None; control_marked = false }) w) lengths store
-    alert.None
+    (with_queues (record { sent = q.sent; marked = q.marked; waiting = false; control = None; control_marked = false }) w) lengths store
+    alert.Llif
 
 -- with the Sent_Queue empty no more units are held
 held_fewer : (sent : ℕ) (b : Bool) → units_held 0 b ≤ units_held sent b
@@ -58,11 +59,11 @@ module _ {u : Bool} {l : ℕ} {d : List Fdu} where
   unanswered : (w : Work) → GoingOf false u (suc l) d w → GoingOf false u l d w
   unanswered w g = record { none = g.none; room = less_room l (suc l) w.told.responses (omega arith) g.room; undenied = g.undenied; few = tt }
 
-  denied_going : (k : Control) (w : Work) → GoingOf false u (suc l) d w → GoingOf false u l d (act.deny_control k w)
+  denied_going : (k : Option Control) (w : Work) → GoingOf false u (suc l) d w → GoingOf false u l d (act.deny_control k w)
   unfolding act.deny_control
-  denied_going control.None w g = unanswered w g
-  denied_going control.Unlock w g = answered w DenyDirective g
-  denied_going (control.SetVr n) w g = answered w DenyDirective g
+  denied_going None w g = unanswered w g
+  denied_going (Some control.Unlock) w g = answered w DenyDirective g
+  denied_going (Some (control.SetVr n)) w g = answered w DenyDirective g
 
   wait_going : (w : Work) → GoingOf false u (suc l) d w → GoingOf false u l d (act.purge_wait_queue w)
   unfolding act.purge_wait_queue act.not_waiting with_queues
@@ -72,11 +73,11 @@ module _ {u : Bool} {l : ℕ} {d : List Fdu} where
     by false = unanswered w g
 
 module _ {x : Case} {p : Stored} {z : Idle} {lengths store : List ℕ} {c d : List Fdu} where
-  denied_ended : (k : Control) (w : Work) → EndedOf x p z lengths store c d w → EndedOf x p z lengths store c d (act.deny_control k w)
+  denied_ended : (k : Option Control) (w : Work) → EndedOf x p z lengths store c d w → EndedOf x p z lengths store c d (act.deny_control k w)
   unfolding act.deny_control act.respond with_told
-  denied_ended control.None w e = e
-  denied_ended control.Unlock w e = e
-  denied_ended (control.SetVr n) w e = e
+  denied_ended None w e = e
+  denied_ended (Some control.Unlock) w e = e
+  denied_ended (Some (control.SetVr n)) w e = e
 
   wait_ended : (w : Work) → EndedOf x p z lengths store c d w → EndedOf x p (wait_purged z) lengths store c d (act.purge_wait_queue w)
   unfolding act.purge_wait_queue act.not_waiting act.respond with_queues with_told
@@ -137,18 +138,18 @@ module _ (x : Case) (w : Work) (m : machine.Work) {p : Stored} {f : Bool} {z : I
   room : Room 2 w.told.responses
   room = less_room 2 (suc (suc l)) w.told.responses (omega arith) h.going.room
 
-  pub alerts : (r : Alert) → Open x p false (both_purged (ceased z)) false l (act.alert r w) (perform (table.Alert r) m)
+  pub alerts : (r : Alert) → Open x p false (both_purged (ceased z)) false l (act.alert r w) (perform (action.Alert r) m)
   unfolding act.alert act.notify act.cancel_timer with_variables with_told
   alerts r =
       let e : EndedOf x p (ceased z) h.lengths h.store h.c h.d (act.cancel_timer w) = idle_again h.ended h.ended.counted (stops h.ended.idle) in
-      goes_on h (table.Alert r) (act.alert r w) (h.d ++ units w h.lengths h.store)
+      goes_on h (action.Alert r) (act.alert r w) (h.d ++ units w h.lengths h.store)
       (release.alert _ _ _ _ _ w h.lengths h.store room r) (well.alert w h.lengths h.store r h.formed)
       (purged_ended (act.cancel_timer w) e h.going) (purged_going (act.cancel_timer w) e h.going)
 
-  pub initialise : Open x p false (both_purged (suspended_at 0 z)) false l (act.initialise w) (perform table.Initialise m)
+  pub initialise : Open x p false (both_purged (suspended_at 0 z)) false l (act.initialise w) (perform action.Initialise m)
   unfolding act.initialise act.count_one act.set_suspend_state with_variables
   initialise =
       let g = purged_going w h.ended h.going in
-      goes_on h table.Initialise (act.initialise w) (h.d ++ units w h.lengths h.store) (release.initialise _ _ _ _ _ w h.lengths h.store room) (well.initialise w h.lengths h.store h.formed)
+      goes_on h action.Initialise (act.initialise w) (h.d ++ units w h.lengths h.store) (release.initialise _ _ _ _ _ w h.lengths h.store room) (well.initialise w h.lengths h.store h.formed)
       (serving (act.purge_wait_queue (act.purge_sent_queue w)) (purged_ended w h.ended h.going))
       (record { none = g.none; room = g.room; undenied = tt; few = tt })

@@ -1,4 +1,5 @@
 -- What the row of an event, done to the sender's struct and store, has to show: the table machine's work on what they read as.
+use Rattle.std.specs.Prelude.{Some}
 use Prim.Native.Nat.{ℕ, ◌-◌, ◌≤◌, ◌<◌}
 use mathlib.Core.Path.{◌≡◌}
 use mathlib.Core.Bool.{Bool, true, false}
@@ -13,8 +14,9 @@ use Rattle.store.specs.Slid.{slid}
 use Rattle.fop.specs.Effective.{in_service}
 use Rattle.fop.specs.Limits.{largest_transmission_limit, largest_timeout_type}
 use Rattle.fop.specs.Units.{Own}
-use Rattle.fop.specs.Table.{FopEvent, E1, E2, E3, E4, E5, E6, E7, E8, E9, E10, E11, E12, E13, E14, E15, E16, E17, E18, E19, E20, E21, E22, E23, E24, E25, E26, E27, E28, E29, E30, E31, E32, E33, E34}
-use Rattle.fop.specs.Table.{E35, E36, E37, E38, E39, E40, E41, E42, E43, E44, E45, E46, E101, E102, E103, E104}
+use Rattle.fop.specs.declared.Event.{Event as FopEvent}
+use Rattle.fop.specs.declared.Event.TheVariants.{E1, E2, E3, E4, E5, E6, E7, E8, E9, E10, E11, E12, E13, E14, E15, E16, E17, E18, E19, E20, E21, E22, E23, E24, E25, E26, E27, E28, E29, E30, E31, E32, E33, E34}
+use Rattle.fop.specs.declared.Event.TheVariants.{E35, E36, E37, E38, E39, E40, E41, E42, E43, E44, E45, E46, E101, E102, E103, E104}
 use Rattle.fop.specs.Variables as machine
 use Rattle.fop.specs.Answers.{run_of}
 use Rattle.sender_values.specs.declared.Handed.TheVariants as handed
@@ -160,4 +162,4 @@ pub record Shows (own : Own) (e : FopEvent) (o : List ℕ) (n : ℕ) (w : Work) 
   pub confirmed : run_of m.confirmed ≡ w.told.confirmed
   pub denied : run_of m.denied ≡ w.told.denied
   pub good : Good own (sender_of w lengths) store
-  pub sent : (k i : ℕ) → w.told.handed ≡ handed.Ad k i → i < w.queues.sent
+  pub sent : (k i : ℕ) → w.told.handed ≡ (Some (handed.Ad k i)) → i < w.queues.sent

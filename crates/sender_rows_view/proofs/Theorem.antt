@@ -6,7 +6,8 @@ use mathlib.Core.Path.{◌≡◌, refl}
 use mathlib.Core.List.{List}
 use Rattle.base.specs.Choice.{pick}
 use Rattle.fop.specs.Units.{Own}
-use Rattle.fop.specs.Table.{FopEvent, table78, cell78}
+use Rattle.fop.specs.declared.Event.{Event as FopEvent}
+use Rattle.fop.specs.Table.{table78, cell78}
 use Rattle.fop.specs.Effective as machine
 use Rattle.fop.specs.Machine.{fop_do}
 use Rattle.sender_values.specs.declared.SenderState.{SenderState}

@@ -7,8 +7,8 @@ use mathlib.Core.List.{List}
 use native.Mathlib.Omega.{arith}
 use Rattle.fop.specs.Limits.{largest_transmission_limit, largest_timeout_type}
 use Rattle.fop.specs.Units.{Fdu}
-use Rattle.fop.specs.Table as table
-use Rattle.fop.specs.Table.{Action}
+use Rattle.fop.specs.declared.Action.TheVariants as action
+use Rattle.fop.specs.declared.Action.{Action}
 use Rattle.fop.specs.Variables as machine
 use Rattle.fop.specs.Machine.{perform}
 use Rattle.fop.specs.declared.Response.{Response}
@@ -30,61 +30,61 @@ module _ (x : Case) (w : Work) (m : machine.Work) {p : Stored} {f : Bool} {z : I
   e = h.ended
 
   -- The timer, the out flags and the type-BC frame.
-  pub ignore : Open x p f z u l w (perform table.Ignore m)
-  ignore = goes_on h table.Ignore w h.d (values.ignore _ _ _ _ _ w h.lengths h.store) h.formed h.ended h.going
+  pub ignore : Open x p f z u l w (perform action.Ignore m)
+  ignore = goes_on h action.Ignore w h.d (values.ignore _ _ _ _ _ w h.lengths h.store) h.formed h.ended h.going
 
-  pub cancel_timer_lem : Open x p f (ceased z) u l (act.cancel_timer w) (perform table.CancelTimer m)
+  pub cancel_timer_lem : Open x p f (ceased z) u l (act.cancel_timer w) (perform action.CancelTimer m)
   unfolding act.cancel_timer with_variables
   cancel_timer_lem =
-      goes_on h table.CancelTimer (act.cancel_timer w) h.d (values.cancel_timer_lem _ _ _ _ _ w h.lengths h.store) h.formed (idle_again e e.counted (stops e.idle)) h.going
+      goes_on h action.CancelTimer (act.cancel_timer w) h.d (values.cancel_timer_lem _ _ _ _ _ w h.lengths h.store) h.formed (idle_again e e.counted (stops e.idle)) h.going
 
-  pub start_timer_lem : Open x p f (started z) u l (act.start_timer w) (perform table.StartTimer m)
+  pub start_timer_lem : Open x p f (started z) u l (act.start_timer w) (perform action.StartTimer m)
   unfolding act.start_timer with_variables
   start_timer_lem =
-      goes_on h table.StartTimer (act.start_timer w) h.d (values.start_timer_lem _ _ _ _ _ w h.lengths h.store) h.formed (idle_again e e.counted (starts e.idle)) h.going
+      goes_on h action.StartTimer (act.start_timer w) h.d (values.start_timer_lem _ _ _ _ _ w h.lengths h.store) h.formed (idle_again e e.counted (starts e.idle)) h.going
 
-  pub ad_out_ready_lem : Open x p f z u l (act.ad_out_ready w) (perform table.AdOutReady m)
+  pub ad_out_ready_lem : Open x p f z u l (act.ad_out_ready w) (perform action.AdOutReady m)
   unfolding act.ad_out_ready with_variables
-  ad_out_ready_lem = goes_on h table.AdOutReady (act.ad_out_ready w) h.d (values.ad_out_ready_lem _ _ _ _ _ w h.lengths h.store) h.formed h.ended h.going
+  ad_out_ready_lem = goes_on h action.AdOutReady (act.ad_out_ready w) h.d (values.ad_out_ready_lem _ _ _ _ _ w h.lengths h.store) h.formed h.ended h.going
 
-  pub bc_out_ready_lem : Open x p f z u l (act.bc_out_ready w) (perform table.BcOutReady m)
+  pub bc_out_ready_lem : Open x p f z u l (act.bc_out_ready w) (perform action.BcOutReady m)
   unfolding act.bc_out_ready with_variables
-  bc_out_ready_lem = goes_on h table.BcOutReady (act.bc_out_ready w) h.d (values.bc_out_ready_lem _ _ _ _ _ w h.lengths h.store) h.formed h.ended h.going
+  bc_out_ready_lem = goes_on h action.BcOutReady (act.bc_out_ready w) h.d (values.bc_out_ready_lem _ _ _ _ _ w h.lengths h.store) h.formed h.ended h.going
 
-  pub bd_out_ready_lem : Open x p f z u l (act.bd_out_ready w) (perform table.BdOutReady m)
+  pub bd_out_ready_lem : Open x p f z u l (act.bd_out_ready w) (perform action.BdOutReady m)
   unfolding act.bd_out_ready with_variables
-  bd_out_ready_lem = goes_on h table.BdOutReady (act.bd_out_ready w) h.d (values.bd_out_ready_lem _ _ _ _ _ w h.lengths h.store) h.formed h.ended h.going
+  bd_out_ready_lem = goes_on h action.BdOutReady (act.bd_out_ready w) h.d (values.bd_out_ready_lem _ _ _ _ _ w h.lengths h.store) h.formed h.ended h.going
 
-  pub release_bc_frame_lem : Open x p f (released z) u l (act.release_bc_frame w) (perform table.ReleaseBcFrame m)
+  pub release_bc_frame_lem : Open x p f (released z) u l (act.release_bc_frame w) (perform action.ReleaseBcFrame m)
   unfolding act.release_bc_frame act.hold_control with_queues
   release_bc_frame_lem =
-      goes_on h table.ReleaseBcFrame (act.release_bc_frame w) h.d (values.release_bc_frame_lem _ _ _ _ _ w h.lengths h.store) h.formed
+      goes_on h action.ReleaseBcFrame (act.release_bc_frame w) h.d (values.release_bc_frame_lem _ _ _ _ _ w h.lengths h.store) h.formed
       (idle_again e e.counted (releases e.idle)) h.going
 
   -- Suspend_State set, the Suspend notification, Resume.
-  pub set_suspend_state_lem : (n : ℕ) → Open x p f (suspended_at n z) u l (act.set_suspend_state n w) (perform (table.SetSuspendState n) m)
+  pub set_suspend_state_lem : (n : ℕ) → Open x p f (suspended_at n z) u l (act.set_suspend_state n w) (perform (action.SetSuspendState n) m)
   unfolding act.set_suspend_state with_variables
   set_suspend_state_lem n =
-      goes_on h (table.SetSuspendState n) (act.set_suspend_state n w) h.d (values.set_suspend_state_lem _ _ _ _ _ w h.lengths h.store n) h.formed
+      goes_on h (action.SetSuspendState n) (act.set_suspend_state n w) h.d (values.set_suspend_state_lem _ _ _ _ _ w h.lengths h.store n) h.formed
       (idle_again e e.counted (suspends e.idle n)) h.going
 
-  pub suspend : Open x p f z u l (act.suspend w) (perform table.Suspend m)
+  pub suspend : Open x p f z u l (act.suspend w) (perform action.Suspend m)
   unfolding act.suspend with_told
-  suspend = goes_on h table.Suspend (act.suspend w) h.d (values.suspend _ _ _ _ _ w h.lengths h.store) h.formed h.ended h.going
+  suspend = goes_on h action.Suspend (act.suspend w) h.d (values.suspend _ _ _ _ _ w h.lengths h.store) h.formed h.ended h.going
 
-  pub resume : Open x p f (resumed z) u l (act.resumed w) (perform table.Resume m)
+  pub resume : Open x p f (resumed z) u l (act.resumed w) (perform action.Resume m)
   unfolding act.resumed act.set_suspend_state act.start_timer with_variables
   resume =
-      goes_on h table.Resume (act.resumed w) h.d (values.resume _ _ _ _ _ w h.lengths h.store) h.formed
+      goes_on h action.Resume (act.resumed w) h.d (values.resume _ _ _ _ _ w h.lengths h.store) h.formed
       (idle_again e e.counted (suspends (starts e.idle) 0)) h.going
 
   -- The settings, within their limits.
-  pub set_k_lem : x.value ≡ x.sender.settings.k → Open x p f z u l (act.set_k (x.value % 256) w) (perform table.SetK m)
+  pub set_k_lem : x.value ≡ x.sender.settings.k → Open x p f z u l (act.set_k (x.value % 256) w) (perform action.SetK m)
   unfolding act.set_k with_settings
   set_k_lem n =
       let s = e.settled in
       let octet : x.value % 256 ≡ x.value = octet_is x.value (omega (arith, n, s.same_window, s.in_window)) in
-      goes_on h table.SetK (act.set_k (x.value % 256) w) h.d
+      goes_on h action.SetK (act.set_k (x.value % 256) w) h.d
       (values.set_k_lem _ _ _ _ _ w h.lengths h.store ∙ ap (λ (k : ℕ). seen x h.c h.d (act.set_k k w) h.lengths h.store) (sym octet))
       (well.set_k_lem w h.lengths h.store h.formed (x.value % 256) (s.same_window ∙ sym n ∙ sym octet))
       (resettled e (record {
@@ -99,11 +99,11 @@ module _ (x : Case) (w : Work) (m : machine.Work) {p : Stored} {f : Bool} {z : I
         own_channel_lem = s.own_channel_lem;
       })) h.going
 
-  pub set_t1_initial_lem : 1 ≤ x.value → Open x p f z u l (act.set_t1_initial x.value w) (perform table.SetT1Initial m)
+  pub set_t1_initial_lem : 1 ≤ x.value → Open x p f z u l (act.set_t1_initial x.value w) (perform action.SetT1Initial m)
   unfolding act.set_t1_initial with_settings
   set_t1_initial_lem n =
       let s = e.settled in
-      goes_on h table.SetT1Initial (act.set_t1_initial x.value w) h.d (values.set_t1_initial_lem _ _ _ _ _ w h.lengths h.store) h.formed
+      goes_on h action.SetT1Initial (act.set_t1_initial x.value w) h.d (values.set_t1_initial_lem _ _ _ _ _ w h.lengths h.store) h.formed
       (resettled e (record {
         same_window = s.same_window;
         window_least = s.window_least;
@@ -117,11 +117,11 @@ module _ (x : Case) (w : Work) (m : machine.Work) {p : Stored} {f : Bool} {z : I
       })) h.going
 
   pub set_transmission_limit_lem : (1 ≤ x.value) × (x.value ≤ largest_transmission_limit)
-      → Open x p f z u l (act.set_transmission_limit (x.value % 256) w) (perform table.SetTransmissionLimit m)
+      → Open x p f z u l (act.set_transmission_limit (x.value % 256) w) (perform action.SetTransmissionLimit m)
   unfolding act.set_transmission_limit with_settings
   set_transmission_limit_lem n =
       let s = e.settled in
-      goes_on h table.SetTransmissionLimit (act.set_transmission_limit (x.value % 256) w) h.d
+      goes_on h action.SetTransmissionLimit (act.set_transmission_limit (x.value % 256) w) h.d
       (values.set_transmission_limit_lem _ _ _ _ _ w h.lengths h.store
       ∙ ap (λ (k : ℕ). seen x h.c h.d (act.set_transmission_limit k w) h.lengths h.store) (sym (octet_is x.value (omega (arith, n.1)))))
       h.formed
@@ -137,11 +137,11 @@ module _ (x : Case) (w : Work) (m : machine.Work) {p : Stored} {f : Bool} {z : I
         own_channel_lem = s.own_channel_lem;
       })) h.going
 
-  pub set_timeout_type_lem : x.value ≤ largest_timeout_type → Open x p f z u l (act.set_timeout_type (x.value % 256) w) (perform table.SetTimeoutType m)
+  pub set_timeout_type_lem : x.value ≤ largest_timeout_type → Open x p f z u l (act.set_timeout_type (x.value % 256) w) (perform action.SetTimeoutType m)
   unfolding act.set_timeout_type with_settings
   set_timeout_type_lem n =
       let s = e.settled in
-      goes_on h table.SetTimeoutType (act.set_timeout_type (x.value % 256) w) h.d
+      goes_on h action.SetTimeoutType (act.set_timeout_type (x.value % 256) w) h.d
       (values.set_timeout_type_lem _ _ _ _ _ w h.lengths h.store
       ∙ ap (λ (k : ℕ). seen x h.c h.d (act.set_timeout_type k w) h.lengths h.store) (sym (octet_is x.value (omega (arith, n)))))
       h.formed
@@ -173,23 +173,23 @@ module _ (x : Case) (w : Work) (m : machine.Work) {p : Stored} {z : Idle} {u : B
   unfolding act.again act.start_timer act.abort with_variables with_told
   counted_again = idle_again h.ended (counts_more h.going.few h.ended.counted) (starts h.ended.idle)
 
-  pub initiate_ad_retransmission_lem : Open x p false (started z) u l (act.initiate_ad_retransmission w) (perform table.InitiateAdRetransmission m)
+  pub initiate_ad_retransmission_lem : Open x p false (started z) u l (act.initiate_ad_retransmission w) (perform action.InitiateAdRetransmission m)
   unfolding act.initiate_ad_retransmission act.again act.start_timer act.abort with_variables with_queues with_told
   initiate_ad_retransmission_lem =
       let g = h.going in
-      goes_on h table.InitiateAdRetransmission (act.initiate_ad_retransmission w) h.d (transmit.initiate_ad_retransmission_lem _ _ _ _ _ w h.lengths h.store g.few)
+      goes_on h action.InitiateAdRetransmission (act.initiate_ad_retransmission w) h.d (transmit.initiate_ad_retransmission_lem _ _ _ _ _ w h.lengths h.store g.few)
       (well.initiate_ad_retransmission_lem w h.lengths h.store h.formed) counted_again (record { none = g.none; room = g.room; undenied = g.undenied; few = tt })
 
-  pub initiate_bc_retransmission_lem : Open x p false (started z) u l (act.initiate_bc_retransmission w) (perform table.InitiateBcRetransmission m)
+  pub initiate_bc_retransmission_lem : Open x p false (started z) u l (act.initiate_bc_retransmission w) (perform action.InitiateBcRetransmission m)
   unfolding act.initiate_bc_retransmission act.again act.start_timer act.abort act.hold_control with_variables with_queues with_told
   initiate_bc_retransmission_lem =
       let g = h.going in
-      goes_on h table.InitiateBcRetransmission (act.initiate_bc_retransmission w) h.d (transmit.initiate_bc_retransmission_lem _ _ _ _ _ w h.lengths h.store g.few)
+      goes_on h action.InitiateBcRetransmission (act.initiate_bc_retransmission w) h.d (transmit.initiate_bc_retransmission_lem _ _ _ _ _ w h.lengths h.store g.few)
       h.formed counted_again (record { none = g.none; room = g.room; undenied = g.undenied; few = tt })
 
 -- V(S) and then NN(R), with the Sent_Queue empty.
 pub set_vs_lem : (x : Case) (w : Work) (m : machine.Work) {p : Stored} {f : Bool} {z : Idle} {u : Bool} {l : ℕ} → x.value < 256 → z.unsent ≡ true → Open x p f z u l w m
-    → Half x p z u l (act.set_vs (x.value % 256) w) (perform table.SetVs m)
+    → Half x p z u l (act.set_vs (x.value % 256) w) (perform action.SetVs m)
 unfolding act.set_vs act.set_nnr with_variables
 set_vs_lem x w m n t h =
     let g = h.going in
@@ -200,7 +200,7 @@ set_vs_lem x w m n t h =
       c = h.c;
       d = h.d;
       is =
-          ap (perform table.SetVs) h.is ∙ values.set_vs_lem _ _ _ _ _ w h.lengths h.store empty
+          ap (perform action.SetVs) h.is ∙ values.set_vs_lem _ _ _ _ _ w h.lengths h.store empty
           ∙ ap (λ (k : ℕ). seen x h.c h.d (act.set_vs k w) h.lengths h.store) (sym (octet_is x.value n));
       octet = n;
       numbered = refl;
@@ -210,7 +210,7 @@ set_vs_lem x w m n t h =
     }
 
 pub set_nnr_lem : (x : Case) (w : Work) (m : machine.Work) {p : Stored} {z : Idle} {u : Bool} {l : ℕ} → Half x p z u l w m
-    → Open x p false z u l (act.set_nnr (x.value % 256) w) (perform table.SetNnr m)
+    → Open x p false z u l (act.set_nnr (x.value % 256) w) (perform action.SetNnr m)
 unfolding act.set_nnr with_variables
 set_nnr_lem x w m h = record {
   lengths = h.lengths;
@@ -218,7 +218,7 @@ set_nnr_lem x w m h = record {
   c = h.c;
   d = h.d;
   is =
-      ap (perform table.SetNnr) h.is ∙ values.set_nnr_lem _ _ _ _ _ w h.lengths h.store
+      ap (perform action.SetNnr) h.is ∙ values.set_nnr_lem _ _ _ _ _ w h.lengths h.store
       ∙ ap (λ (k : ℕ). seen x h.c h.d (act.set_nnr k w) h.lengths h.store) (sym (octet_is x.value h.octet));
   formed =
       subst (λ (k : ℕ). Formed w.settings.k k (x.value % 256) w.queues.sent w.queues.marked h.lengths h.store) (sym h.numbered) h.formed;

@@ -1,3 +1,2 @@
-pub mod Initial
 pub mod Kept
 pub mod Suspended

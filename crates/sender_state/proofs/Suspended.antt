@@ -1,6 +1,7 @@
 -- Suspended states that were kept (document 02, order 9), by the test's part that decides. No state, so refused with 12: Suspend_State above its
 -- largest, or not 0 outside S6; in S6, a unit sent or waiting at Suspend_State 4, or the timer running. Computed: a suspension from S2 with units, one
 -- marked and one waiting, passes; so does what a lower-layer reject leaves of it, and a suspension from S4.
+use Rattle.std.specs.Prelude.{None}
 use Prim.Native.Nat.{ℕ, ◌-◌, ◌<◌}
 use mathlib.Core.Path.{◌≡◌, refl, sym, ap, subst, ◌∙◌}
 use mathlib.Core.Logic.{◌≢◌}
@@ -17,7 +18,6 @@ use Rattle.fop.specs.Effective.{in_service, suspended_in}
 use Rattle.fop.specs.declared.State.{State}
 use Rattle.fop.specs.declared.State.TheVariants as state
 use Rattle.store.specs.Places.{places}
-use Rattle.sender_values.specs.declared.Control.TheVariants as control
 use Rattle.sender_values.specs.declared.Queues.{Queues}
 use Rattle.sender_values.specs.declared.SenderState.{SenderState}
 use Rattle.sender_values.specs.declared.Variables.{Variables}
@@ -89,7 +89,7 @@ suspended n sent marked waiting = record {
     bd_out = true;
     suspend_state = n;
   };
-  queues = record { sent = sent; marked = marked; waiting = waiting; control = control.None; control_marked = false };
+  queues = record { sent = sent; marked = marked; waiting = waiting; control = None; control_marked = false };
   lengths = 10 ∷ 20 ∷ 30 ∷ 40 ∷ replicate (places - 4) 0;
 }
 

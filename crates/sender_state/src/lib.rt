@@ -1,10 +1,9 @@
 // Document 01, "FOP-1": the well-formed states of the sender, tested. A state that was kept over a reset is told from one that no sender has.
-#![tactic(auto)]
+#![tactic(auto, using(base::proofs::Tests::tests), unfolding(crate::specs::State::well_formed))]
 
-ghost use Rattle.std.specs.Prelude.{◌≡◌, ◌≤◌, leb, length};
-ghost use Rattle.base.specs.Choice.{both};
+ghost use Rattle.std.specs.Prelude.{◌≡◌, leb};
+ghost use Rattle.std.specs.List.{list_all};
 ghost use Rattle.base.specs.Limits.{largest_unit};
-ghost use Rattle.store.specs.Places.{places};
 ghost use Rattle.sender_table.specs.Rows.{is_frame};
 ghost use Rattle.sender_values.specs.Actions.{units_held};
 ghost use Rattle.sender_state.specs.State.{settings_hold, numbers_hold, is_empty, initial_holds, state_holds, lengths_hold, well_formed};
@@ -21,25 +20,12 @@ use store::PLACES;
 pub fn settings_hold(settings: Settings) -> bool
     ensures { result ≡ settings_hold settings }
 {
-    if settings.k < 1 {
-        return false;
-    }
-    if LARGEST_K < settings.k {
-        return false;
-    }
-    if settings.t1_initial < 1 {
-        return false;
-    }
-    if settings.transmission_limit < 1 {
-        return false;
-    }
-    if LARGEST_TIMEOUT_TYPE < settings.timeout_type {
-        return false;
-    }
-    if LARGEST_SPACECRAFT < settings.spacecraft {
-        return false;
-    }
-    settings.channel <= LARGEST_CHANNEL
+    (1..=LARGEST_K).contains(&settings.k)
+        && settings.t1_initial >= 1
+        && settings.transmission_limit >= 1
+        && settings.timeout_type <= LARGEST_TIMEOUT_TYPE
+        && settings.spacecraft <= LARGEST_SPACECRAFT
+        && settings.channel <= LARGEST_CHANNEL
 }
 
 // V(S), NN(R), the counts, Transmission_Count and Suspend_State.
@@ -47,60 +33,32 @@ fn numbers_hold(variables: Variables, queues: Queues) -> bool
     ensures { result ≡ numbers_hold variables queues }
 {
     let outstanding = difference(variables.vs, variables.nnr);
-    if LARGEST_K < queues.sent {
-        return false;
-    }
-    if outstanding < queues.sent {
-        return false;
-    }
-    if queues.sent < queues.marked {
-        return false;
-    }
-    if variables.transmission_count < 1 {
-        return false;
-    }
-    variables.suspend_state <= LARGEST_SUSPEND_STATE
+    queues.sent <= LARGEST_K
+        && queues.sent <= outstanding
+        && queues.marked <= queues.sent
+        && variables.transmission_count >= 1
+        && variables.suspend_state <= LARGEST_SUSPEND_STATE
 }
 
 // A type-BC frame is on the sent queue.
-fn is_frame(control: Control) -> bool
+fn is_frame(control: Option<Control>) -> bool
     ensures { result ≡ is_frame control }
 {
-    match control {
-        Control::None => false,
-        Control::Unlock => true,
-        Control::SetVr(_) => true,
-    }
+    control.is_some()
 }
 
 // No unit is sent or waits.
 fn is_empty(queues: Queues) -> bool
     ensures { result ≡ is_empty queues }
 {
-    if queues.sent != 0 {
-        return false;
-    }
-    !queues.waiting
-}
-
-// Both of two tests.
-fn both(a: bool, b: bool) -> bool
-    ensures { result ≡ both a b }
-{
-    if a {
-        return b;
-    }
-    false
+    queues.sent == 0 && !queues.waiting
 }
 
 // The units of S6: while suspended in S1 to S3 those held there, else none.
 fn initial_holds(variables: Variables, queues: Queues) -> bool
     ensures { result ≡ initial_holds variables queues }
 {
-    match variables.suspend_state {
-        1..=3 => true,
-        _ => is_empty(queues),
-    }
+    matches!(variables.suspend_state, 1..=3) || is_empty(queues)
 }
 
 // By the state: Suspend_State 0 outside S6; a type-BC frame in S5 and only there; no unit outside S1 to S3, but while suspended there; the
@@ -108,18 +66,13 @@ fn initial_holds(variables: Variables, queues: Queues) -> bool
 fn state_holds(state: State, variables: Variables, queues: Queues) -> bool
     ensures { result ≡ state_holds state variables queues }
 {
-    let control = queues.control;
-    let framed = is_frame(control);
-    let empty = is_empty(queues);
+    let framed = is_frame(queues.control);
     let serving = variables.suspend_state == 0;
-    let stopped = variables.timer == 0;
     match state {
-        State::S1 => both(serving, !framed),
-        State::S2 => both(serving, !framed),
-        State::S3 => both(serving, !framed),
-        State::S4 => both(serving, both(empty, !framed)),
-        State::S5 => both(serving, both(empty, framed)),
-        State::S6 => both(initial_holds(variables, queues), both(!framed, stopped)),
+        State::S1 | State::S2 | State::S3 => serving && !framed,
+        State::S4 => serving && is_empty(queues) && !framed,
+        State::S5 => serving && is_empty(queues) && framed,
+        State::S6 => initial_holds(variables, queues) && !framed && variables.timer == 0,
     }
 }
 
@@ -127,77 +80,52 @@ fn state_holds(state: State, variables: Variables, queues: Queues) -> bool
 pub fn units_held(sent: u8, waiting: bool) -> u16
     ensures { result ≡ units_held sent waiting }
 {
-    let n = sent as u16;
-    if waiting {
-        return n + 1;
-    }
-    n
+    u16::from(sent) + u16::from(waiting)
 }
 
 // A length is that of a unit at the most.
 fn is_within(length: u16) -> bool
     ensures { result ≡ leb length largest_unit }
 {
-    (length as usize) <= LARGEST_UNIT
+    usize::from(length) <= LARGEST_UNIT
 }
 
 // Every length is that of a unit at the most. No early end: all are compared at once.
-fn lengths_within(lengths: &[u16; PLACES]) -> bool
-    requires { length lengths.now ≡ places }
-    ensures { result ≡ lengths_hold 0 lengths.now }
+fn lengths_within(lengths: &[u16]) -> bool
+    ensures { result ≡ list_all (λ length. leb length largest_unit) lengths.now }
 {
     let mut within = true;
-    let mut i = 0;
-    while i < PLACES {
-        within = both(within, is_within(lengths[i]));
-        i += 1;
+    for length in lengths {
+        within &= is_within(*length);
     }
     within
 }
 
-// The first `held` lengths are at least 1.
-fn lengths_filled(lengths: &[u16; PLACES], held: usize) -> bool
-    requires { (held ≤ places) × (length lengths.now ≡ places) }
-    ensures { both result (lengths_hold 0 lengths.now) ≡ lengths_hold held lengths.now }
+// No length is 0.
+fn lengths_filled(lengths: &[u16]) -> bool
+    ensures { result ≡ list_all (leb 1) lengths.now }
 {
     let mut filled = true;
-    let mut i = 0;
-    while i < held {
-        let length = lengths[i];
-        filled = both(filled, 1 <= length);
-        i += 1;
+    for length in lengths {
+        filled &= *length >= 1;
     }
     filled
 }
 
-// Both; more units than there are lengths are as many as there are.
+// Both, the second for the first `held` lengths; more units than there are lengths are as many as there are.
 fn lengths_hold(lengths: &[u16; PLACES], held: usize) -> bool
     ensures { result ≡ lengths_hold held lengths.now }
 {
-    let first = if PLACES < held { PLACES } else { held };
-    let filled = lengths_filled(lengths, first);
-    let within = lengths_within(lengths);
-    both(filled, within)
+    lengths_filled(&lengths[..held.min(PLACES)]) && lengths_within(lengths)
 }
 
 // A state that some sender can have.
 pub fn well_formed(sender: SenderState) -> bool
     ensures { result ≡ well_formed sender }
 {
-    let settings = sender.settings;
-    if !settings_hold(settings) {
-        return false;
-    }
-    let queues = sender.queues;
-    let variables = sender.variables;
-    if !numbers_hold(variables, queues) {
-        return false;
-    }
-    let state = sender.state;
-    if !state_holds(state, variables, queues) {
-        return false;
-    }
-    let held = units_held(queues.sent, queues.waiting) as usize;
-    let lengths = sender.lengths;
-    lengths_hold(&lengths, held)
+    let held = usize::from(units_held(sender.queues.sent, sender.queues.waiting));
+    settings_hold(sender.settings)
+        && numbers_hold(sender.variables, sender.queues)
+        && state_holds(sender.state, sender.variables, sender.queues)
+        && lengths_hold(&sender.lengths, held)
 }

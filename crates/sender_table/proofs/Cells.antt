@@ -1,35 +1,22 @@
--- That the data of src/table.rt says what table 7-8 says. The cells that the rows of numbers name and those of the table's rows, in each state, are
--- two lists; the proof of `cell` has the checker compute and compare them (`Agree`).
+-- That the data of src/table.rt says what table 7-8 says. What its cells ask and what the table's cells ask, in each state, are two lists; the proof
+-- of `cell` has the checker compute and compare them (`Agree`).
 use mathlib.Core.Path.{◌≡◌, sym, ap, ◌∙◌}
-use mathlib.Core.Bool.{true}
 use mathlib.Core.List.{List, [], ◌∷◌, map}
-use mathlib.Core.Option.{Option, none}
-use Prim.Native.Nat.{ℕ, suc}
 use native.Mathlib.Omega.{arith}
-use lib.ListN.{length, get_or, take, get_or-map}
-use Rattle.base.proofs.Lists.{take_next}
-use Rattle.fop.specs.Table.{FopEvent}
+use lib.ListN.{length, get_or}
+use Rattle.std.proofs.lemmas.List.{get_or-map, length-map}
+use Rattle.fop.specs.declared.Event.{Event as FopEvent}
+use Rattle.fop.specs.declared.Event.TheVariants.{E1}
 use Rattle.fop.specs.declared.State.{State}
 use Rattle.fop.specs.declared.State.TheVariants.{S1, S2, S3, S4, S5, S6}
-use Rattle.sender_table.specs.declared.CellNumbers.{CellNumbers}
-use Rattle.sender_table.specs.Rows.{place_of, events, event_of}
-use Rattle.sender_table.specs.Numbers.{column_of, cell_numbered, cell_if, cell_of, Tells}
-use Rattle.sender_table.proofs.Once.{read_lists, lists_read}
-use Rattle.sender_table.proofs.Places.{all_below, is_below}
-
--- the cell of a state in a row of cells' numbers
-abbrev pub by_row : List (List ℕ) → List ℕ → State → CellNumbers
-by_row cells row s = cell_numbered (get_or cells (get_or row (column_of s) 0) []) s
+use Rattle.fop.specs.Table.{events, table78, cell78}
+use Rattle.sender_table.specs.declared.table.TableCell.{TableCell}
+use Rattle.sender_table.specs.Cells.{Asked, asked_in, asked_by, place_of, column_of, Tells}
+use Rattle.sender_table.proofs.Places.{event_there, place_below}
 
 -- in all states
 abbrev pub six : {A : Type 0} → (State → A) → List A
 six f = f S1 ∷ f S2 ∷ f S3 ∷ f S4 ∷ f S5 ∷ f S6 ∷ []
-
--- the rows of numbers name the cells of the events' rows, and so does a row that is missing
-abbrev pub Agree : List (List ℕ) → List (List ℕ) → Type 0
-Agree rows cells =
-    read_lists cells (λ known. read_lists rows (λ lines. map (λ (row : List ℕ). six (by_row known row)) ([] ∷ lines)))
-    ≡ map (λ (e : Option FopEvent). six (cell_if e)) (none ∷ events)
 
 pub of_six : {A : Type 0} (f g : State → A) → six f ≡ six g → (s : State) → f s ≡ g s
 of_six f g e S1 = ap (λ l. get_or l 0 (f S1)) e
@@ -39,30 +26,28 @@ of_six f g e S4 = ap (λ l. get_or l 3 (f S1)) e
 of_six f g e S5 = ap (λ l. get_or l 4 (f S1)) e
 of_six f g e S6 = ap (λ l. get_or l 5 (f S1)) e
 
--- two lists that are alike under f and g are so at each place
-pub at_place : {A B C : Type 0} (f : A → C) (g : B → C) (a : A) (b : B) (xs : List A) (ys : List B) → map f (a ∷ xs) ≡ map g (b ∷ ys) → (p : ℕ)
-    → f (get_or xs p a) ≡ g (get_or ys p b)
-at_place f g a b xs ys e p =
-    sym (get_or-map f (a ∷ xs) (suc p) a) ∙ ap (λ l. get_or l (suc p) (f a)) e ∙ ap (get_or (map g ys) p) (ap (λ l. get_or l 0 (f a)) e) ∙ get_or-map g ys p b
+-- what the row of an event asks
+abbrev by_event : FopEvent → State → Asked
+by_event e s = asked_by (cell78 (table78 e) s) s
 
-agree_at : (rows cells : List (List ℕ)) → Agree rows cells → (p : ℕ) (s : State) → by_row cells (get_or rows p []) s ≡ cell_if (get_or events p none) s
-agree_at rows cells e p s =
-    let f : List (List ℕ) → List (List ℕ) → List (List CellNumbers) = λ known lines. map (λ (row : List ℕ). six (by_row known row)) ([] ∷ lines) in
-    let r : read_lists cells (λ known. read_lists rows (f known)) ≡ f cells rows = lists_read cells (λ known. read_lists rows (f known)) ∙ lists_read rows (f cells) in
-    of_six (by_row cells (get_or rows p [])) (cell_if (get_or events p none))
-    (at_place (λ (row : List ℕ). six (by_row cells row)) (λ (x : Option FopEvent). six (cell_if x)) [] none rows events (sym r ∙ e) p) s
+-- what a row of cells asks
+abbrev by_row : TableCell → List TableCell → State → Asked
+by_row missing row s = asked_in (get_or row (column_of s) missing) s
 
-pub tells : (rows cells : List (List ℕ)) → Agree rows cells → all_below 50 rows ≡ true → Tells rows cells
-unfolding cell_of event_of
-tells rows cells e t = record { numbers = is_below 50 rows t (omega arith); says = λ k s. agree_at rows cells e (place_of k) s }
+-- the rows ask what the events' rows ask
+abbrev pub Agree : List (List TableCell) → Type 0
+Agree rows = (missing : TableCell) → map (λ (row : List TableCell). six (by_row missing row)) rows ≡ map (λ (e : FopEvent). six (by_event e)) events
 
--- the first five of six numbers
-pub first_five : (numbers : List ℕ) → length numbers ≡ 6
-    → get_or numbers 0 0 ∷ get_or numbers 1 0 ∷ get_or numbers 2 0 ∷ get_or numbers 3 0 ∷ get_or numbers 4 0 ∷ [] ≡ take 5 numbers
-first_five s l =
-    sym
-    (take_next s 4 0 (omega arith)
-    ∙ ap (λ (t : List ℕ). get_or s 0 0 ∷ t) (take_next s 3 1 (omega arith)
-    ∙ ap (λ (t : List ℕ). get_or s 1 0 ∷ t) (take_next s 2 2 (omega arith)
-    ∙ ap (λ (t : List ℕ). get_or s 2 0 ∷ t) (take_next s 1 3 (omega arith)
-    ∙ ap (λ (t : List ℕ). get_or s 3 0 ∷ t) (take_next s 0 4 (omega arith))))))
+pub tells : (rows : List (List TableCell)) → Agree rows → Tells rows
+tells rows agree = record { says = λ missing e s. row_tells missing e s } where
+  row_tells : (missing : TableCell) (e : FopEvent) (s : State) → by_row missing (get_or rows (place_of e) []) s ≡ by_event e s
+  row_tells missing e =
+      let f : List TableCell → List Asked = λ row. six (by_row missing row) in
+      let g : FopEvent → List Asked = λ x. six (by_event x) in
+      let p = place_of e in
+      let many : length rows ≡ 50 = sym (length-map rows f) ∙ ap length (agree missing) in
+      of_six (by_row missing (get_or rows p [])) (by_event e)
+      (sym (get_or-map f rows p [] (f []) (omega (arith, many, place_below e)))
+      ∙ ap (λ (l : List (List Asked)). get_or l p (f [])) (agree missing)
+      ∙ get_or-map g events p E1 (f []) (place_below e)
+      ∙ ap g (event_there e))

@@ -1,4 +1,3 @@
-pub mod Once
 pub mod Places
 pub mod Cells
 pub mod Done

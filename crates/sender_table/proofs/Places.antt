@@ -1,55 +1,71 @@
--- A row stands at every event's place, a cell's number in every state's column, and a cell at every number.
+-- A row stands at every event's place, and a cell in every state's column.
 use mathlib.Core.Path.{◌≡◌, refl}
-use mathlib.Core.Bool.{Bool, true, false}
-use mathlib.Core.List.{List, [], ◌∷◌}
-use Prim.Native.Nat.{ℕ, zero, suc, ◌-◌, ◌≤◌, ◌<◌}
-use native.Mathlib.Omega.{arith}
-use borrow.Author.Tests.{ltb-true, ltb-false}
-use lib.Dec.{ltb}
+use Prim.Native.Nat.{◌<◌}
+use lib.Dec.{T, ltb, ltb→lt}
 use lib.ListN.{get_or}
-use Rattle.base.specs.Choice.{both, pick}
-use Rattle.base.proofs.Tests.{both_left, both_right}
-use Rattle.fop.specs.declared.State.{State}
-use Rattle.fop.specs.declared.State.TheVariants.{S1, S2, S3, S4, S5, S6}
-use Rattle.sender_table.specs.Rows.{place_of}
-use Rattle.sender_table.specs.Numbers.{column_of}
+use Rattle.fop.specs.declared.Event.{Event as FopEvent}
+use Rattle.fop.specs.declared.Event.TheVariants.{E1, E2, E3, E4, E5, E6, E7, E8, E9, E10, E11, E12, E13, E14, E15, E16, E17, E18, E19, E20, E21, E22, E23, E24, E25, E26, E27, E28, E29, E30, E31, E32, E33, E34, E35, E36, E37, E38, E39, E40, E41, E42, E43, E44, E45, E46, E101, E102, E103, E104}
+use Rattle.fop.specs.Table.{events}
+use Rattle.sender_table.specs.Cells.{place_of}
 
--- what holds of both choices, each with its test
-pub chosen : {A : Type 0} (P : A → Type 0) (b : Bool) (x y : A) → (b ≡ true → P x) → (b ≡ false → P y) → P (pick b x y)
-chosen P true x y f g = f refl
-chosen P false x y f g = g refl
+-- an event stands at its place, and the place is one of the events'
+abbrev Placed : FopEvent → Type 0
+Placed e = (get_or events (place_of e) E1 ≡ e) × T (ltb (place_of e) 50)
 
--- what holds at the place of each event, and at that of none
-pub by_place : (P : ℕ → Type 0) (k : ℕ) → (k < 47 → P k) → P 0 → (101 ≤ k → k < 105 → P (k - 54)) → P (place_of k)
-by_place P k a b c =
-    chosen P (ltb k 47) k _ (λ e. a (ltb-true k 47 e)) (λ e. chosen P (ltb k 101) 0 _ (λ f. b) (λ f. chosen P (ltb k 105) (k - 54) 0 (λ g. c (ltb-false k 101 f) (ltb-true k 105 g)) (λ g. b)))
+placed : (e : FopEvent) → Placed e
+placed E1 = (refl, tt)
+placed E2 = (refl, tt)
+placed E3 = (refl, tt)
+placed E4 = (refl, tt)
+placed E5 = (refl, tt)
+placed E6 = (refl, tt)
+placed E7 = (refl, tt)
+placed E8 = (refl, tt)
+placed E9 = (refl, tt)
+placed E10 = (refl, tt)
+placed E11 = (refl, tt)
+placed E12 = (refl, tt)
+placed E13 = (refl, tt)
+placed E14 = (refl, tt)
+placed E15 = (refl, tt)
+placed E16 = (refl, tt)
+placed E17 = (refl, tt)
+placed E18 = (refl, tt)
+placed E19 = (refl, tt)
+placed E20 = (refl, tt)
+placed E21 = (refl, tt)
+placed E22 = (refl, tt)
+placed E23 = (refl, tt)
+placed E24 = (refl, tt)
+placed E25 = (refl, tt)
+placed E26 = (refl, tt)
+placed E27 = (refl, tt)
+placed E28 = (refl, tt)
+placed E29 = (refl, tt)
+placed E30 = (refl, tt)
+placed E31 = (refl, tt)
+placed E32 = (refl, tt)
+placed E33 = (refl, tt)
+placed E34 = (refl, tt)
+placed E35 = (refl, tt)
+placed E36 = (refl, tt)
+placed E37 = (refl, tt)
+placed E38 = (refl, tt)
+placed E39 = (refl, tt)
+placed E40 = (refl, tt)
+placed E41 = (refl, tt)
+placed E42 = (refl, tt)
+placed E43 = (refl, tt)
+placed E44 = (refl, tt)
+placed E45 = (refl, tt)
+placed E46 = (refl, tt)
+placed E101 = (refl, tt)
+placed E102 = (refl, tt)
+placed E103 = (refl, tt)
+placed E104 = (refl, tt)
 
-pub place_below : (k : ℕ) → place_of k < 51
-place_below k = by_place (λ (p : ℕ). p < 51) k (λ h. omega arith) (omega arith) (λ h i. omega arith)
+pub event_there : (e : FopEvent) → get_or events (place_of e) E1 ≡ e
+event_there e = (placed e).0
 
-pub column_below : (s : State) → column_of s < 6
-column_below S1 = omega arith
-column_below S2 = omega arith
-column_below S3 = omega arith
-column_below S4 = omega arith
-column_below S5 = omega arith
-column_below S6 = omega arith
-
--- numbers in rows, each below a bound
-abbrev below : ℕ → List ℕ → Bool
-below n [] = true
-below n (k ∷ more) = both (ltb k n) (below n more)
-
-abbrev pub all_below : ℕ → List (List ℕ) → Bool
-all_below n [] = true
-all_below n (row ∷ more) = both (below n row) (all_below n more)
-
-number_below : (n : ℕ) (row : List ℕ) → below n row ≡ true → 0 < n → (q : ℕ) → get_or row q 0 < n
-number_below n [] t h q = h
-number_below n (k ∷ more) t h zero = ltb-true k n (both_left (ltb k n) (below n more) t)
-number_below n (k ∷ more) t h (suc q) = number_below n more (both_right (ltb k n) (below n more) t) h q
-
-pub is_below : (n : ℕ) (rows : List (List ℕ)) → all_below n rows ≡ true → 0 < n → (p q : ℕ) → get_or (get_or rows p []) q 0 < n
-is_below n [] t h p q = h
-is_below n (row ∷ more) t h zero q = number_below n row (both_left (below n row) (all_below n more) t) h q
-is_below n (row ∷ more) t h (suc p) q = is_below n more (both_right (below n row) (all_below n more) t) h p q
+pub place_below : (e : FopEvent) → place_of e < 50
+place_below e = ltb→lt _ _ (placed e).1

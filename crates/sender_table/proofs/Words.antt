@@ -1,6 +1,5 @@
--- Table 7-8's two words that no action reads. Where the code's data is compared (proofs/Cells), a cell is filled up with Ignore, and Not Applicable
--- is a cell of Ignores that keeps the state; so the words themselves are computed here, over every event and state: a cell has an action, Ignore
--- stands alone, and Not Applicable stands in the cells of `applies` and in no other.
+-- Table 7-8's two words that no action reads: computed here over every event and state, a cell has an action, Ignore stands alone, and Not
+-- Applicable stands in the cells of `applies` and in no other.
 use mathlib.Core.Bool.{Bool, true, false, not}
 use mathlib.Core.List.{List, [], ◌∷◌}
 use mathlib.Core.Option.{Option, none, some}
@@ -8,13 +7,14 @@ use Prim.Native.Nat.{ℕ, ◌<◌}
 use lib.Dec.{T, leb, eqb}
 use Rattle.base.specs.Choice.{pick, both}
 use Rattle.base.proofs.Computed.{below}
-use Rattle.fop.specs.Table.{Action, Ignore, Accept, Reject, Confirm, RejectAd, AcceptBd, RejectBd, AddToWaitQueue, LookForFdu, LookForDirective, RemoveAcknowledgedFrames}
-use Rattle.fop.specs.Table.{InitiateAdRetransmission, InitiateBcRetransmission, ReleaseBcFrame, CancelTimer, StartTimer, Alert, Initialise, TransmitUnlock, TransmitSetVr, TransmitBd}
-use Rattle.fop.specs.Table.{SetSuspendState, Suspend, Resume, SetVs, SetNnr, SetK, SetT1Initial, SetTransmissionLimit, SetTimeoutType, AdOutReady, BcOutReady, BdOutReady}
+use Rattle.fop.specs.declared.Action.{Action}
+use Rattle.fop.specs.declared.Action.TheVariants.{Ignore, Accept, Reject, Confirm, RejectAd, AcceptBd, RejectBd, AddToWaitQueue, LookForFdu, LookForDirective, RemoveAcknowledgedFrames}
+use Rattle.fop.specs.declared.Action.TheVariants.{InitiateAdRetransmission, InitiateBcRetransmission, ReleaseBcFrame, CancelTimer, StartTimer, Alert, Initialise, TransmitUnlock, TransmitSetVr, TransmitBd}
+use Rattle.fop.specs.declared.Action.TheVariants.{SetSuspendState, Suspend, Resume, SetVs, SetNnr, SetK, SetT1Initial, SetTransmissionLimit, SetTimeoutType, AdOutReady, BcOutReady, BdOutReady}
 use Rattle.fop.specs.declared.State.{State}
 use Rattle.fop.specs.declared.State.TheVariants.{S1, S2, S3, S4, S5, S6}
-use Rattle.fop.specs.Table.{Cell, cell, if_not_suspended, NotApplicable, table78, cell78, FopEvent}
-use Rattle.sender_table.specs.Rows.{event_of}
+use Rattle.fop.specs.declared.Event.{Event as FopEvent}
+use Rattle.fop.specs.Table.{event_of, Cell, cell, if_not_suspended, NotApplicable, table78, cell78}
 
 abbrev is_ignore : Action → Bool
 is_ignore Ignore = true

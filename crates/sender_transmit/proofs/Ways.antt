@@ -1,10 +1,10 @@
 -- The ways through each action that tests before it acts, in the form in which a `return` asks it.
+use Rattle.std.specs.Prelude.{Option, None}
 use Rattle.std.proofs.Common.{◌≡◌, ◌<◌, ◌≤◌, Bool, true, false, sym, ap, ◌∙◌, le-ltb, lt-ltb}
 use Rattle.base.proofs.Tests.{yes, no}
 use Rattle.sender_values.specs.declared.Work.{Work}
 use Rattle.sender_values.specs.declared.Handed.{Handed}
 use Rattle.sender_values.specs.declared.Control.{Control}
-use Rattle.sender_values.specs.declared.Control.TheVariants.{None}
 use Rattle.fop.specs.declared.Response.TheVariants.{AcceptAdUnit}
 use Rattle.sender_values.specs.Actions.{respond, send_marked, in_window, transmit_ad_frame, look_for_fdu, send_control, send_marked_control, look_for_directive_of, look_for_directive}
 
@@ -30,18 +30,14 @@ module _ (w : Work) where
   unfolding look_for_fdu
   look_new e d p m q g f = e ∙ ap transmit_ad_frame d ∙ sym (yes _ _ _ p ∙ no _ _ _ (le-ltb _ _ m) ∙ yes _ _ _ q ∙ yes _ _ _ (sym g ∙ f))
 
-  pub control_marked_lem : {r : Work} (h : Handed) → r ≡ send_control h w → w.variables.bc_out ≡ true → w.queues.control_marked ≡ true → r ≡ send_marked_control h w
+  pub control_marked_lem : {r : Work} (h : Option Handed) → r ≡ send_control h w → w.variables.bc_out ≡ true → w.queues.control_marked ≡ true → r ≡ send_marked_control h w
   unfolding send_marked_control
   control_marked_lem h e p q = e ∙ sym (yes _ _ _ p ∙ yes _ _ _ q)
 
-  pub control_unmarked : (h : Handed) → w.variables.bc_out ≡ true → w.queues.control_marked ≡ false → w ≡ send_marked_control h w
+  pub control_unmarked : (h : Option Handed) → w.variables.bc_out ≡ true → w.queues.control_marked ≡ false → w ≡ send_marked_control h w
   unfolding send_marked_control
   control_unmarked h p q = sym (yes _ _ _ p ∙ no _ _ _ q)
 
-  pub control_not_ready : (h : Handed) → w.variables.bc_out ≡ false → w ≡ send_marked_control h w
+  pub control_not_ready : (h : Option Handed) → w.variables.bc_out ≡ false → w ≡ send_marked_control h w
   unfolding send_marked_control
   control_not_ready h p = sym (no _ _ _ p)
-
-  pub directive_none : w.queues.control ≡ None → w ≡ look_for_directive w
-  unfolding look_for_directive_of
-  directive_none p = sym (ap (λ (c : Control). look_for_directive_of c w) p)

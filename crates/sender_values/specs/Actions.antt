@@ -1,6 +1,6 @@
 -- The actions of clause 7.9.2 and of table 7-8, on the work by value.
 -- They follow the struct's layout. The standard's own rendering is crate fop, specs/Machine; crate sender_view ties each of these to it.
-use Rattle.std.specs.Prelude.{ℕ, suc, ◌+◌, Bool, true, false, ◌==◌, nat_lt, slice_set}
+use Rattle.std.specs.Prelude.{ℕ, suc, ◌+◌, Bool, true, false, ◌==◌, nat_lt, slice_set, Option, None, Some}
 use Rattle.base.specs.Choice.{pick}
 use Rattle.base.specs.Modulo.{advanced, offset}
 use Rattle.fop.specs.declared.State.{State}
@@ -109,7 +109,7 @@ unfoldable pub respond : Response → Work → Work
 respond r w = with_told (responding (responses_with (response_number r) w.told.responses) w.told) w
 
 -- the frame handed down
-unfoldable pub hand_down : Handed → Work → Work
+unfoldable pub hand_down : Option Handed → Work → Work
 hand_down h w = with_told (handing h w.told) w
 
 -- an abort request to the lower procedures
@@ -118,7 +118,7 @@ abort w = with_told (telling true w.told.alert w.told.suspended w.told) w
 
 -- an Alert notification
 unfoldable pub notify : Alert → Work → Work
-notify a w = with_told (telling w.told.abort a w.told.suspended w.told) w
+notify a w = with_told (telling w.told.abort (Some a) w.told.suspended w.told) w
 
 -- clause 7.9.2.18, Suspend: a Suspend notification
 unfoldable pub suspend : Work → Work
@@ -136,12 +136,12 @@ unfoldable pub add_to_wait_queue : Work → Work
 add_to_wait_queue w = with_queues (holding w.queues.sent w.queues.marked true w.queues) w
 
 -- the type-BC frame on the Sent_Queue, and whether it is marked
-unfoldable pub hold_control : Control → Bool → Work → Work
+unfoldable pub hold_control : Option Control → Bool → Work → Work
 hold_control c m w = with_queues (controlling c m w.queues) w
 
 -- Release type-BC frame
 unfoldable pub release_bc_frame : Work → Work
-release_bc_frame w = hold_control control.None false w
+release_bc_frame w = hold_control None false w
 
 -- Transmission.
 
@@ -154,7 +154,7 @@ unfoldable pub transmit_ad_frame : Work → Work
 transmit_ad_frame w =
     let v = w.variables in
     let q = w.queues in
-    start_timer (hand_down (handed.Ad v.vs q.sent)
+    start_timer (hand_down (Some (handed.Ad v.vs q.sent))
     (with_queues (holding (advanced q.sent 1) q.marked false q)
     (with_variables (flagged false v.bc_out v.bd_out (clocked v.timer (count_for q.sent v.transmission_count) (numbered (advanced v.vs 1) v.nnr v))) w)))
 
@@ -163,7 +163,7 @@ unfoldable pub send_marked : Work → Work
 send_marked w =
     let v = w.variables in
     let q = w.queues in
-    hand_down (handed.Ad (offset v.vs q.marked) (offset q.sent q.marked))
+    hand_down (Some (handed.Ad (offset v.vs q.marked) (offset q.sent q.marked)))
     (with_queues (holding q.sent (offset q.marked 1) q.waiting q)
     (with_variables (flagged false v.bc_out v.bd_out v) w))
 
@@ -180,40 +180,40 @@ look_for_fdu w =
     w
 
 -- clause 7.9.2.7, Transmit type-BC frame: it is on the Sent_Queue, unmarked
-unfoldable pub transmit_bc_frame : Control → Handed → Work → Work
+unfoldable pub transmit_bc_frame : Option Control → Option Handed → Work → Work
 transmit_bc_frame c h w =
     let v = w.variables in
     start_timer (hand_down h (hold_control c false (with_variables (flagged v.ad_out false v.bd_out (clocked v.timer 1 v)) w)))
 
 -- clause 7.9.2.8
 unfoldable pub transmit_unlock : Work → Work
-transmit_unlock w = transmit_bc_frame control.Unlock handed.Unlock w
+transmit_unlock w = transmit_bc_frame (Some control.Unlock) (Some handed.Unlock) w
 
 -- clause 7.9.2.9
 unfoldable pub transmit_set_vr : ℕ → Work → Work
-transmit_set_vr n w = transmit_bc_frame (control.SetVr n) (handed.SetVr n) w
+transmit_set_vr n w = transmit_bc_frame (Some (control.SetVr n)) (Some (handed.SetVr n)) w
 
 -- clause 7.9.2.10, Transmit type-BD frame
 unfoldable pub transmit_bd_frame : Work → Work
 transmit_bd_frame w =
     let v = w.variables in
-    hand_down handed.Bd (with_variables (flagged v.ad_out v.bc_out false v) w)
+    hand_down (Some handed.Bd) (with_variables (flagged v.ad_out v.bc_out false v) w)
 
 -- the type-BC frame is sent again, and its mark is off
-unfoldable pub send_control : Handed → Work → Work
+unfoldable pub send_control : Option Handed → Work → Work
 send_control h w =
     let v = w.variables in
     hand_down h (hold_control w.queues.control false (with_variables (flagged v.ad_out false v.bd_out v) w))
 
 -- the same where it is marked and BC_Out_Flag is Ready
-unfoldable pub send_marked_control : Handed → Work → Work
+unfoldable pub send_marked_control : Option Handed → Work → Work
 send_marked_control h w = pick w.variables.bc_out (pick w.queues.control_marked (send_control h w) w) w
 
 -- clause 7.9.2.15, Look for directive
-unfoldable pub look_for_directive_of : Control → Work → Work
-look_for_directive_of control.None w = w
-look_for_directive_of control.Unlock w = send_marked_control handed.Unlock w
-look_for_directive_of (control.SetVr n) w = send_marked_control (handed.SetVr n) w
+unfoldable pub look_for_directive_of : Option Control → Work → Work
+look_for_directive_of None w = w
+look_for_directive_of (Some control.Unlock) w = send_marked_control (Some handed.Unlock) w
+look_for_directive_of (Some (control.SetVr n)) w = send_marked_control (Some (handed.SetVr n)) w
 
 -- the same, of the frame on the Sent_Queue
 abbrev pub look_for_directive : Work → Work
@@ -268,10 +268,10 @@ emptied w =
     (with_queues (holding 0 0 q.waiting q) w))
 
 -- a type-BC frame gives the Negative Confirm of its directive
-unfoldable pub deny_control : Control → Work → Work
-deny_control control.None w = w
-deny_control control.Unlock w = respond DenyDirective w
-deny_control (control.SetVr n) w = respond DenyDirective w
+unfoldable pub deny_control : Option Control → Work → Work
+deny_control None w = w
+deny_control (Some control.Unlock) w = respond DenyDirective w
+deny_control (Some (control.SetVr n)) w = respond DenyDirective w
 
 -- clause 7.9.2.4, Purging the Sent_Queue
 unfoldable pub purge_sent_queue : Work → Work

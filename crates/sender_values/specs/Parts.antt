@@ -1,5 +1,5 @@
 -- The work with one of its parts changed.
-use Rattle.std.specs.Prelude.{ℕ, Bool}
+use Rattle.std.specs.Prelude.{ℕ, Bool, Option}
 use Rattle.sender_values.specs.declared.Settings.{Settings}
 use Rattle.sender_values.specs.declared.Variables.{Variables}
 use Rattle.sender_values.specs.declared.Control.{Control}
@@ -94,19 +94,19 @@ holding sent marked waiting q =
     record { sent = sent; marked = marked; waiting = waiting; control = q.control; control_marked = q.control_marked }
 
 -- the type-BC frame, and whether it is marked
-abbrev pub controlling : Control → Bool → Queues → Queues
+abbrev pub controlling : Option Control → Bool → Queues → Queues
 controlling control marked q =
     record { sent = q.sent; marked = q.marked; waiting = q.waiting; control = control; control_marked = marked }
 
 -- what is told
 
 -- the frame handed down
-abbrev pub handing : Handed → Told → Told
+abbrev pub handing : Option Handed → Told → Told
 handing h t =
     record { handed = h; abort = t.abort; alert = t.alert; suspended = t.suspended; responses = t.responses; confirmed = t.confirmed; denied = t.denied }
 
 -- abort, alert, Suspend notification
-abbrev pub telling : Bool → Alert → Bool → Told → Told
+abbrev pub telling : Bool → Option Alert → Bool → Told → Told
 telling abort alert suspended t =
     record { handed = t.handed; abort = abort; alert = alert; suspended = suspended; responses = t.responses; confirmed = t.confirmed; denied = t.denied }
 

@@ -1,10 +1,7 @@
 -- A sender at its start, and the work on an event at its start and at its end.
-use Rattle.std.specs.Prelude.{ℕ, true, false, List, replicate}
+use Rattle.std.specs.Prelude.{ℕ, true, false, List, replicate, None}
 use Rattle.fop.specs.declared.State.TheVariants.{S6}
 use Rattle.sender_values.specs.declared.Settings.{Settings}
-use Rattle.sender_values.specs.declared.Control.TheVariants as control
-use Rattle.sender_values.specs.declared.Handed.TheVariants as handed
-use Rattle.fop.specs.declared.Alert.TheVariants as alert
 use Rattle.sender_values.specs.declared.SenderState.{SenderState}
 use Rattle.sender_values.specs.declared.Told.{Told}
 use Rattle.sender_values.specs.declared.Work.{Work}
@@ -26,16 +23,16 @@ start_of settings vs nnr = record {
     bd_out = true;
     suspend_state = 0;
   };
-  queues = record { sent = 0; marked = 0; waiting = false; control = control.None; control_marked = false };
+  queues = record { sent = 0; marked = 0; waiting = false; control = None; control_marked = false };
   lengths = replicate places 0;
 }
 
 -- nothing is told yet
 unfoldable pub none_told : Told
 none_told = record {
-  handed = handed.None;
+  handed = None;
   abort = false;
-  alert = alert.None;
+  alert = None;
   suspended = false;
   responses = record { count = 0; numbers = replicate largest_responses 0 };
   confirmed = record { number = 0; count = 0 };

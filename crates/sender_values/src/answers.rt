@@ -2,7 +2,7 @@
 ghost use Rattle.std.specs.Prelude.{◌≡◌};
 ghost use Rattle.sender_values.specs.Actions.{response_number, responses_with, respond, hand_down, abort, notify, suspend};
 
-use crate::{Handed, LARGEST_RESPONSES, Responses, Told, Work};
+use crate::{Handed, LARGEST_RESPONSES, Responses, Work};
 use fop::{Alert, Response};
 
 // A response's number.
@@ -22,94 +22,53 @@ fn response_number(response: Response) -> u8
 }
 
 // One response more, at the end; no more than an event can give.
-fn responses_with(responses: Responses, number: u8) -> Responses
+fn responses_with(mut responses: Responses, number: u8) -> Responses
     ensures { result ≡ responses_with number responses }
 {
-    let count = responses.count;
-    let i = count as usize;
-    if i < LARGEST_RESPONSES {
-        let mut more = responses;
-        more.numbers[i] = number;
-        more.count = count + 1;
-        return more;
+    let count = usize::from(responses.count);
+    if count < LARGEST_RESPONSES {
+        responses.numbers[count] = number;
+        responses.count += 1;
     }
     responses
 }
 
 // A response.
-pub fn respond(work: Work, response: Response) -> Work
+pub fn respond(mut work: Work, response: Response) -> Work
     ensures { result ≡ respond response work }
 {
-    let number = response_number(response);
-    let mut told = work.told;
-    let responses = told.responses;
-    let more = responses_with(responses, number);
-    told.responses = more;
-    let mut next = work;
-    next.told = told;
-    next
+    work.told.responses = responses_with(work.told.responses, response_number(response));
+    work
 }
 
 // The frame handed down.
-pub fn hand_down(work: Work, handed: Handed) -> Work
+pub fn hand_down(mut work: Work, handed: Option<Handed>) -> Work
     ensures { result ≡ hand_down handed work }
 {
-    let before = work.told;
-    let alert = before.alert;
-    let responses = before.responses;
-    let confirmed = before.confirmed;
-    let denied = before.denied;
-    let told = Told {
-        handed: handed,
-        abort: before.abort,
-        alert: alert,
-        suspended: before.suspended,
-        responses: responses,
-        confirmed: confirmed,
-        denied: denied,
-    };
-    let mut next = work;
-    next.told = told;
-    next
+    work.told.handed = handed;
+    work
 }
 
 // An abort request to the lower procedures.
-pub fn abort(work: Work) -> Work
+pub fn abort(mut work: Work) -> Work
     ensures { result ≡ abort work }
 {
-    let mut next = work;
-    next.told.abort = true;
-    next
+    work.told.abort = true;
+    work
 }
 
 // An Alert notification.
-pub fn notify(work: Work, alert: Alert) -> Work
+pub fn notify(mut work: Work, alert: Alert) -> Work
     ensures { result ≡ notify alert work }
 {
-    let before = work.told;
-    let handed = before.handed;
-    let responses = before.responses;
-    let confirmed = before.confirmed;
-    let denied = before.denied;
-    let told = Told {
-        handed: handed,
-        abort: before.abort,
-        alert: alert,
-        suspended: before.suspended,
-        responses: responses,
-        confirmed: confirmed,
-        denied: denied,
-    };
-    let mut next = work;
-    next.told = told;
-    next
+    work.told.alert = Some(alert);
+    work
 }
 
 // Clause 7.9.2.18, Suspend: a Suspend notification.
-pub fn suspend(work: Work) -> Work
+pub fn suspend(mut work: Work) -> Work
     ensures { result ≡ suspend work }
 {
-    let mut next = work;
-    next.told.suspended = true;
-    next
+    work.told.suspended = true;
+    work
 }

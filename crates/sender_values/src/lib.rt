@@ -42,10 +42,9 @@ pub struct Variables {
     pub suspend_state: u8,
 }
 
-// The type-BC frame on the sent queue; Set V(R) with its value.
+// A type-BC frame on the sent queue; Set V(R) with its value.
 #[derive(Clone, Copy)]
 pub enum Control {
-    None,
     Unlock,
     SetVr(u8),
 }
@@ -58,21 +57,20 @@ pub struct Queues {
     pub sent: u8,
     pub marked: u8,
     pub waiting: bool,
-    pub control: Control,
+    pub control: Option<Control>,
     pub control_marked: bool,
 }
 
-// The frame handed down to the lower procedures: AD with its N(S) and the place of its unit in the store, BD with the unit requested.
+// A frame handed down to the lower procedures: AD with its N(S) and the place of its unit in the store, BD with the unit requested.
 #[derive(Clone, Copy)]
 pub enum Handed {
-    None,
     Ad { number: u8, place: u8 },
     Bd,
     Unlock,
     SetVr(u8),
 }
 
-// The responses in their order, each by its number.
+// The responses in their order, each by its number. Memory is fixed (no heap), so an array and a count of those that stand.
 #[derive(Clone, Copy)]
 pub struct Responses {
     pub count: u8,
@@ -93,9 +91,9 @@ pub struct SenderState {
 // confirmed and denied.
 #[derive(Clone, Copy)]
 pub struct Told {
-    pub handed: Handed,
+    pub handed: Option<Handed>,
     pub abort: bool,
-    pub alert: Alert,
+    pub alert: Option<Alert>,
     pub suspended: bool,
     pub responses: Responses,
     pub confirmed: Run,

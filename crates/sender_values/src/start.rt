@@ -2,41 +2,35 @@
 ghost use Rattle.std.specs.Prelude.{◌≡◌};
 ghost use Rattle.sender_values.specs.Start.{start_of, none_told, begun, sender_of};
 
-use crate::{
-    Control, Handed, LARGEST_RESPONSES, Queues, Responses, SenderState, Settings, Told, Variables,
-    Work,
-};
-use fop::{Alert, Run, State};
+use crate::{LARGEST_RESPONSES, Queues, Responses, SenderState, Settings, Told, Variables, Work};
+use fop::{Run, State};
 use store::PLACES;
 
 // A sender starts Initial, with its flags Ready, its queues empty, the timer stopped and Transmission_Count 1.
 pub fn start(settings: Settings, vs: u8, nnr: u8) -> SenderState
     ensures { result ≡ start_of settings vs nnr }
 {
-    let variables = Variables {
-        vs: vs,
-        nnr: nnr,
-        timer: 0,
-        transmission_count: 1,
-        ad_out: true,
-        bc_out: true,
-        bd_out: true,
-        suspend_state: 0,
-    };
-    let lengths = [0u16; PLACES];
-    let queues = Queues {
-        sent: 0,
-        marked: 0,
-        waiting: false,
-        control: Control::None,
-        control_marked: false,
-    };
     SenderState {
         state: State::S6,
-        settings: settings,
-        variables: variables,
-        queues: queues,
-        lengths: lengths,
+        settings,
+        variables: Variables {
+            vs,
+            nnr,
+            timer: 0,
+            transmission_count: 1,
+            ad_out: true,
+            bc_out: true,
+            bd_out: true,
+            suspend_state: 0,
+        },
+        queues: Queues {
+            sent: 0,
+            marked: 0,
+            waiting: false,
+            control: None,
+            control_marked: false,
+        },
+        lengths: [0; PLACES],
     }
 }
 
@@ -44,21 +38,19 @@ pub fn start(settings: Settings, vs: u8, nnr: u8) -> SenderState
 fn none_told() -> Told
     ensures { result ≡ none_told }
 {
-    let numbers = [0u8; LARGEST_RESPONSES];
-    let responses = Responses {
-        count: 0,
-        numbers: numbers,
-    };
     let none = Run {
         number: 0,
         count: 0,
     };
     Told {
-        handed: Handed::None,
+        handed: None,
         abort: false,
-        alert: Alert::None,
+        alert: None,
         suspended: false,
-        responses: responses,
+        responses: Responses {
+            count: 0,
+            numbers: [0; LARGEST_RESPONSES],
+        },
         confirmed: none,
         denied: none,
     }
@@ -68,17 +60,12 @@ fn none_told() -> Told
 pub fn begin(sender: SenderState) -> Work
     ensures { result ≡ begun sender }
 {
-    let told = none_told();
-    let state = sender.state;
-    let settings = sender.settings;
-    let variables = sender.variables;
-    let queues = sender.queues;
     Work {
-        state: state,
-        settings: settings,
-        variables: variables,
-        queues: queues,
-        told: told,
+        state: sender.state,
+        settings: sender.settings,
+        variables: sender.variables,
+        queues: sender.queues,
+        told: none_told(),
     }
 }
 
@@ -86,15 +73,11 @@ pub fn begin(sender: SenderState) -> Work
 pub fn sender_of(work: Work, lengths: [u16; PLACES]) -> SenderState
     ensures { result ≡ sender_of work lengths }
 {
-    let state = work.state;
-    let settings = work.settings;
-    let variables = work.variables;
-    let queues = work.queues;
     SenderState {
-        state: state,
-        settings: settings,
-        variables: variables,
-        queues: queues,
-        lengths: lengths,
+        state: work.state,
+        settings: work.settings,
+        variables: work.variables,
+        queues: work.queues,
+        lengths,
     }
 }

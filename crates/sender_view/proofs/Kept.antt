@@ -1,5 +1,6 @@
 -- Every action keeps the work well formed. Most leave V(S), NN(R), the counts and the lengths alone; the others change them within their
 -- bounds.
+use Rattle.std.specs.Prelude.{Option, None, Some}
 use mathlib.Core.Path.{◌≡◌, refl, subst, ◌∙◌}
 use mathlib.Core.Bool.{Bool, true, false}
 use mathlib.Core.List.{List}
@@ -95,7 +96,7 @@ module _ (w : Work) (lengths store : List ℕ) (well : WellFormed w lengths stor
   unfolding act.release_bc_frame act.hold_control with_queues
   release_bc_frame_lem = well
 
-  transmit_bc_lem : (c : Control) (h : Handed) → WellFormed (act.transmit_bc_frame c h w) lengths store
+  transmit_bc_lem : (c : Option Control) (h : Option Handed) → WellFormed (act.transmit_bc_frame c h w) lengths store
   unfolding act.transmit_bc_frame act.start_timer act.hand_down act.hold_control with_variables with_queues with_told
   transmit_bc_lem c h = well
 
@@ -111,7 +112,7 @@ module _ (w : Work) (lengths store : List ℕ) (well : WellFormed w lengths stor
   unfolding act.transmit_bd_frame act.hand_down with_variables with_told
   transmit_bd = well
 
-  send_marked_control_lem : (h : Handed) → WellFormed (act.send_marked_control h w) lengths store
+  send_marked_control_lem : (h : Option Handed) → WellFormed (act.send_marked_control h w) lengths store
   unfolding act.send_marked_control act.send_control act.hand_down act.hold_control with_variables with_queues with_told
   send_marked_control_lem h = by w.variables.bc_out w.queues.control_marked where
     by : (a m : Bool) → WellFormed (pick a (pick m (act.send_control h w) w) w) lengths store
@@ -119,11 +120,11 @@ module _ (w : Work) (lengths store : List ℕ) (well : WellFormed w lengths stor
     by true false = well
     by false m = well
 
-  looked : (k : Control) → WellFormed (act.look_for_directive_of k w) lengths store
+  looked : (k : Option Control) → WellFormed (act.look_for_directive_of k w) lengths store
   unfolding act.look_for_directive_of
-  looked control.None = well
-  looked control.Unlock = send_marked_control_lem _
-  looked (control.SetVr x) = send_marked_control_lem _
+  looked None = well
+  looked (Some control.Unlock) = send_marked_control_lem _
+  looked (Some (control.SetVr x)) = send_marked_control_lem _
 
   pub look_for_directive_lem : WellFormed (act.look_for_directive w) lengths store
   look_for_directive_lem = looked w.queues.control
@@ -204,11 +205,11 @@ module _ (w : Work) (lengths store : List ℕ) (well : WellFormed w lengths stor
   empty : Formed w.settings.k w.variables.vs w.variables.nnr 0 0 lengths store
   empty = counted 0 0 (omega arith) (omega arith)
 
-  sent_purged_lem : (k : Control) → WellFormed (act.deny_control k (act.emptied w)) lengths store
+  sent_purged_lem : (k : Option Control) → WellFormed (act.deny_control k (act.emptied w)) lengths store
   unfolding act.deny_control act.respond act.emptied act.release_bc_frame act.hold_control with_queues with_told
-  sent_purged_lem control.None = empty
-  sent_purged_lem control.Unlock = empty
-  sent_purged_lem (control.SetVr x) = empty
+  sent_purged_lem None = empty
+  sent_purged_lem (Some control.Unlock) = empty
+  sent_purged_lem (Some (control.SetVr x)) = empty
 
   pub purge_sent_queue_lem : WellFormed (act.purge_sent_queue w) lengths store
   unfolding act.purge_sent_queue

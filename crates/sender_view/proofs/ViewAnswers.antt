@@ -5,8 +5,8 @@ use mathlib.Core.List.{List, [], ◌∷◌, ◌++◌, map, map-append}
 use mathlib.Core.Option.{Option}
 use Rattle.base.proofs.Tests.{yes}
 use Rattle.fop.specs.Units.{Fdu, Frame}
-use Rattle.fop.specs.Table as table
-use Rattle.fop.specs.Table.{FopEvent}
+use Rattle.fop.specs.declared.Action.TheVariants as action
+use Rattle.fop.specs.declared.Event.{Event as FopEvent}
 use Rattle.fop.specs.Variables as machine
 use Rattle.fop.specs.Machine.{perform}
 use Rattle.sender_values.specs.declared.Work.{Work}
@@ -74,26 +74,26 @@ module _ (e : Option FopEvent) (o : List ℕ) (n : ℕ) (c d : List Fdu) (w : Wo
   respond r =
       ap (seen e o n c d w (fop_of w lengths store) (frames_of w.told.handed lengths store o)) (sym (more_responses (response_number r) w.told.responses room))
 
-  pub accept : perform table.Accept (view e o n c d w lengths store) ≡ view e o n c d (act.respond AcceptDirective w) lengths store
+  pub accept : perform action.Accept (view e o n c d w lengths store) ≡ view e o n c d (act.respond AcceptDirective w) lengths store
   unfolding perform
   accept = respond AcceptDirective
 
-  pub reject : perform table.Reject (view e o n c d w lengths store) ≡ view e o n c d (act.respond RejectDirective w) lengths store
+  pub reject : perform action.Reject (view e o n c d w lengths store) ≡ view e o n c d (act.respond RejectDirective w) lengths store
   unfolding perform
   reject = respond RejectDirective
 
-  pub confirm : perform table.Confirm (view e o n c d w lengths store) ≡ view e o n c d (act.respond ConfirmDirective w) lengths store
+  pub confirm : perform action.Confirm (view e o n c d w lengths store) ≡ view e o n c d (act.respond ConfirmDirective w) lengths store
   unfolding perform
   confirm = respond ConfirmDirective
 
-  pub reject_ad : perform table.RejectAd (view e o n c d w lengths store) ≡ view e o n c d (act.respond RejectAdUnit w) lengths store
+  pub reject_ad : perform action.RejectAd (view e o n c d w lengths store) ≡ view e o n c d (act.respond RejectAdUnit w) lengths store
   unfolding perform
   reject_ad = respond RejectAdUnit
 
-  pub accept_bd : perform table.AcceptBd (view e o n c d w lengths store) ≡ view e o n c d (act.respond AcceptBdUnit w) lengths store
+  pub accept_bd : perform action.AcceptBd (view e o n c d w lengths store) ≡ view e o n c d (act.respond AcceptBdUnit w) lengths store
   unfolding perform
   accept_bd = respond AcceptBdUnit
 
-  pub reject_bd : perform table.RejectBd (view e o n c d w lengths store) ≡ view e o n c d (act.respond RejectBdUnit w) lengths store
+  pub reject_bd : perform action.RejectBd (view e o n c d w lengths store) ≡ view e o n c d (act.respond RejectBdUnit w) lengths store
   unfolding perform
   reject_bd = respond RejectBdUnit

@@ -1,5 +1,7 @@
 -- Both queues purged, as Alert and Initialise do: the view of the action's result is the machine's action on the view. The machine empties
 -- both queues and then answers, the code one queue after the other.
+use Rattle.std.specs.Prelude.{None, Some}
+use Rattle.std.specs.Prelude as std
 use mathlib.Core.Path.{◌≡◌, refl, sym, ap, ◌∙◌}
 use mathlib.Core.Bool.{Bool, true, false}
 use mathlib.Core.List.{List, [], ◌++◌}
@@ -10,8 +12,8 @@ use Rattle.base.specs.Choice.{pick}
 use Rattle.base.proofs.Tests.{yes, no}
 use Rattle.store.specs.Places.{unit_at}
 use Rattle.fop.specs.Units.{Fdu}
-use Rattle.fop.specs.Table as table
-use Rattle.fop.specs.Table.{FopEvent}
+use Rattle.fop.specs.declared.Action.TheVariants as action
+use Rattle.fop.specs.declared.Event.{Event as FopEvent}
 use Rattle.fop.specs.Variables as machine
 use Rattle.fop.specs.Variables.{Entry, BcEntry}
 use Rattle.fop.specs.Machine.{perform, fdus, deny_bc, reject_waiting, purge}
@@ -58,13 +60,13 @@ module _ (e : Option FopEvent) (o : List ℕ) (n : ℕ) (c d : List Fdu) (w : Wo
   same_bare : w.queues.waiting ≡ false → Seen (act.emptied w) ≡ Seen bare
   unfolding act.not_waiting act.emptied act.release_bc_frame act.hold_control with_queues with_told
   same_bare f =
-      ap (λ (b : Bool). Seen (with_queues (record { sent = 0; marked = 0; waiting = b; control = control.None; control_marked = false }) (act.emptied w))) f
+      ap (λ (b : Bool). Seen (with_queues (record { sent = 0; marked = 0; waiting = b; control = None; control_marked = false }) (act.emptied w))) f
 
   same_denied : w.queues.waiting ≡ false → Seen (act.respond DenyDirective (act.emptied w)) ≡ Seen (act.respond DenyDirective bare)
   unfolding act.not_waiting act.emptied act.release_bc_frame act.hold_control act.respond with_queues with_told
   same_denied f =
       ap (λ (b : Bool). Seen (act.respond DenyDirective
-      (with_queues (record { sent = 0; marked = 0; waiting = b; control = control.None; control_marked = false }) (act.emptied w)))) f
+      (with_queues (record { sent = 0; marked = 0; waiting = b; control = None; control_marked = false }) (act.emptied w)))) f
 
   rejected : w.queues.waiting ≡ true → act.purge_wait_queue (act.emptied w) ≡ act.respond RejectAdUnit bare
   unfolding act.purge_wait_queue act.not_waiting act.emptied act.release_bc_frame act.hold_control act.respond with_queues with_told
@@ -102,13 +104,13 @@ module _ (e : Option FopEvent) (o : List ℕ) (n : ℕ) (c d : List Fdu) (w : Wo
   purged_none true f = ap (machine.respond RejectAdUnit) start ∙ respond e o n c (d ++ fdus Q) bare lengths store room_bare RejectAdUnit ∙ ap Seen (sym (rejected f))
   purged_none false f = start ∙ sym (same_bare f) ∙ ap Seen (sym (kept f))
 
-  purged : (k : Control)
+  purged : (k : std.Option Control)
       → reject_waiting (wait_of lengths store w.queues.sent w.queues.waiting) (deny_bc (bc_of k w.queues.control_marked) begun)
       ≡ Seen (act.purge_wait_queue (act.deny_control k (act.emptied w)))
   unfolding deny_bc act.deny_control
-  purged control.None = purged_none w.queues.waiting refl
-  purged control.Unlock = purged_control w.queues.waiting refl
-  purged (control.SetVr x) = purged_control w.queues.waiting refl
+  purged None = purged_none w.queues.waiting refl
+  purged (Some control.Unlock) = purged_control w.queues.waiting refl
+  purged (Some (control.SetVr x)) = purged_control w.queues.waiting refl
 
   pub purge_both : purge (view e o n c d w lengths store)
       ≡ view e o n c (d ++ fdus (entries_of lengths store w.variables.vs w.queues.sent w.queues.marked)) (act.purge_wait_queue (act.purge_sent_queue w)) lengths store
@@ -138,11 +140,11 @@ module _ (e : Option FopEvent) (o : List ℕ) (n : ℕ) (c d : List Fdu) (w : Wo
   purge_cancelled =
       cancelled_first (view e o n c d w lengths store) (fop_of w lengths store).queues.wait_queue (fop_of w lengths store).queues.bc_frame ∙ purge_both e o n c d (act.cancel_timer w) lengths store room
 
-  pub alert : (a : Alert) → perform (table.Alert a) (view e o n c d w lengths store) ≡ view e o n c denied_units (act.alert a w) lengths store
+  pub alert : (a : Alert) → perform (action.Alert a) (view e o n c d w lengths store) ≡ view e o n c denied_units (act.alert a w) lengths store
   unfolding perform act.alert act.notify with_told
-  alert a = ap (λ (x : machine.Work). machine.tell x.notices.abort a x.notices.suspended x) purge_cancelled
+  alert a = ap (λ (x : machine.Work). machine.tell x.notices.abort (Some a) x.notices.suspended x) purge_cancelled
 
-  pub initialise : perform table.Initialise (view e o n c d w lengths store) ≡ view e o n c denied_units (act.initialise w) lengths store
+  pub initialise : perform action.Initialise (view e o n c d w lengths store) ≡ view e o n c denied_units (act.initialise w) lengths store
   unfolding perform act.initialise act.count_one act.set_suspend_state with_variables
   initialise =
       ap (λ (a : machine.Work). machine.on_fop (machine.set_suspend 0 (machine.set_clock a.fop.clock.timer 1 a.fop)) a) (purge_both e o n c d w lengths store room)

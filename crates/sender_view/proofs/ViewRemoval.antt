@@ -1,5 +1,7 @@
 -- Remove acknowledged frames, by a number from NN(R) to V(S): the lengths and the units in the store move down, and the view of the work with
 -- them is the machine's action on the view.
+use Rattle.std.specs.Prelude.{None}
+use Rattle.std.specs.Prelude as std
 use mathlib.Core.Path.{◌≡◌, refl, sym, ap, ◌∙◌}
 use mathlib.Core.Bool.{Bool, true, false}
 use mathlib.Core.List.{List, []}
@@ -16,13 +18,12 @@ use Rattle.store.proofs.Need.{larger_second}
 use Rattle.store.specs.Places.{place_offset, unit_at, without}
 use Rattle.store.proofs.Laws.{without_unit}
 use Rattle.fop.specs.Units.{Fdu, Frame}
-use Rattle.fop.specs.Table as table
-use Rattle.fop.specs.Table.{FopEvent}
+use Rattle.fop.specs.declared.Action.TheVariants as action
+use Rattle.fop.specs.declared.Event.{Event as FopEvent}
 use Rattle.fop.specs.Variables as machine
 use Rattle.fop.specs.Variables.{Entry}
 use Rattle.fop.specs.Machine.{perform, fdus, is_acknowledged, acknowledged, unacknowledged, remove_acknowledged}
 use Rattle.sender_values.specs.declared.Handed.{Handed}
-use Rattle.sender_values.specs.declared.Handed.TheVariants as handed
 use Rattle.sender_values.specs.declared.Work.{Work}
 use Rattle.sender_values.specs.Parts.{with_variables, with_queues, with_told}
 use Rattle.sender_values.specs.Actions as act
@@ -54,7 +55,7 @@ module _ (w : Work) (lengths store : List ℕ) (n : ℕ) (well : WellFormed w le
       let h : w.queues.sent < 256 = omega (arith, well.sent_most) in
       offset_ge w.queues.sent (staying n w) (least_first w.queues.sent (offset w.variables.vs n)) h
 
-module _ (e : Option FopEvent) (o : List ℕ) (n : ℕ) (d : List Fdu) (w : Work) (lengths store : List ℕ) (first : w.told.handed ≡ handed.None) (well : WellFormed w lengths store)
+module _ (e : Option FopEvent) (o : List ℕ) (n : ℕ) (d : List Fdu) (w : Work) (lengths store : List ℕ) (first : w.told.handed ≡ None) (well : WellFormed w lengths store)
     (octet : n < 256) (in_window : offset n w.variables.nnr ≤ offset w.variables.vs w.variables.nnr) where
   abbrev rest : ℕ
   rest = staying n w
@@ -121,7 +122,7 @@ module _ (e : Option FopEvent) (o : List ℕ) (n : ℕ) (d : List Fdu) (w : Work
         ap some (ap (λ (y : ℕ). unit_at lengths y store) b ∙ sym (without_unit lengths gone store well.units kept rest (omega (arith, h, b)) kept_few kept_room))
     by false x = refl
 
-  pub remove_acknowledged_frames_lem : perform table.RemoveAcknowledgedFrames (view e o n [] d w lengths store)
+  pub remove_acknowledged_frames_lem : perform action.RemoveAcknowledgedFrames (view e o n [] d w lengths store)
       ≡ view e o n (fdus (take gone Sent)) d (act.remove_acknowledged_frames n w) slid_lengths moved
   unfolding perform remove_acknowledged act.remove_acknowledged_frames with_variables with_queues with_told
   remove_acknowledged_frames_lem =
@@ -133,7 +134,7 @@ module _ (e : Option FopEvent) (o : List ℕ) (n : ℕ) (d : List Fdu) (w : Work
       let a : gone - 0 ≡ gone = omega arith in
       let u₀ = wait_of lengths store q.sent q.waiting in
       let x₁ = entries_of slid_lengths moved v.vs rest (least q.marked rest) in
-      let fr : (lengths s : List ℕ) → frames_of t.handed lengths s o ≡ [] = λ lengths s. ap (λ (h : Handed). frames_of h lengths s o) first in
+      let fr : (lengths s : List ℕ) → frames_of t.handed lengths s o ≡ [] = λ lengths s. ap (λ (h : std.Option Handed). frames_of h lengths s o) first in
       let f₁ = frames_of t.handed slid_lengths moved o in
       ap (λ (f : List Frame). F f (acknowledged v.nnr n Sent) (unacknowledged v.nnr n Sent) u₀) (fr lengths store ∙ sym (fr slid_lengths moved))
       ∙ ap (λ (cs : List Fdu). F f₁ cs (unacknowledged v.nnr n Sent) u₀)

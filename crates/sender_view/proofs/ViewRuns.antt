@@ -1,4 +1,5 @@
 -- The runs of units that the work tells, by first number and count, are those of the machine's lists of units confirmed and denied.
+use Rattle.std.specs.Prelude.{Option, None, Some}
 use mathlib.Core.Path.{◌≡◌, refl, sym, ap, ◌∙◌}
 use mathlib.Core.Bool.{Bool, true, false}
 use mathlib.Core.List.{List, ◌∷◌}
@@ -67,11 +68,11 @@ module _ (w : Work) where
     confirmed : v.told.confirmed ≡ w.told.confirmed
     denied : v.told.denied ≡ run_from (offset w.variables.vs w.queues.sent) w.queues.sent
 
-  sent_purged_lem : (k : Control) → Purged (act.deny_control k (act.emptied w))
+  sent_purged_lem : (k : Option Control) → Purged (act.deny_control k (act.emptied w))
   unfolding act.deny_control act.respond act.emptied act.release_bc_frame act.hold_control with_queues with_told
-  sent_purged_lem control.None = record { confirmed = refl; denied = refl }
-  sent_purged_lem control.Unlock = record { confirmed = refl; denied = refl }
-  sent_purged_lem (control.SetVr x) = record { confirmed = refl; denied = refl }
+  sent_purged_lem None = record { confirmed = refl; denied = refl }
+  sent_purged_lem (Some control.Unlock) = record { confirmed = refl; denied = refl }
+  sent_purged_lem (Some (control.SetVr x)) = record { confirmed = refl; denied = refl }
 
   wait_purged_lem : (v : Work) → Purged v → Purged (act.purge_wait_queue v)
   unfolding act.purge_wait_queue act.not_waiting act.respond with_queues with_told

@@ -1,5 +1,7 @@
 -- Transmission and retransmission: the view of the action's result is the machine's action on the view. An event hands down one frame at
 -- the most, so each law that hands one down asks that none is yet.
+use Rattle.std.specs.Prelude.{None, Some}
+use Rattle.std.specs.Prelude as std
 use mathlib.Core.Path.{◌≡◌, refl, sym, ap, ◌∙◌}
 use mathlib.Core.Bool.{Bool, true, false, ◌&&◌}
 use mathlib.Core.List.{List, [], ◌∷◌, ◌++◌}
@@ -14,8 +16,8 @@ use Rattle.base.proofs.Tests.{yes, no}
 use Rattle.fop.specs.Limits.{largest_k}
 use Rattle.store.specs.Places.{unit_at}
 use Rattle.fop.specs.Units.{Fdu, Frame, AD, BD, Unlock, SetVR}
-use Rattle.fop.specs.Table as table
-use Rattle.fop.specs.Table.{FopEvent}
+use Rattle.fop.specs.declared.Action.TheVariants as action
+use Rattle.fop.specs.declared.Event.{Event as FopEvent}
 use Rattle.fop.specs.Variables as machine
 use Rattle.fop.specs.Variables.{Entry, BcEntry}
 use Rattle.fop.specs.Machine.{perform, mark_all, unmark, first_marked, count_for, transmit_ad, send_waiting, send_next, look_for_fdu, look_for_directive, mark_bc, transmit_bc}
@@ -36,7 +38,7 @@ use Rattle.sender_view.proofs.ViewAnswers.{seen, Room, more_responses}
 module _ (e : Option FopEvent) (o : List ℕ) (n : ℕ) (c d : List Fdu) (w : Work) (lengths store : List ℕ) where
   -- Initiate AD retransmission, Initiate BC retransmission
   pub initiate_ad_retransmission_lem : w.variables.transmission_count < 255
-      → perform table.InitiateAdRetransmission (view e o n c d w lengths store) ≡ view e o n c d (act.initiate_ad_retransmission w) lengths store
+      → perform action.InitiateAdRetransmission (view e o n c d w lengths store) ≡ view e o n c d (act.initiate_ad_retransmission w) lengths store
   unfolding perform act.initiate_ad_retransmission act.again act.abort act.start_timer with_variables with_queues with_told
   initiate_ad_retransmission_lem h =
       let v = w.variables in
@@ -51,13 +53,13 @@ module _ (e : Option FopEvent) (o : List ℕ) (n : ℕ) (c d : List Fdu) (w : Wo
       ∙ sym (mark_all_lem lengths store (offset v.vs q.sent) (q.sent - q.marked) 0 q.sent) in
       ap (λ (x : ℕ). F x (mark_all (entries_of lengths store v.vs q.sent q.marked))) (sym a) ∙ ap (F (advanced v.transmission_count 1)) (sym b)
 
-  marked_bc : (k : Control) (m : Bool) → mark_bc (bc_of k m) ≡ bc_of k true
-  marked_bc control.None m = refl
-  marked_bc control.Unlock m = refl
-  marked_bc (control.SetVr x) m = refl
+  marked_bc : (k : std.Option Control) (m : Bool) → mark_bc (bc_of k m) ≡ bc_of k true
+  marked_bc None m = refl
+  marked_bc (Some control.Unlock) m = refl
+  marked_bc (Some (control.SetVr x)) m = refl
 
   pub initiate_bc_retransmission_lem : w.variables.transmission_count < 255
-      → perform table.InitiateBcRetransmission (view e o n c d w lengths store) ≡ view e o n c d (act.initiate_bc_retransmission w) lengths store
+      → perform action.InitiateBcRetransmission (view e o n c d w lengths store) ≡ view e o n c d (act.initiate_bc_retransmission w) lengths store
   unfolding perform act.initiate_bc_retransmission act.hold_control act.again act.abort act.start_timer with_variables with_queues with_told
   initiate_bc_retransmission_lem h =
       let v = w.variables in
@@ -102,26 +104,26 @@ none_of : (m : ℕ) → m ≤ 0 → m ≡ 0
 none_of m h = omega arith
 
 -- Frames handed down where none was.
-module _ (e : Option FopEvent) (o : List ℕ) (n : ℕ) (c d : List Fdu) (w : Work) (lengths store : List ℕ) (first : w.told.handed ≡ handed.None) where
+module _ (e : Option FopEvent) (o : List ℕ) (n : ℕ) (c d : List Fdu) (w : Work) (lengths store : List ℕ) (first : w.told.handed ≡ None) where
   no_frames : frames_of w.told.handed lengths store o ≡ []
-  no_frames = ap (λ (h : Handed). frames_of h lengths store o) first
+  no_frames = ap (λ (h : std.Option Handed). frames_of h lengths store o) first
 
-  pub transmit_unlock_lem : perform table.TransmitUnlock (view e o n c d w lengths store) ≡ view e o n c d (act.transmit_unlock w) lengths store
+  pub transmit_unlock_lem : perform action.TransmitUnlock (view e o n c d w lengths store) ≡ view e o n c d (act.transmit_unlock w) lengths store
   unfolding perform transmit_bc act.transmit_unlock act.transmit_bc_frame act.hold_control act.hand_down act.start_timer with_variables with_queues with_told
   transmit_unlock_lem =
       ap (λ (x : List Frame). seen e o n c d w (fop_of (act.transmit_unlock w) lengths store) (x ++ (Unlock ∷ [])) (responses_of w.told.responses)) no_frames
 
-  pub transmit_set_vr_lem : perform table.TransmitSetVr (view e o n c d w lengths store) ≡ view e o n c d (act.transmit_set_vr n w) lengths store
+  pub transmit_set_vr_lem : perform action.TransmitSetVr (view e o n c d w lengths store) ≡ view e o n c d (act.transmit_set_vr n w) lengths store
   unfolding perform transmit_bc act.transmit_set_vr act.transmit_bc_frame act.hold_control act.hand_down act.start_timer with_variables with_queues with_told
   transmit_set_vr_lem =
       ap (λ (x : List Frame). seen e o n c d w (fop_of (act.transmit_set_vr n w) lengths store) (x ++ (SetVR n ∷ [])) (responses_of w.told.responses)) no_frames
 
-  pub transmit_bd : perform table.TransmitBd (view e o n c d w lengths store) ≡ view e o n c d (act.transmit_bd_frame w) lengths store
+  pub transmit_bd : perform action.TransmitBd (view e o n c d w lengths store) ≡ view e o n c d (act.transmit_bd_frame w) lengths store
   unfolding perform act.transmit_bd_frame act.hand_down with_variables with_told
   transmit_bd = ap (λ (x : List Frame). seen e o n c d w (fop_of (act.transmit_bd_frame w) lengths store) (x ++ (BD o ∷ [])) (responses_of w.told.responses)) no_frames
 
   -- Look for directive, with the frame x on the Sent_Queue
-  looked : (x : Frame) (h : Handed) → frames_of h lengths store o ≡ x ∷ [] → bc_of w.queues.control false ≡ some (record { frame = x; marked = false })
+  looked : (x : Frame) (h : std.Option Handed) → frames_of h lengths store o ≡ x ∷ [] → bc_of w.queues.control false ≡ some (record { frame = x; marked = false })
       → (a m : Bool) → w.variables.bc_out ≡ a → w.queues.control_marked ≡ m
       → look_for_directive (some (record { frame = x; marked = w.queues.control_marked })) (view e o n c d w lengths store) ≡ view e o n c d (pick a (pick m (act.send_control h w) w) w) lengths store
   unfolding look_for_directive act.send_control act.hold_control act.hand_down with_variables with_queues with_told
@@ -136,16 +138,16 @@ module _ (e : Option FopEvent) (o : List ℕ) (n : ℕ) (c d : List Fdu) (w : Wo
   looked x h f b false true p q = no (w.queues.control_marked && w.variables.bc_out) _ _ (rw (q, p))
   looked x h f b false false p q = no (w.queues.control_marked && w.variables.bc_out) _ _ (rw q)
 
-  looked_of : (k : Control) → w.queues.control ≡ k
+  looked_of : (k : std.Option Control) → w.queues.control ≡ k
       → look_for_directive (bc_of k w.queues.control_marked) (view e o n c d w lengths store) ≡ view e o n c d (act.look_for_directive_of k w) lengths store
   unfolding act.look_for_directive_of act.send_marked_control look_for_directive
-  looked_of control.None p = refl
-  looked_of control.Unlock p =
-      looked Unlock handed.Unlock refl (ap (λ (k : Control). bc_of k false) p) w.variables.bc_out w.queues.control_marked refl refl
-  looked_of (control.SetVr x) p =
-      looked (SetVR x) (handed.SetVr x) refl (ap (λ (k : Control). bc_of k false) p) w.variables.bc_out w.queues.control_marked refl refl
+  looked_of None p = refl
+  looked_of (Some control.Unlock) p =
+      looked Unlock (Some handed.Unlock) refl (ap (λ (k : std.Option Control). bc_of k false) p) w.variables.bc_out w.queues.control_marked refl refl
+  looked_of (Some (control.SetVr x)) p =
+      looked (SetVR x) (Some (handed.SetVr x)) refl (ap (λ (k : std.Option Control). bc_of k false) p) w.variables.bc_out w.queues.control_marked refl refl
 
-  pub look_for_directive_lem : perform table.LookForDirective (view e o n c d w lengths store) ≡ view e o n c d (act.look_for_directive w) lengths store
+  pub look_for_directive_lem : perform action.LookForDirective (view e o n c d w lengths store) ≡ view e o n c d (act.look_for_directive w) lengths store
   unfolding perform
   look_for_directive_lem = looked_of w.queues.control refl
 
@@ -209,7 +211,7 @@ module _ (e : Option FopEvent) (o : List ℕ) (n : ℕ) (c d : List Fdu) (w : Wo
     unfolding send_waiting
     send_none = refl
 
-    pub look_for_fdu_lem : perform table.LookForFdu (view e o n c d w lengths store) ≡ view e o n c d (act.look_for_fdu w) lengths store
+    pub look_for_fdu_lem : perform action.LookForFdu (view e o n c d w lengths store) ≡ view e o n c d (act.look_for_fdu w) lengths store
     unfolding perform look_for_fdu act.look_for_fdu
     look_for_fdu_lem = by w.variables.ad_out (ltb 0 w.queues.marked) refl w.queues.waiting refl (act.in_window w) refl where
       zero_marked : ltb 0 w.queues.marked ≡ false → w.queues.marked ≡ 0

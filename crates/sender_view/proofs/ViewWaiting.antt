@@ -1,5 +1,7 @@
 -- Add to Wait_Queue: the unit is put into the store behind the sent ones, and they are as they were. So the view of the work and of the
 -- store after it is the machine's action on the view.
+use Rattle.std.specs.Prelude.{None}
+use Rattle.std.specs.Prelude as std
 use mathlib.Core.Path.{◌≡◌, refl, sym, ap, ◌∙◌}
 use mathlib.Core.List.{List, [], ◌∷◌}
 use mathlib.Core.Option.{Option, some}
@@ -13,13 +15,12 @@ use Rattle.store.proofs.Need.{larger_second}
 use Rattle.store.specs.Places.{place_offset, unit_put}
 use Rattle.store.proofs.Laws.{put_there, put_before}
 use Rattle.fop.specs.Units.{Fdu, Frame}
-use Rattle.fop.specs.Table as table
-use Rattle.fop.specs.Table.{FopEvent}
+use Rattle.fop.specs.declared.Action.TheVariants as action
+use Rattle.fop.specs.declared.Event.{Event as FopEvent}
 use Rattle.fop.specs.Variables as machine
 use Rattle.fop.specs.Variables.{Entry}
 use Rattle.fop.specs.Machine.{perform}
 use Rattle.sender_values.specs.declared.Handed.{Handed}
-use Rattle.sender_values.specs.declared.Handed.TheVariants as handed
 use Rattle.sender_values.specs.declared.Work.{Work}
 use Rattle.sender_values.specs.Parts.{with_queues}
 use Rattle.sender_values.specs.Actions as act
@@ -41,9 +42,9 @@ module _ (lengths store u : List ℕ) (f p sent : ℕ) (units : (i : ℕ) → ge
       (put_before lengths store u sent units i (omega arith))
       ∙ ap (λ (xs : List Entry). entry_at lengths store f p i ∷ xs) (entries_same (suc i) n (omega arith))
 
-module _ (e : Option FopEvent) (o : List ℕ) (n : ℕ) (c d : List Fdu) (w : Work) (lengths store : List ℕ) (first : w.told.handed ≡ handed.None)
+module _ (e : Option FopEvent) (o : List ℕ) (n : ℕ) (c d : List Fdu) (w : Work) (lengths store : List ℕ) (first : w.told.handed ≡ None)
     (well : WellFormed w lengths store) (legal : length o ≤ largest_unit) where
-  pub add_to_wait_queue_lem : perform table.AddToWaitQueue (view e o n c d w lengths store)
+  pub add_to_wait_queue_lem : perform action.AddToWaitQueue (view e o n c d w lengths store)
       ≡ view e o n c d (act.add_to_wait_queue w) (set lengths w.queues.sent (length o)) (unit_put w.queues.sent o store)
   unfolding perform act.add_to_wait_queue with_queues
   add_to_wait_queue_lem =
@@ -55,7 +56,7 @@ module _ (e : Option FopEvent) (o : List ℕ) (n : ℕ) (c d : List Fdu) (w : Wo
       let after = unit_put q.sent o store in
       let F : List Frame → List Entry → List ℕ → machine.Work = λ fr xs u.
       seen e o n c d w (machine.set_wait (some u) (machine.set_sequence v.vs v.nnr xs (fop_of w lengths store))) fr (responses_of w.told.responses) in
-      let fr : (ls s : List ℕ) → frames_of w.told.handed ls s o ≡ [] = λ ls s. ap (λ (h : Handed). frames_of h ls s o) first in
+      let fr : (ls s : List ℕ) → frames_of w.told.handed ls s o ≡ [] = λ ls s. ap (λ (h : std.Option Handed). frames_of h ls s o) first in
       ap (λ (y : List Frame). F y (entries_of lengths store v.vs q.sent q.marked) o) (fr lengths store ∙ sym (fr more after))
       ∙ ap (λ (xs : List Entry). F (frames_of w.told.handed more after o) xs o)
       (sym (entries_same lengths store o (offset v.vs q.sent) (q.sent - q.marked) q.sent well.units 0 q.sent (omega arith)))

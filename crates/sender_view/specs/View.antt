@@ -1,5 +1,6 @@
 -- What the work and the store of units are to the table machine (crate fop, specs/Variables and specs/Machine).
-use Rattle.std.specs.Prelude.{ℕ, zero, suc, ◌-◌, ◌≤◌, ◌<◌, ◌≡◌, Bool, List, [], ◌∷◌, map, eqb, leb, length, take, get_or}
+use Rattle.std.specs.Prelude as std
+use Rattle.std.specs.Prelude.{ℕ, zero, suc, ◌-◌, ◌≤◌, ◌<◌, ◌≡◌, Bool, List, [], ◌∷◌, map, eqb, leb, length, take, get_or, None, Some}
 use Rattle.std.proofs.Math.Option.{Option, none, some}
 use Rattle.base.specs.Choice.{pick}
 use Rattle.base.specs.Limits.{largest_unit}
@@ -8,7 +9,7 @@ use Rattle.store.specs.Places.{places, unit_at}
 use Rattle.fop.specs.Limits.{largest_k}
 use Rattle.fop.specs.Store.{store_need}
 use Rattle.fop.specs.Units.{Fdu, Frame, AD, BD, Unlock, SetVR}
-use Rattle.fop.specs.Table as table
+use Rattle.fop.specs.declared.Event.{Event as FopEvent}
 use Rattle.fop.specs.Variables as machine
 use Rattle.fop.specs.declared.Response.{Response}
 use Rattle.fop.specs.declared.Response.TheVariants.{AcceptAdUnit, RejectAdUnit, AcceptBdUnit, RejectBdUnit, AcceptDirective, RejectDirective, ConfirmDirective, DenyDirective}
@@ -38,10 +39,10 @@ abbrev pub wait_of : List ℕ → List ℕ → ℕ → Bool → Option (List ℕ
 wait_of lengths store sent waiting = pick waiting (some (unit_at lengths sent store)) none
 
 -- the type-BC frame on the Sent_Queue
-abbrev pub bc_of : Control → Bool → Option BcEntry
-bc_of control.None marked = none
-bc_of control.Unlock marked = some (record { frame = Unlock; marked = marked })
-bc_of (control.SetVr n) marked = some (record { frame = SetVR n; marked = marked })
+abbrev pub bc_of : std.Option Control → Bool → Option BcEntry
+bc_of None marked = none
+bc_of (Some control.Unlock) marked = some (record { frame = Unlock; marked = marked })
+bc_of (Some (control.SetVr n)) marked = some (record { frame = SetVR n; marked = marked })
 
 -- FOP-1's variables (clause 7.2.2), by the lengths and octets of the units in the store
 abbrev pub fop_of : Work → List ℕ → List ℕ → Fop
@@ -65,12 +66,12 @@ fop_of w lengths store = record {
 }
 
 -- the frame handed down; o is the unit of a BD request
-abbrev pub frames_of : Handed → List ℕ → List ℕ → List ℕ → List Frame
-frames_of handed.None lengths store o = []
-frames_of (handed.Ad n i) lengths store o = AD (record { ns = n; octets = unit_at lengths i store }) ∷ []
-frames_of handed.Bd lengths store o = BD o ∷ []
-frames_of handed.Unlock lengths store o = Unlock ∷ []
-frames_of (handed.SetVr n) lengths store o = SetVR n ∷ []
+abbrev pub frames_of : std.Option Handed → List ℕ → List ℕ → List ℕ → List Frame
+frames_of None lengths store o = []
+frames_of (Some (handed.Ad n i)) lengths store o = AD (record { ns = n; octets = unit_at lengths i store }) ∷ []
+frames_of (Some handed.Bd) lengths store o = BD o ∷ []
+frames_of (Some handed.Unlock) lengths store o = Unlock ∷ []
+frames_of (Some (handed.SetVr n)) lengths store o = SetVR n ∷ []
 
 -- a response by its number (crate sender_values, specs/Actions, `response_number`)
 abbrev pub response_of : ℕ → Response
@@ -86,7 +87,7 @@ abbrev pub responses_of : Responses → List Response
 responses_of r = map response_of (take r.count r.numbers)
 
 -- the work on the event e with the unit o and the value n; c is confirmed and d denied so far, of which the work holds the runs
-abbrev pub view : Option table.FopEvent → List ℕ → ℕ → List Fdu → List Fdu → Work → List ℕ → List ℕ → machine.Work
+abbrev pub view : Option FopEvent → List ℕ → ℕ → List Fdu → List Fdu → Work → List ℕ → List ℕ → machine.Work
 view e o n c d w lengths store = record {
   fop = fop_of w lengths store;
   asked = record { event = e; octets = o; value = n };

@@ -5,15 +5,19 @@ use mathlib.Core.Bool.{Bool, true, false}
 use mathlib.Core.List.{List, [], ◌∷◌}
 use mathlib.Core.Option.{Option, some}
 use Prim.Native.Nat.{ℕ}
+use Rattle.std.specs.Prelude as code
+use Rattle.std.specs.Prelude.{None, Some}
 use lib.Dec.{T, ltb, eqb}
 use borrow.Author.Tests.{eqb-true}
 use Rattle.fop.specs.declared.Alert.{Alert as Reason}
-use Rattle.fop.specs.declared.Alert.TheVariants.{None, Synch, Clcw, Limit, Nnr, Lockout, T1, Term, Llif}
+use Rattle.fop.specs.declared.Alert.TheVariants.{Synch, Clcw, Limit, Nnr, Lockout, T1, Term, Llif}
 use Rattle.fop.specs.declared.State.{State}
-use Rattle.fop.specs.Table.{Cell, cell, NotApplicable, Action, table78, cell78, Accept, Reject}
-use Rattle.fop.specs.Table.{Confirm, RejectAd, AcceptBd, RejectBd, AddToWaitQueue, LookForFdu, LookForDirective, RemoveAcknowledgedFrames, InitiateAdRetransmission}
-use Rattle.fop.specs.Table.{InitiateBcRetransmission, ReleaseBcFrame, CancelTimer, StartTimer, Alert, Initialise, TransmitUnlock, TransmitSetVr, TransmitBd}
-use Rattle.fop.specs.Table.{SetVs, SetNnr, SetK, SetT1Initial, SetTransmissionLimit, SetTimeoutType, AdOutReady, BcOutReady, BdOutReady}
+use Rattle.fop.specs.declared.Action.{Action}
+use Rattle.fop.specs.declared.Action.TheVariants.{Accept, Reject}
+use Rattle.fop.specs.Table.{Cell, cell, NotApplicable, table78, cell78}
+use Rattle.fop.specs.declared.Action.TheVariants.{Confirm, RejectAd, AcceptBd, RejectBd, AddToWaitQueue, LookForFdu, LookForDirective, RemoveAcknowledgedFrames, InitiateAdRetransmission}
+use Rattle.fop.specs.declared.Action.TheVariants.{InitiateBcRetransmission, ReleaseBcFrame, CancelTimer, StartTimer, Alert, Initialise, TransmitUnlock, TransmitSetVr, TransmitBd}
+use Rattle.fop.specs.declared.Action.TheVariants.{SetVs, SetNnr, SetK, SetT1Initial, SetTransmissionLimit, SetTimeoutType, AdOutReady, BcOutReady, BdOutReady}
 use Rattle.fop.specs.Variables.{Work, begin}
 use Rattle.fop.specs.Effective.{effective}
 use Rattle.fop.specs.Machine.{fop_do, perform_cell, perform, send_next, send_waiting, transmit_ad, transmit_bc}
@@ -24,15 +28,16 @@ use Rattle.session.specs.Ends.{SessionDirective}
 use Rattle.session.proofs.Suspended.{session_all}
 use Rattle.fop.proofs.Test.{first_all, lower_all, lowered, tick_ways, Keeps, where_so, all_keep, all_keep_lem}
 use Rattle.session.proofs.Rows.{mode_of, sound, at_all, at_cell}
-use Rattle.fop.specs.Table.{if_not_suspended, Ignore, SetSuspendState, Suspend, Resume}
-use Rattle.fop.specs.Table.{FopEvent}
+use Rattle.fop.specs.declared.Action.TheVariants.{Ignore, SetSuspendState, Suspend, Resume}
+use Rattle.fop.specs.Table.{if_not_suspended}
+use Rattle.fop.specs.declared.Event.{Event as FopEvent}
 use Rattle.fop.specs.Variables.{Fop}
 use Rattle.fop.specs.declared.Lower.{Lower}
 use Rattle.fop.specs.Events.{when, first, expiry_lines, fop_expiry, fop_tick, fop_lower, fop_ad, fop_bd, is_empty, fop_directive}
 
 -- no alert, or one that p allows
-abbrev pub Allowed : (Reason → Bool) → Reason → Type 0
-Allowed p r = (r ≡ None) ⊎ ((q : Reason) × (r ≡ q) × T (p q))
+abbrev pub Allowed : (Reason → Bool) → code.Option Reason → Type 0
+Allowed p r = (r ≡ None) ⊎ ((q : Reason) × (r ≡ Some q) × T (p q))
 
 abbrev AllowedAlert : (Reason → Bool) → Work → Type 0
 AllowedAlert p w = Allowed p w.notices.alert
@@ -88,7 +93,6 @@ cell_allowed_lem p (if_not_suspended xs ys s) w t h = absurd t
 
 -- the alerts of an event that is neither a word nor a tick: of Terminate, of the lower layer
 abbrev pub own_alert : Reason → Bool
-own_alert None = false
 own_alert Synch = false
 own_alert Clcw = false
 own_alert Limit = false
@@ -100,7 +104,6 @@ own_alert Llif = true
 
 -- that of the timer
 abbrev timer_alert : Reason → Bool
-timer_alert None = false
 timer_alert Synch = false
 timer_alert Clcw = false
 timer_alert Limit = false
@@ -140,12 +143,11 @@ module _ (f : Fop) (g : T (sound (mode_of (effective f)))) where
       go true = do_allowed (λ r. false) FopEvent.E104 [] 0 (lowered f) tt g
       go false = do_allowed (λ r. false) FopEvent.E18 [] 0 (lowered f) tt g
 
-  pub tick_alerts : ((fop_tick f).notices.alert ≡ None) ⊎ (((fop_tick f).notices.alert ≡ T1) × (f.preset.timeout_type ≡ 0))
+  pub tick_alerts : ((fop_tick f).notices.alert ≡ None) ⊎ (((fop_tick f).notices.alert ≡ Some T1) × (f.preset.timeout_type ≡ 0))
   tick_alerts = by (eqb f.preset.timeout_type 0) refl
     where
-      timer : (r : Reason) → Allowed timer_alert r → (r ≡ None) ⊎ (r ≡ T1)
+      timer : (r : code.Option Reason) → Allowed timer_alert r → (r ≡ None) ⊎ (r ≡ Some T1)
       timer r (inl e) = inl e
-      timer r (inr (None, e, t)) = absurd t
       timer r (inr (Synch, e, t)) = absurd t
       timer r (inr (Clcw, e, t)) = absurd t
       timer r (inr (Limit, e, t)) = absurd t
@@ -155,8 +157,8 @@ module _ (f : Fop) (g : T (sound (mode_of (effective f)))) where
       timer r (inr (Term, e, t)) = absurd t
       timer r (inr (Llif, e, t)) = absurd t
 
-      alerting : f.preset.timeout_type ≡ 0 → ((fop_tick f).notices.alert ≡ None) ⊎ ((fop_tick f).notices.alert ≡ T1)
-          → ((fop_tick f).notices.alert ≡ None) ⊎ (((fop_tick f).notices.alert ≡ T1) × (f.preset.timeout_type ≡ 0))
+      alerting : f.preset.timeout_type ≡ 0 → ((fop_tick f).notices.alert ≡ None) ⊎ ((fop_tick f).notices.alert ≡ Some T1)
+          → ((fop_tick f).notices.alert ≡ None) ⊎ (((fop_tick f).notices.alert ≡ Some T1) × (f.preset.timeout_type ≡ 0))
       alerting z (inl e) = inl e
       alerting z (inr e) = inr (e, z)
 
@@ -165,7 +167,7 @@ module _ (f : Fop) (g : T (sound (mode_of (effective f)))) where
       none (inr (q, e, t)) = absurd t
 
       by : (b : Bool) → eqb f.preset.timeout_type 0 ≡ b
-          → ((fop_tick f).notices.alert ≡ None) ⊎ (((fop_tick f).notices.alert ≡ T1) × (f.preset.timeout_type ≡ 0))
+          → ((fop_tick f).notices.alert ≡ None) ⊎ (((fop_tick f).notices.alert ≡ Some T1) × (f.preset.timeout_type ≡ 0))
       by true e = alerting (eqb-true f.preset.timeout_type 0 e) (timer _ alerting_tick)
       by false e = inl (none (suspending_tick e))
 

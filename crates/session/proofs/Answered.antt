@@ -18,7 +18,7 @@ use Rattle.session.specs.Session.{Linked}
 use Rattle.session.specs.Stronger.{LimitOnly, InSession}
 use Rattle.fop.specs.Events as fop
 use Rattle.fop.specs.declared.Alert.{Alert}
-use Rattle.fop.specs.declared.Alert.TheVariants.{None, Synch, Clcw, Limit, Nnr, Lockout, T1, Term, Llif}
+use Rattle.fop.specs.declared.Alert.TheVariants.{Synch, Clcw, Limit, Nnr, Lockout, T1, Term, Llif}
 use Rattle.session.specs.Stronger.{KnownAlert}
 use Rattle.suspension.specs.Suspension.{suspends_at}
 use Rattle.suspension.proofs.Told.{tick_told}
@@ -42,26 +42,28 @@ use Rattle.receiver.specs.Receiver as farm
 use Rattle.farm.specs.declared.Event.TheVariants.{E10}
 use Rattle.receiver.specs.declared.Receiver.{Receiver}
 use Rattle.receiver.specs.declared.Received.{Received}
-use Rattle.receiver.specs.declared.Released.TheVariants.{Done, NoneTaken}
+use Rattle.std.specs.Prelude as code
+use Rattle.base.specs.Refusals.{optional_number}
+use Rattle.std.specs.Prelude.{None, Some, Ok, Err}
+use Rattle.base.specs.declared.Refusal.TheVariants.{Release}
 use Rattle.session.specs.Receiver.{frame_arrives, release_buffer, ReceiverAnswer, release_answer, receiver_answer}
 
-own_known : (set : Settings) (r : Alert) → Allowed own_alert r → KnownAlert set r
+own_known : (set : Settings) (r : code.Option Alert) → Allowed own_alert r → KnownAlert set r
 own_known set r (inl e) = inl e
 own_known set r (inr (Term, e, t)) = inr (inl e)
 own_known set r (inr (T1, e, t)) = absurd t
 own_known set r (inr (Llif, e, t)) = inr (inr (inr (inl e)))
-own_known set r (inr (None, e, t)) = absurd t
 own_known set r (inr (Synch, e, t)) = absurd t
 own_known set r (inr (Clcw, e, t)) = absurd t
 own_known set r (inr (Nnr, e, t)) = absurd t
 own_known set r (inr (Lockout, e, t)) = absurd t
 own_known set r (inr (Limit, e, t)) = absurd t
 
-timer_known : (set : Settings) (r : Alert) (type : ℕ) → type ≡ set.timeout_type → (r ≡ None) ⊎ ((r ≡ T1) × (type ≡ 0)) → KnownAlert set r
+timer_known : (set : Settings) (r : code.Option Alert) (type : ℕ) → type ≡ set.timeout_type → (r ≡ None) ⊎ ((r ≡ Some T1) × (type ≡ 0)) → KnownAlert set r
 timer_known set r type s (inl e) = inl e
 timer_known set r type s (inr e) = inr (inr (inl (e.0, sym s ∙ e.1)))
 
-limit_known : (set : Settings) (r : Alert) → LimitOnly set.limit r → KnownAlert set r
+limit_known : (set : Settings) (r : code.Option Alert) → LimitOnly set.limit r → KnownAlert set r
 limit_known set r (inl e) = inl e
 limit_known set r (inr e) = inr (inr (inr (inr e)))
 
@@ -165,8 +167,8 @@ module _ (set : Settings) (vw : Within set) (m : Ends) (t : Tied set m) (σ : Li
   oldest [] s fs h e = let z : ◌≡◌ {A = ℕ} 0 1 = cc in absurd (omega arith)
   oldest (x ∷ xs) s fs h e =
       let a : s ≡ written set.own x = cc in
-      ap (λ (y : List ℕ). (farm.receive_of (receiver_of set (used κ) κ.farm) y).refusal) a
-      ∙ ap (λ (y : Received). y.refusal) (received_is set vw (used κ) κ.farm x h.0)
+      ap (λ (y : List ℕ). optional_number (farm.receive_of (receiver_of set (used κ) κ.farm) y).refusal) a
+      ∙ ap (λ (y : Received). optional_number y.refusal) (received_is set vw (used κ) κ.farm x h.0)
 
   pub frame_refusal_lem : (s : List ℕ) (fs : List (List ℕ)) → σ.frames ≡ s ∷ fs → (m.answer_receiver (frame_arrives s) σ.receiver).refusal ≡ 0
   frame_refusal_lem s fs e =
@@ -186,6 +188,6 @@ module _ (set : Settings) (vw : Within set) (m : Ends) (t : Tied set m) (σ : Li
       (go (is_held κ) refl)
     where
       go : (b : Bool) → ltb 0 (length κ.accepted - κ.released) ≡ b
-          → ReleasedOrNot (release_answer (must b NoneTaken (Done (farm.answered 0 E10 0 (receiver_of set (used κ - 1) κ.farm)))))
+          → ReleasedOrNot (release_answer (must b (Err Release) (Ok (farm.answered code.None E10 0 (receiver_of set (used κ - 1) κ.farm)))))
       go true z = inl (refl, omega (arith, ltb-true 0 (length κ.accepted - κ.released) z))
       go false z = inr (refl, omega (arith, ltb-false 0 (length κ.accepted - κ.released) z, R.stock.below))

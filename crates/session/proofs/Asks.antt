@@ -12,7 +12,9 @@ use Rattle.base.specs.Modulo.{advanced, offset}
 use Rattle.fop.specs.Units.{Fdu, Word, legal, word_octets}
 use Rattle.fop.specs.declared.State.{State}
 use Rattle.fop.specs.declared.State.TheVariants.{S1, S2, S3, S4, S5, S6}
-use Rattle.fop.specs.Table.{FopEvent, table78, cell78, InitiateAdRetransmission}
+use Rattle.fop.specs.declared.Action.TheVariants.{InitiateAdRetransmission}
+use Rattle.fop.specs.declared.Event.{Event as FopEvent}
+use Rattle.fop.specs.Table.{table78, cell78}
 use Rattle.fop.specs.Variables.{Fop, Work, Preset, begin}
 use Rattle.fop.specs.Machine.{first_marked, fop_do, perform_cell, perform_all, perform, look_for_fdu}
 use Rattle.fop.specs.declared.Response.TheVariants.{AcceptAdUnit}

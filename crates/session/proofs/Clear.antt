@@ -11,8 +11,9 @@ use Rattle.base.specs.Modulo.{advanced, offset}
 use Rattle.fop.specs.Units.{Fdu, AD, Word, word_octets}
 use Rattle.fop.specs.declared.State.{State}
 use Rattle.fop.specs.declared.State.TheVariants.{S1}
-use Rattle.fop.specs.Table.{FopEvent, table78, cell78}
-use Rattle.fop.specs.Table.{RemoveAcknowledgedFrames, CancelTimer}
+use Rattle.fop.specs.declared.Event.{Event as FopEvent}
+use Rattle.fop.specs.Table.{table78, cell78}
+use Rattle.fop.specs.declared.Action.TheVariants.{RemoveAcknowledgedFrames, CancelTimer}
 use Rattle.fop.specs.Variables.{Fop, Work, Entry, Preset, begin}
 use Rattle.fop.specs.Machine.{fdus, first_marked, fop_do, perform_cell, perform_all, perform, look_for_fdu, send_next}
 use Rattle.fop.specs.Variables.{set_state, on_fop}

@@ -19,7 +19,8 @@ use Rattle.farm.specs.declared.Event.{Event as FarmEvent}
 use Rattle.farm.specs.declared.Event.TheVariants as farm
 use Rattle.farm.specs.declared.Variables.{Variables}
 use Rattle.farm.specs.declared.AcceptedUnit.{AcceptedUnit}
-use Rattle.farm.specs.declared.AcceptedUnit.TheVariants.{None, AdUnit, BdUnit}
+use Rattle.std.specs.Prelude.{Some, None}
+use Rattle.std.specs.Prelude as code
 use Rattle.session.specs.Receiver.{word_length}
 use Rattle.session.specs.Ends.{Settings}
 use Rattle.session.specs.Session.{Event, ad_request, bd_request, ticks, lower_says, terminate, resume, word_in, word_lost, word_made, frame_in, frame_lost, release, add_sent, add_bd, places, rest}
@@ -149,10 +150,9 @@ star (SetVR v) = v
 star (Refused r) = 0
 
 -- a unit is handed out
-abbrev pub is_handed : AcceptedUnit → Bool
+abbrev pub is_handed : code.Option AcceptedUnit → Bool
 is_handed None = false
-is_handed AdUnit = true
-is_handed BdUnit = true
+is_handed (Some unit) = true
 
 -- the frame is handed out
 abbrev pub handed : ℕ → Bool → Frame → Variables → Bool

@@ -10,8 +10,9 @@ use Prim.Native.Nat.{ℕ, ◌+◌, ◌≤◌}
 use native.Mathlib.Omega.{arith}
 use lib.ListN.{length}
 use Rattle.fop.specs.Units.{invalid, read_word, word_octets}
-use Rattle.fop.specs.Table.{FopEvent}
+use Rattle.fop.specs.declared.Event.{Event as FopEvent}
 use Rattle.fop.specs.declared.Alert.TheVariants.{Clcw}
+use Rattle.std.specs.Prelude.{Some}
 use Rattle.fop.specs.declared.State.TheVariants.{S6}
 use Rattle.fop.specs.declared.Lower.TheVariants.{AdAccept}
 use Rattle.fop.specs.Events.{word_arrives}
@@ -71,7 +72,7 @@ word_comes o σ = to_sender set (tables set) (word_arrives o) 256 σ.words σ
 
 pub invalid_alerts : (read_word set.own invalid_word ≡ invalid)
     × ((sender_answer set.own (word_arrives invalid_word) 256 start.sender).event ≡ some FopEvent.E15)
-    × ((sender_answer set.own (word_arrives invalid_word) 256 start.sender).alert ≡ Clcw)
+    × ((sender_answer set.own (word_arrives invalid_word) 256 start.sender).alert ≡ Some Clcw)
     × ((word_comes invalid_word start).sender.state ≡ S6)
 unfolding computing
 invalid_alerts = (refl, refl, refl, refl)
@@ -79,7 +80,7 @@ invalid_alerts = (refl, refl, refl, refl)
 pub refuted_invalid : LimitOnly set.limit (sender_answer set.own (word_arrives invalid_word) 256 start.sender).alert → ⊥
 refuted_invalid h = no_clcw (subst (LimitOnly set.limit) invalid_alerts.2 h)
   where
-    no_clcw : LimitOnly set.limit Clcw → ⊥
+    no_clcw : LimitOnly set.limit (Some Clcw) → ⊥
     no_clcw (inl e) = let z : ◌≡◌ {A = ℕ} 0 1 = cc in omega arith
     no_clcw (inr h) = omega (arith, h.1)
 

@@ -12,7 +12,8 @@ use lib.Dec.{T, eqb, eqb→eq}
 use Rattle.fop.specs.Units.{Frame, AD, BD, Unlock, SetVR, Refused, Own, Word, WordReceived, valid, invalid, other, written, read_word, word_octets}
 use Rattle.fop.specs.declared.State.{State}
 use Rattle.fop.specs.declared.State.TheVariants.{S1, S2, S3, S4, S5, S6}
-use Rattle.fop.specs.Table.{Cell, cell, if_not_suspended, NotApplicable, FopEvent, table78, cell78}
+use Rattle.fop.specs.declared.Event.{Event as FopEvent}
+use Rattle.fop.specs.Table.{Cell, cell, if_not_suspended, NotApplicable, table78, cell78}
 use Rattle.fop.specs.Variables.{Fop, Work, begin}
 use Rattle.fop.specs.Effective.{effective}
 use Rattle.fop.specs.Machine.{perform, perform_all, perform_cell, fop_do}

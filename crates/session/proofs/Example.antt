@@ -9,7 +9,7 @@ use Rattle.session.specs.Session as ses
 use Rattle.fop.specs.Units.{Fdu}
 use Rattle.fop.specs.declared.State.TheVariants.{S1, S2, S3, S6}
 use Rattle.fop.specs.declared.Alert.TheVariants.{Limit, T1, Term}
-use Rattle.fop.specs.Table.{E1, E2, E5, E9, E10, E16, E17, E19, E21, E22, E29, E41, E45, E101}
+use Rattle.fop.specs.declared.Event.TheVariants.{E1, E2, E5, E9, E10, E16, E17, E19, E21, E22, E29, E41, E45, E101}
 use Rattle.fop.specs.declared.Response.TheVariants.{AcceptAdUnit, RejectAdUnit, AcceptBdUnit, RejectBdUnit, AcceptDirective, ConfirmDirective}
 use Rattle.fop.specs.declared.Lower.TheVariants.{AdAccept, BdAccept}
 use Rattle.session.specs.Ends.{Settings, tables}

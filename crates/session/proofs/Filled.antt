@@ -9,9 +9,8 @@ use lib.Dec.{leb}
 use lib.ListN.{length}
 use Rattle.base.specs.Choice.{pick}
 use Rattle.base.specs.Octets.{Octets}
-use Rattle.frame.specs.Answers.{reading_of, part_of}
+use Rattle.frame.specs.Answers.{FrameReading, reading_of, part_of}
 use Rattle.frame.specs.declared.Kind.TheVariants as kind
-use Rattle.frame.specs.declared.FrameReading.{FrameReading}
 use Rattle.fop.specs.Units.{Frame, AD, BD, Unlock, SetVR, Refused, Own, are_octets, written}
 use Rattle.farm.specs.declared.Variables.{Variables}
 use Rattle.receiver.specs.Receiver as farm

@@ -15,10 +15,13 @@ use Rattle.base.specs.Modulo.{offset, advanced}
 use Rattle.fop.specs.Units.{Fdu, Frame, AD, BD, Unlock, SetVR, Refused}
 use Rattle.fop.specs.declared.State.{State}
 use Rattle.fop.specs.declared.State.TheVariants.{S1, S2, S3, S4, S5, S6}
-use Rattle.fop.specs.Table.{Action, Cell, cell, NotApplicable, FopEvent, table78, cell78, Accept, Reject, Confirm, RejectAd}
-use Rattle.fop.specs.Table.{AcceptBd, RejectBd, AddToWaitQueue, LookForFdu, LookForDirective, RemoveAcknowledgedFrames, InitiateAdRetransmission, InitiateBcRetransmission}
-use Rattle.fop.specs.Table.{ReleaseBcFrame, CancelTimer, StartTimer, Alert, Initialise, TransmitUnlock, TransmitSetVr, TransmitBd, SetVs, SetNnr, SetK}
-use Rattle.fop.specs.Table.{SetT1Initial, SetTransmissionLimit, SetTimeoutType, AdOutReady, BcOutReady, BdOutReady}
+use Rattle.fop.specs.declared.Action.{Action}
+use Rattle.fop.specs.declared.Action.TheVariants.{Accept, Reject, Confirm, RejectAd}
+use Rattle.fop.specs.declared.Event.{Event as FopEvent}
+use Rattle.fop.specs.Table.{Cell, cell, NotApplicable, table78, cell78}
+use Rattle.fop.specs.declared.Action.TheVariants.{AcceptBd, RejectBd, AddToWaitQueue, LookForFdu, LookForDirective, RemoveAcknowledgedFrames, InitiateAdRetransmission, InitiateBcRetransmission}
+use Rattle.fop.specs.declared.Action.TheVariants.{ReleaseBcFrame, CancelTimer, StartTimer, Alert, Initialise, TransmitUnlock, TransmitSetVr, TransmitBd, SetVs, SetNnr, SetK}
+use Rattle.fop.specs.declared.Action.TheVariants.{SetT1Initial, SetTransmissionLimit, SetTimeoutType, AdOutReady, BcOutReady, BdOutReady}
 use Rattle.fop.specs.Variables.{Work}
 use Rattle.fop.specs.Machine.{fdus, first_marked, perform, perform_all, perform_cell, look_for_fdu, send_next, send_waiting, transmit_ad, remove_acknowledged, fop_do}
 use Rattle.fop.specs.Variables.{begin}
@@ -27,7 +30,8 @@ use Rattle.session.specs.Ends.{Settings}
 use Rattle.session.specs.Session.{no_unit}
 use Rattle.session.specs.Claims.{IsOutstanding, member}
 use Rattle.fop.specs.Machine.{purge}
-use Rattle.fop.specs.Table.{if_not_suspended, Ignore, SetSuspendState, Suspend, Resume}
+use Rattle.fop.specs.declared.Action.TheVariants.{Ignore, SetSuspendState, Suspend, Resume}
+use Rattle.fop.specs.Table.{if_not_suspended}
 use Rattle.fop.proofs.Ways.{look_ways}
 use Rattle.session.proofs.Core.{Session, add_all}
 use Rattle.session.proofs.Lists.{add_all_append, member_out}

@@ -13,10 +13,12 @@ use Rattle.base.specs.Choice.{pick}
 use Rattle.fop.specs.Units.{Fdu, Frame, AD, written}
 use Rattle.farm.specs.Table.{unit_of}
 use Rattle.farm.specs.declared.AcceptedUnit.{AcceptedUnit}
-use Rattle.farm.specs.declared.AcceptedUnit.TheVariants.{None, AdUnit, BdUnit}
+use Rattle.farm.specs.declared.AcceptedUnit.TheVariants.{Ad, Bd}
+use Rattle.std.specs.Prelude.{Some, None, Result, Ok, Err}
+use Rattle.std.specs.Prelude as code
+use Rattle.base.specs.declared.Refusal.{Refusal}
+use Rattle.receiver.specs.declared.Received.{Received}
 use Rattle.receiver.specs.Receiver.{part_for, release_of}
-use Rattle.receiver.specs.declared.Released.{Released}
-use Rattle.receiver.specs.declared.Released.TheVariants.{Done, NoneTaken}
 use Rattle.session.specs.Frames.{read}
 use Rattle.session.specs.Receiver.{frame_arrives, release_buffer, ReceiverAnswer, handed_out, release_answer, receiver_answer}
 use Rattle.session.specs.Ends.{Settings, Within, Ends, Tied}
@@ -34,16 +36,16 @@ use Rattle.session.proofs.Linked.{same_link}
 use Rattle.session.proofs.Filled.{fill_is, filled_alike, answered_alike}
 
 -- by what the cell accepts
-by_unit : (x : AcceptedUnit) (o : List ℕ) (u : Fdu) (l : List Fdu)
+by_unit : (x : code.Option AcceptedUnit) (o : List ℕ) (u : Fdu) (l : List Fdu)
     → ((handed_out x (part_for x o) ≡ some o) × (taken (AD u) (is_handed x) l ≡ l ++ (u ∷ [])))
     ⊎ ((handed_out x (part_for x o) ≡ none) × (taken (AD u) (is_handed x) l ≡ l))
 by_unit None o u l = inr (refl, refl)
-by_unit AdUnit o u l = inl (refl, refl)
-by_unit BdUnit o u l = inl (refl, refl)
+by_unit (Some Ad) o u l = inl (refl, refl)
+by_unit (Some Bd) o u l = inl (refl, refl)
 
-released_none : (x : Released) → (release_answer x).unit ≡ none
-released_none (Done received) = refl
-released_none NoneTaken = refl
+released_none : (x : Result Received Refusal) → (release_answer x).unit ≡ none
+released_none (Ok received) = refl
+released_none (Err refusal) = refl
 
 module _ (set : Settings) (vw : Within set) (m : Ends) (t : Tied set m) (σ : Linked m) (κ : Session) (R : Rel set vw m t σ κ) (I : Inv set κ) where
   module _ (s : List ℕ) (fs : List (List ℕ)) (u : Fdu) (e : σ.frames ≡ s ∷ fs) (q : read set.own s ≡ AD u) where
@@ -60,7 +62,7 @@ module _ (set : Settings) (vw : Within set) (m : Ends) (t : Tied set m) (σ : Li
         cc
 
     -- what its cell accepts
-    abbrev unit : AcceptedUnit
+    abbrev unit : code.Option AcceptedUnit
     unit = unit_of (frame_event set.w (free set κ) (AD u) κ.farm) κ.farm.state
 
     handed_is : (m.answer_receiver (frame_arrives s) σ.receiver).unit ≡ handed_out unit (part_for unit u.octets)

@@ -6,8 +6,10 @@ use mathlib.Core.List.{List, [], ◌∷◌}
 use Prim.Native.Nat.{ℕ, ◌/◌, ◌≤◌}
 use Rattle.fop.specs.Units.{Refused, other, read_word}
 use Rattle.fop.specs.Events.{word_arrives}
+use Rattle.std.specs.Prelude.{Err}
+use Rattle.base.specs.Refusals.{refusal_number}
+use Rattle.base.specs.declared.Refusal.{Refusal}
 use Rattle.frame.specs.Answers.{reading_of}
-use Rattle.frame.specs.declared.FrameReading.TheVariants as reading
 use Rattle.fop.specs.Answers.{refused, sender_answer, sender_next}
 use Rattle.receiver.specs.declared.Receiver.{Receiver}
 use Rattle.session.specs.Frames.{read}
@@ -33,23 +35,26 @@ module _ (set : Settings) (vw : Within set) (m : Ends) (t : Tied set m) (kept : 
 
   -- octets that the frame reader refuses
   module _ (o : List ℕ) (n : ℕ) (q : read set.own o ≡ Refused n) where
-    reading_is : reading_of o set.own.spacecraft set.own.channel ≡ reading.Refused n
+    reading_is : (refusal : Refusal) × ((reading_of o set.own.spacecraft set.own.channel ≡ Err refusal) × (refusal_number refusal ≡ n))
     reading_is = refused_number set.own o n q
+
+    frame_answer : receiver_answer (frame_arrives o) r ≡ discarded n
+    frame_answer = frame_answer_lem r o reading_is.0 reading_is.1.0 ∙ ap discarded reading_is.1.1
 
     answer_is : m.answer_receiver (frame_arrives o) σ.receiver ≡ discarded n
     answer_is =
         t.answer_receiver (frame_arrives o) σ.receiver R.good_receiver ∙ ap (receiver_answer (frame_arrives o)) R.farm
-        ∙ frame_answer_lem r o n reading_is
+        ∙ frame_answer
 
     -- of the tables
     receiver_stays : receiver_next (frame_arrives o) γ.receiver ≡ γ.receiver
     receiver_stays =
-        subst (λ (x : Receiver). receiver_next (frame_arrives o) x ≡ x) (sym G.farm) (frame_next_lem r o n reading_is)
+        subst (λ (x : Receiver). receiver_next (frame_arrives o) x ≡ x) (sym G.farm) (frame_next_lem r o reading_is.0 reading_is.1.0)
 
     history_stays : after_frame (read set.own o) (receiver_answer (frame_arrives o) γ.receiver) γ.history ≡ γ.history
     history_stays =
         ap (λ (x : Receiver). after_frame (read set.own o) (receiver_answer (frame_arrives o) x) γ.history) G.farm
-        ∙ ap (λ (a : ReceiverAnswer). after_frame (read set.own o) a γ.history) (frame_answer_lem r o n reading_is)
+        ∙ ap (λ (a : ReceiverAnswer). after_frame (read set.own o) a γ.history) frame_answer
         ∙ subst (λ (x : History). after_frame (read set.own o) (discarded n) x ≡ x) (sym G.history)
         (history_kept κ n (read set.own o))
 

@@ -14,7 +14,7 @@ use Rattle.base.specs.Choice.{pick}
 use Rattle.base.specs.Modulo.{advanced}
 use Rattle.fop.specs.Units.{Fdu, Frame, Word, legal, word_octets, valid}
 use Rattle.fop.specs.declared.State.{State}
-use Rattle.fop.specs.Table.{FopEvent}
+use Rattle.fop.specs.declared.Event.{Event as FopEvent}
 use Rattle.fop.specs.Variables.{Fop, Work, Preset, begin, set_clock}
 use Rattle.fop.specs.Effective.{effective}
 use Rattle.fop.specs.Machine.{fdus, fop_do}

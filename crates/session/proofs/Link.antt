@@ -22,8 +22,10 @@ use Rattle.farm.specs.declared.Event.TheVariants.{E10}
 use Rattle.farm.specs.declared.Variables.{Variables}
 use Rattle.receiver.specs.declared.Receiver.{Receiver}
 use Rattle.receiver.specs.declared.Received.{Received}
-use Rattle.receiver.specs.declared.Released.{Released}
-use Rattle.receiver.specs.declared.Released.TheVariants.{Done, NoneTaken}
+use Rattle.base.specs.declared.Refusal.{Refusal}
+use Rattle.std.specs.Prelude as code
+use Rattle.std.specs.Prelude.{Result, Ok, Err}
+use Rattle.base.specs.declared.Refusal.TheVariants.{Release}
 use Rattle.session.specs.Receiver as rcv
 use Rattle.session.specs.Receiver.{frame_arrives, release_buffer, ReceiverAnswer, receiver_next, release_answer, receiver_answer, word_length, receiver_word}
 use Rattle.session.specs.Frames.{read}
@@ -340,9 +342,9 @@ module _ (set : Settings) (vw : Within set) where
     -- a release; b says whether a buffer is taken
     gave : (b : Bool) (σ : Linked m) (κ : Session) → Rel σ κ → Stocked set (core.releases b κ)
         → t.farm (m.next_receiver release_buffer σ.receiver) ≡ rcv.after_release
-        (must b NoneTaken (Done (farm.answered 0 E10 0 (receiver_of set (used κ - 1) κ.farm)))) (receiver_of set (used κ) κ.farm)
+        (must b (Err Release) (Ok (farm.answered code.None E10 0 (receiver_of set (used κ - 1) κ.farm)))) (receiver_of set (used κ) κ.farm)
         → m.answer_receiver release_buffer σ.receiver ≡ release_answer
-        (must b NoneTaken (Done (farm.answered 0 E10 0 (receiver_of set (used κ - 1) κ.farm))))
+        (must b (Err Release) (Ok (farm.answered code.None E10 0 (receiver_of set (used κ - 1) κ.farm))))
         → Rel (ses.releases m σ) (core.releases b κ)
     unfolding ses.releases core.releases core.receiver after_release farm.answered channel.answered
     gave true σ κ R S f a =
@@ -415,7 +417,7 @@ module _ (set : Settings) (vw : Within set) where
     same_step release σ κ a R I =
         gave (is_held κ) σ κ R (stock_keeps set vw release κ I R.stock)
         (t.next_receiver release_buffer σ.receiver R.good_receiver ∙ ap (λ (f : Receiver). receiver_next release_buffer f) R.farm
-        ∙ ap (λ (y : Released). rcv.after_release y (receiver_of set (used κ) κ.farm)) (released_is set vw (used κ) κ.farm))
+        ∙ ap (λ (y : Result Received Refusal). rcv.after_release y (receiver_of set (used κ) κ.farm)) (released_is set vw (used κ) κ.farm))
         (t.answer_receiver release_buffer σ.receiver R.good_receiver ∙ ap (λ (f : Receiver). receiver_answer release_buffer f) R.farm
         ∙ ap release_answer (released_is set vw (used κ) κ.farm))
 

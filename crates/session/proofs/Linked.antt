@@ -30,6 +30,7 @@ use Rattle.session.proofs.Link.{Rel, Reads, reads, fly_reads, word_in_lem, got, 
 use Rattle.session.proofs.Channels.{stays_ad, add_again, stays_under_way, link_step, link_keeps}
 use Rattle.session.proofs.Buffers.{frame_stock}
 use Rattle.session.proofs.Filled.{filled_in}
+use Rattle.base.specs.Refusals.{refusal_number}
 use Rattle.session.proofs.Noise.{refused_reading, discarded, frame_next_lem, frame_answer_lem, refuses}
 
 -- the channels as octets and as they are read
@@ -78,7 +79,7 @@ module _ (set : Settings) (vw : Within set) where
     noise_in σ κ o fs R e h =
         let n = refused_reading set.own o h in
         let r : Receiver = receiver_of set (used κ) κ.farm in
-        let a : m.answer_receiver (frame_arrives o) σ.receiver ≡ discarded n.0 =
+        let a : m.answer_receiver (frame_arrives o) σ.receiver ≡ discarded (refusal_number n.0) =
         t.answer_receiver (frame_arrives o) σ.receiver R.good_receiver ∙ ap (receiver_answer (frame_arrives o)) R.farm ∙ frame_answer_lem r o n.0 n.1 in
         record {
           good = R.good;
@@ -90,8 +91,8 @@ module _ (set : Settings) (vw : Within set) where
           frames = e ∙ R.frames;
           words = R.words;
           history = ap (λ (b : ReceiverAnswer). after_frame (read set.own o) b σ.history) a
-              ∙ ap (λ (x : History). after_frame (read set.own o) (discarded n.0) x) R.history
-              ∙ history_kept κ n.0 (read set.own o);
+              ∙ ap (λ (x : History). after_frame (read set.own o) (discarded (refusal_number n.0)) x) R.history
+              ∙ history_kept κ (refusal_number n.0) (read set.own o);
         }
 
     -- octets refused as a control word

@@ -14,7 +14,9 @@ use Rattle.base.specs.Modulo.{advanced, offset}
 use Rattle.fop.specs.Units.{Fdu, AD, Word, legal, word_octets}
 use Rattle.fop.specs.declared.State.{State}
 use Rattle.fop.specs.declared.State.TheVariants.{S1, S2, S3, S4, S5, S6}
-use Rattle.fop.specs.Table.{FopEvent, table78, cell78, AddToWaitQueue, AdOutReady, InitiateAdRetransmission}
+use Rattle.fop.specs.declared.Action.TheVariants.{AddToWaitQueue, AdOutReady, InitiateAdRetransmission}
+use Rattle.fop.specs.declared.Event.{Event as FopEvent}
+use Rattle.fop.specs.Table.{table78, cell78}
 use Rattle.fop.specs.Variables.{Fop, Work, Entry, Preset, begin}
 use Rattle.fop.specs.Effective.{effective_of, effective}
 use Rattle.fop.specs.Machine.{fdus, first_marked, acknowledged, unacknowledged, mark_all, fop_do, perform_cell, perform_all, perform, look_for_fdu, send_next}

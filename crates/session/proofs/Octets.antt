@@ -20,12 +20,12 @@ use Rattle.frame.specs.Frame.{frame_of, data_of}
 use Rattle.frame.specs.Answers.{reading_of, part_of}
 use Rattle.frame.specs.declared.Kind.{Kind}
 use Rattle.frame.specs.declared.Kind.TheVariants as kind
-use Rattle.frame.specs.declared.FrameReading.TheVariants as reading
+use Rattle.std.specs.Prelude.{Ok, Err}
+use Rattle.base.specs.declared.Refusal.TheVariants.{Length}
 use Rattle.frame.proofs.Back as fback
 use Rattle.clcw.specs.Clcw.{clcw_of, writing}
 use Rattle.clcw.specs.Answers as word_reading
 use Rattle.clcw.specs.declared.Clcw.{Clcw}
-use Rattle.clcw.specs.declared.WordReading.TheVariants as clcw_reading
 use Rattle.clcw.proofs.Word as word
 use Rattle.clcw.proofs.Back as cback
 use Rattle.session.specs.Frames.{read}
@@ -48,7 +48,7 @@ module _ (own : Own) (sc : own.spacecraft ≤ largest_spacecraft) (ch : own.chan
   -- a frame with nothing behind it
   reading_back : (k : Kind) (o : List ℕ) → fback.Legal k o
       → reading_of (frame_of own.spacecraft own.channel k o) own.spacecraft own.channel
-      ≡ reading.Frame (record {
+      ≡ Ok (record {
         kind = k;
         spacecraft = own.spacecraft;
         channel = own.channel;
@@ -83,7 +83,7 @@ module _ (own : Own) (sc : own.spacecraft ≤ largest_spacecraft) (ch : own.chan
   -- a written frame, as the receiver reads it
   pub ad_reading : (u : Fdu) → legal u.octets ≡ true → u.ns < 256
       → reading_of (written own (AD u)) own.spacecraft own.channel
-      ≡ reading.Frame (record {
+      ≡ Ok (record {
         kind = kind.Ad u.ns;
         spacecraft = own.spacecraft;
         channel = own.channel;
@@ -100,7 +100,7 @@ module _ (own : Own) (sc : own.spacecraft ≤ largest_spacecraft) (ch : own.chan
 
   pub bd_reading : (o : List ℕ) → legal o ≡ true
       → reading_of (written own (BD o)) own.spacecraft own.channel
-      ≡ reading.Frame (record { kind = kind.Bd; spacecraft = own.spacecraft; channel = own.channel; total = length o + 7; field = length o })
+      ≡ Ok (record { kind = kind.Bd; spacecraft = own.spacecraft; channel = own.channel; total = length o + 7; field = length o })
   unfolding written
   bd_reading o l = reading_back kind.Bd o (bd_legal o l)
 
@@ -134,7 +134,7 @@ module _ (own : Own) (sc : own.spacecraft ≤ largest_spacecraft) (ch : own.chan
   pub word_back : (w : Word) → w.counter ≤ 3 → w.nr < 256 → read_word own (word_octets own w) ≡ valid w
   unfolding read_word word_octets
   word_back w c b =
-      ap (λ (t : Bool). word_received (pick t (word_reading.reading_of (clcw_of (clcw w)) own.channel) clcw_reading.Length)) (word_octets_lem w c b) ∙ ap word_received (cback.word_back (clcw w) ch c b)
+      ap (λ (t : Bool). word_received (pick t (word_reading.reading_of (clcw_of (clcw w)) own.channel) (Err Length))) (word_octets_lem w c b) ∙ ap word_received (cback.word_back (clcw w) ch c b)
 
 -- what is told of a word's octets where its room is lent, and where it is not
 abbrev pub told_if : Bool → List ℕ → WordAnswer

@@ -20,7 +20,9 @@ use Rattle.farm.specs.declared.Event.{Event as FarmEvent}
 use Rattle.farm.specs.declared.Event.TheVariants as farm
 use Rattle.farm.specs.declared.Variables.{Variables}
 use Rattle.receiver.specs.declared.Receiver.{Receiver}
-use Rattle.receiver.specs.declared.Released.TheVariants.{Done, NoneTaken}
+use Rattle.std.specs.Prelude as code
+use Rattle.std.specs.Prelude.{Ok, Err}
+use Rattle.base.specs.declared.Refusal.TheVariants.{Release}
 use Rattle.session.specs.Receiver.{ReceiverAnswer, handed_out}
 use Rattle.session.specs.Ends.{Settings, Within}
 use Rattle.session.specs.Session.{add_accepted, add_accepted_bd}
@@ -58,7 +60,7 @@ receiver_of set k v = record {
 module _ (set : Settings) (vw : Within set) (k : ℕ) (v : Variables) where
   pub received_is : (x : Frame) → Readable x
       → receive_of (receiver_of set k v) (written set.own x)
-      ≡ answered 0 (frame_event set.w (ltb k set.buffers) x v) (star x) (receiver_of set k v)
+      ≡ answered code.None (frame_event set.w (ltb k set.buffers) x v) (star x) (receiver_of set k v)
   unfolding receive_of by_reading arrived answered channel.arrived event_of frame_event
   received_is (AD u) h = ap (by_reading (receiver_of set k v)) (ad_reading set.own vw.spacecraft vw.channel u h.0 h.1)
   received_is (BD o) h = ap (by_reading (receiver_of set k v)) (bd_reading set.own vw.spacecraft vw.channel o h)
@@ -78,7 +80,7 @@ module _ (set : Settings) (vw : Within set) (k : ℕ) (v : Variables) where
 
   -- a release, where a buffer is taken and where none is
   pub released_is : release_of (receiver_of set k v)
-      ≡ must (ltb 0 k) NoneTaken (Done (answered 0 farm.E10 0 (receiver_of set (k - 1) v)))
+      ≡ must (ltb 0 k) (Err Release) (Ok (answered code.None farm.E10 0 (receiver_of set (k - 1) v)))
   unfolding release_of
   released_is = refl
 

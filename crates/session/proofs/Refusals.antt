@@ -15,9 +15,12 @@ use Rattle.session.specs.Stronger.{RefusedKeeps}
 use Rattle.fop.proofs.Choices.{by_pick}
 use Rattle.session.proofs.Receiver.{at}
 use Rattle.base.specs.Choice.{must}
-use Rattle.frame.specs.Answers.{reading_of}
-use Rattle.frame.specs.declared.FrameReading.{FrameReading}
-use Rattle.frame.specs.declared.FrameReading.TheVariants as reading
+use Rattle.std.specs.Prelude.{Some, Ok, Err}
+use Rattle.std.specs.Prelude as code
+use Rattle.base.specs.Refusals.{optional_number}
+use Rattle.base.specs.declared.Refusal.{Refusal}
+use Rattle.base.specs.declared.Refusal.TheVariants.{Release}
+use Rattle.frame.specs.Answers.{FrameReading, reading_of}
 use Rattle.farm.specs.Table.{table, step_of, perform, perform_all}
 use Rattle.receiver.specs.Channel as channel
 use Rattle.receiver.specs.Receiver as farm
@@ -27,7 +30,6 @@ use Rattle.farm.specs.declared.Event.TheVariants.{E9}
 use Rattle.farm.specs.declared.Variables.{Variables}
 use Rattle.receiver.specs.declared.Receiver.{Receiver}
 use Rattle.receiver.specs.declared.Received.{Received}
-use Rattle.receiver.specs.declared.Released.TheVariants.{Done, NoneTaken}
 use Rattle.session.specs.Receiver as rcv
 use Rattle.session.specs.Receiver.{ReceiverEvent, frame_arrives, release_buffer, receiver_next, release_answer, receiver_answer}
 
@@ -51,7 +53,7 @@ e9_at v Wait = refl
 e9_at v Lockout = refl
 
 -- and the receiver
-pub e9 : (n : ℕ) (r : Receiver) → (farm.answered n E9 0 r).next ≡ r
+pub e9 : (n : code.Option Refusal) (r : Receiver) → (farm.answered n E9 0 r).next ≡ r
 unfolding farm.answered channel.answered
 e9 n r =
     let c = r.farm.channel in
@@ -67,12 +69,12 @@ refused_keeps own =
       receiver = kept_r;
     }
   where
-    by_reading_lem : (x : FrameReading) (r : Receiver) → (farm.by_reading r x).refusal ≢ 0 → (farm.by_reading r x).next ≡ r
-    by_reading_lem (reading.Frame fields) r h = absurd (h refl)
-    by_reading_lem (reading.Refused n) r h = e9 n r
+    by_reading_lem : (x : FrameReading) (r : Receiver) → optional_number (farm.by_reading r x).refusal ≢ 0 → (farm.by_reading r x).next ≡ r
+    by_reading_lem (Ok fields) r h = absurd (h refl)
+    by_reading_lem (Err refusal) r h = e9 (Some refusal) r
 
-    by_held : (b : Bool) (r : Receiver) (x : Received) → x.refusal ≡ 0 → (release_answer (must b NoneTaken (Done x))).refusal ≢ 0
-        → rcv.after_release (must b NoneTaken (Done x)) r ≡ r
+    by_held : (b : Bool) (r : Receiver) (x : Received) → optional_number x.refusal ≡ 0 → (release_answer (must b (Err Release) (Ok x))).refusal ≢ 0
+        → rcv.after_release (must b (Err Release) (Ok x)) r ≡ r
     by_held true r x e h = absurd (h e)
     by_held false r x e h = refl
 

@@ -11,7 +11,7 @@ use Rattle.fop.specs.Units.{Fdu}
 use Rattle.fop.specs.declared.State.TheVariants.{S1, S6}
 use Rattle.fop.specs.declared.Lower.TheVariants.{AdAccept, BdReject}
 use Rattle.fop.specs.declared.Response.TheVariants.{AcceptAdUnit, RejectAdUnit, AcceptDirective, ConfirmDirective}
-use Rattle.fop.specs.Table.{E2, E18, E19, E20, E29, E31, E41}
+use Rattle.fop.specs.declared.Event.TheVariants.{E2, E18, E19, E20, E29, E31, E41}
 use Rattle.fop.specs.Effective.{effective, is_suspended}
 use Rattle.farm.specs.declared.Event.TheVariants as farm
 use Rattle.session.specs.Ends.{Settings, tables}

@@ -13,7 +13,7 @@ use Rattle.base.specs.Modulo.{advanced}
 use Rattle.fop.specs.Units.{Fdu, Frame, AD, BD, Word, valid, written, word_octets, read_word}
 use Rattle.fop.specs.declared.State.{State}
 use Rattle.fop.specs.declared.State.TheVariants.{S1, S2, S3, S4, S5, S6}
-use Rattle.fop.specs.Table.{FopEvent}
+use Rattle.fop.specs.declared.Event.{Event as FopEvent}
 use Rattle.fop.specs.Variables.{Fop, Work}
 use Rattle.fop.specs.Effective.{effective, is_suspended}
 use Rattle.fop.specs.Machine.{fdus}

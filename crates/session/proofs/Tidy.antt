@@ -14,7 +14,9 @@ use Rattle.base.specs.Modulo.{advanced}
 use Rattle.fop.specs.Units.{Fdu, Frame, AD, BD, Unlock, SetVR, Refused, Word, word_octets}
 use Rattle.fop.specs.declared.State.{State}
 use Rattle.fop.specs.declared.State.TheVariants.{S1, S2, S3, S4, S5, S6}
-use Rattle.fop.specs.Table.{Action, Cell, cell, NotApplicable, FopEvent, table78, cell78}
+use Rattle.fop.specs.declared.Action.{Action}
+use Rattle.fop.specs.declared.Event.{Event as FopEvent}
+use Rattle.fop.specs.Table.{Cell, cell, NotApplicable, table78, cell78}
 use Rattle.fop.specs.Variables.{Fop, Work, begin, on_fop, set_state}
 use Rattle.fop.specs.Effective.{effective_of, effective}
 use Rattle.fop.specs.Machine.{fop_do, perform_cell, perform_all, perform}

@@ -4,6 +4,7 @@ use mathlib.Core.Path.{◌≡◌, refl, sym, ap, ◌∙◌}
 use mathlib.Core.Bool.{Bool, true, false, not, ◌&&◌, ◌||◌, true≢false, false≢true}
 use mathlib.Core.List.{List, [], ◌∷◌}
 use mathlib.Core.Option.{some}
+use Rattle.std.specs.Prelude.{None, Some}
 use Prim.Native.Nat.{ℕ, ◌+◌, ◌-◌, ◌*◌, ◌≤◌}
 use native.Mathlib.Omega.{arith}
 use lib.Dec.{leb, ltb, eqb, T}
@@ -13,7 +14,7 @@ use Rattle.base.proofs.Computed.{is_true}
 use Rattle.base.specs.Modulo.{offset}
 use Rattle.fop.specs.Units.{Word}
 use Rattle.fop.specs.declared.Alert.{Alert as Reason}
-use Rattle.fop.specs.declared.Alert.TheVariants.{None, Synch, Clcw, Limit, Nnr, Lockout, T1, Term, Llif}
+use Rattle.fop.specs.declared.Alert.TheVariants.{Synch, Clcw, Limit, Nnr, Lockout, T1, Term, Llif}
 use Rattle.fop.specs.declared.State.{State}
 use Rattle.fop.specs.declared.State.TheVariants.{S1, S2, S3, S4, S5, S6}
 use Rattle.fop.specs.Table.{table78, cell78}
@@ -34,7 +35,6 @@ use Rattle.session.proofs.Alerts.{allows, cell_allows, Allowed, cell_allowed_lem
 
 -- that of the limit, where it is 1
 abbrev limit_alert : Bool → Reason → Bool
-limit_alert once None = false
 limit_alert once Limit = once
 limit_alert once Synch = false
 limit_alert once Clcw = false
@@ -138,7 +138,7 @@ module _ (set : Settings) (σ : Session) (I : Inv set σ) (w : Word) (ws : List 
   allows_at_lem S6 n h k = seen_at allows_initial (seen w σ.fop) allows_initial_lem
 
 pub word_alerts : (set : Settings) (σ : Session) → Inv set σ → Tidy set.n σ → (w : Word) (ws : List Word) → σ.words ≡ w ∷ ws
-    → ((fop_word w σ.fop).notices.alert ≡ None) ⊎ (((fop_word w σ.fop).notices.alert ≡ Limit) × (set.limit ≡ 1))
+    → ((fop_word w σ.fop).notices.alert ≡ None) ⊎ (((fop_word w σ.fop).notices.alert ≡ Some Limit) × (set.limit ≡ 1))
 unfolding fop_word fop_do
 word_alerts set σ I t w ws e =
     last (cell_allowed_lem (limit_alert (seen w σ.fop).once) (cell78 (table78 (word_event (seen w σ.fop))) σ.fop.state)
@@ -146,11 +146,10 @@ word_alerts set σ I t w ws e =
     (allows_at_lem set σ I w ws σ.fop.state σ.fop.suspend_state I.side (rw e at t.keys)) (inl refl))
   where
     last : Allowed (limit_alert (seen w σ.fop).once) (fop_word w σ.fop).notices.alert
-        → ((fop_word w σ.fop).notices.alert ≡ None) ⊎ (((fop_word w σ.fop).notices.alert ≡ Limit) × (set.limit ≡ 1))
+        → ((fop_word w σ.fop).notices.alert ≡ None) ⊎ (((fop_word w σ.fop).notices.alert ≡ Some Limit) × (set.limit ≡ 1))
     last (inl a) = inl a
     last (inr (Limit, a, b)) =
         inr (a, sym (ap (λ (p : Preset). p.transmission_limit) I.is_set) ∙ eqb-true σ.fop.preset.transmission_limit 1 (is_true _ b))
-    last (inr (None, a, b)) = absurd b
     last (inr (Synch, a, b)) = absurd b
     last (inr (Clcw, a, b)) = absurd b
     last (inr (Nnr, a, b)) = absurd b

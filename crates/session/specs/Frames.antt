@@ -1,10 +1,9 @@
 -- A frame's octets as the session's histories see them: read at the address of both ends, by crate frame.
-use Rattle.std.specs.Prelude.{List, ℕ}
-use Rattle.frame.specs.Answers.{reading_of, part_of}
+use Rattle.std.specs.Prelude.{List, ℕ, Ok, Err}
+use Rattle.frame.specs.Answers.{FrameReading, reading_of, part_of}
 use Rattle.frame.specs.declared.Kind.{Kind}
 use Rattle.frame.specs.declared.Kind.TheVariants as kind
-use Rattle.frame.specs.declared.FrameReading.{FrameReading}
-use Rattle.frame.specs.declared.FrameReading.TheVariants as reading
+use Rattle.base.specs.Refusals.{refusal_number}
 use Rattle.fop.specs.Units.{Frame, AD, BD, Unlock, SetVR, Refused, Own}
 
 -- a frame of this kind, with its data part
@@ -16,8 +15,8 @@ carried (kind.SetVr v) o = SetVR v
 
 -- a reading of crate frame, with the data part
 abbrev pub by_reading : FrameReading → List ℕ → Frame
-by_reading (reading.Frame fields) o = carried fields.kind o
-by_reading (reading.Refused r) o = Refused r
+by_reading (Ok fields) o = carried fields.kind o
+by_reading (Err refusal) o = Refused (refusal_number refusal)
 
 -- any octets, read at the address `own`
 unfoldable pub read : Own → List ℕ → Frame

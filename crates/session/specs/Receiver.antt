@@ -1,5 +1,6 @@
 -- The receiver's end of the session: crate receiver's definitions, as events and answers.
-use Rattle.std.specs.Prelude.{List, ℕ, eqb}
+use Rattle.std.specs.Prelude.{List, ℕ, Some, None, Result, Ok, Err, eqb}
+use Rattle.std.specs.Prelude as code
 use Rattle.std.proofs.Math.Option.{Option, none, some}
 use Rattle.base.specs.Choice.{pick}
 use Rattle.base.specs.Outcome.{Outcome, Outcome.done, Outcome.refused}
@@ -10,9 +11,8 @@ use Rattle.farm.specs.declared.Event.TheVariants.{E1, E2, E3, E4, E5, E6, E7, E8
 use Rattle.receiver.specs.declared.Receiver.{Receiver}
 use Rattle.receiver.specs.declared.Received.{Received}
 use Rattle.farm.specs.declared.AcceptedUnit.{AcceptedUnit}
-use Rattle.farm.specs.declared.AcceptedUnit.TheVariants.{None, AdUnit, BdUnit}
-use Rattle.receiver.specs.declared.Released.{Released}
-use Rattle.receiver.specs.declared.Released.TheVariants.{Done, NoneTaken}
+use Rattle.base.specs.declared.Refusal.{Refusal}
+use Rattle.base.specs.Refusals.{refusal_number, optional_number}
 
 -- what the receiver is asked: "to the receiver the oldest frame or a release"
 pub data ReceiverEvent : Type 0 where
@@ -34,9 +34,9 @@ event_numbered n =
     (pick (eqb n 11) (some E11) none))))))))))
 
 -- the receiver after a release: refused, it is as it was
-abbrev pub after_release : Released → Receiver → Receiver
-after_release (Done received) r = received.next
-after_release NoneTaken r = r
+abbrev pub after_release : Result Received Refusal → Receiver → Receiver
+after_release (Ok received) r = received.next
+after_release (Err refusal) r = r
 
 -- the receiver after an event
 unfoldable pub receiver_next : ReceiverEvent → Receiver → Receiver
@@ -44,20 +44,19 @@ receiver_next (frame_arrives s) r = (receive_of r s).next
 receiver_next release_buffer r = after_release (release_of r) r
 
 -- the unit handed out: the frame's data part where a unit is accepted
-abbrev pub handed_out : AcceptedUnit → List ℕ → Option (List ℕ)
+abbrev pub handed_out : code.Option AcceptedUnit → List ℕ → Option (List ℕ)
 handed_out None part = none
-handed_out AdUnit part = some part
-handed_out BdUnit part = some part
+handed_out (Some unit) part = some part
 
 -- the answer to a frame; one that is refused is E9 with the refusal's number
 abbrev pub frame_answer : Received → List ℕ → ReceiverAnswer
 frame_answer received part =
-    record { refusal = received.refusal; event = some received.event; unit = handed_out received.unit part }
+    record { refusal = optional_number received.refusal; event = some received.event; unit = handed_out received.unit part }
 
 -- the answer to a release: E10, or 13
-abbrev pub release_answer : Released → ReceiverAnswer
-release_answer (Done received) = record { refusal = received.refusal; event = some received.event; unit = none }
-release_answer NoneTaken = record { refusal = 13; event = none; unit = none }
+abbrev pub release_answer : Result Received Refusal → ReceiverAnswer
+release_answer (Ok received) = record { refusal = optional_number received.refusal; event = some received.event; unit = none }
+release_answer (Err refusal) = record { refusal = refusal_number refusal; event = none; unit = none }
 
 -- what the receiver answers
 unfoldable pub receiver_answer : ReceiverEvent → Receiver → ReceiverAnswer

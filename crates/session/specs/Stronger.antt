@@ -1,10 +1,11 @@
 -- What holds besides demand 3, of any pair of ends, and of the table machines: the stronger claims.
-use Rattle.std.specs.Prelude.{◌≡◌, ◌⊎◌, ◌≢◌, Bool, true, false, List, [], ◌∷◌, ◌++◌, map, ℕ, ◌≤◌, ◌<◌, length, get_or}
+use Rattle.std.specs.Prelude.{◌≡◌, ◌⊎◌, ◌≢◌, Bool, true, false, List, [], ◌∷◌, ◌++◌, map, ℕ, ◌≤◌, ◌<◌, length, get_or, None, Some}
+use Rattle.std.specs.Prelude as code
 use Rattle.std.proofs.Math.Option.{Option, none, some}
 use Rattle.base.specs.Modulo.{advanced}
 use Rattle.fop.specs.Units.{Fdu, AD, BD, Word, valid, Own, legal, written, read_word}
 use Rattle.fop.specs.declared.Alert.{Alert}
-use Rattle.fop.specs.declared.Alert.TheVariants.{None, Limit, T1, Term, Llif}
+use Rattle.fop.specs.declared.Alert.TheVariants.{Limit, T1, Term, Llif}
 use Rattle.fop.specs.declared.State.{State}
 use Rattle.fop.specs.declared.State.TheVariants.{S1, S2, S3, S4, S5, S6}
 use Rattle.fop.specs.declared.Response.TheVariants.{AcceptAdUnit}
@@ -50,13 +51,13 @@ pub data Sub {A : Type 0} : List A → List A → Type 0 where
   takes : {x : A} {a b : List A} → Sub a b → Sub (x ∷ a) (x ∷ b)
 
 -- no alert, or at a transmission limit of 1 that of the limit
-abbrev pub LimitOnly : ℕ → Alert → Type 0
-LimitOnly l r = (r ≡ None) ⊎ ((r ≡ Limit) × (l ≡ 1))
+abbrev pub LimitOnly : ℕ → code.Option Alert → Type 0
+LimitOnly l r = (r ≡ None) ⊎ ((r ≡ Some Limit) × (l ≡ 1))
 
 -- no alert, or term or LLIF, or at Timeout_Type 0 T1, or at a transmission limit of 1 that of the limit
-abbrev pub KnownAlert : Settings → Alert → Type 0
+abbrev pub KnownAlert : Settings → code.Option Alert → Type 0
 KnownAlert set r =
-    (r ≡ None) ⊎ ((r ≡ Term) ⊎ (((r ≡ T1) × (set.timeout_type ≡ 0)) ⊎ ((r ≡ Llif) ⊎ ((r ≡ Limit) × (set.limit ≡ 1)))))
+    (r ≡ None) ⊎ ((r ≡ Some Term) ⊎ (((r ≡ Some T1) × (set.timeout_type ≡ 0)) ⊎ ((r ≡ Some Llif) ⊎ ((r ≡ Some Limit) × (set.limit ≡ 1)))))
 
 -- an event that demand 3's session can bring to the sender
 abbrev pub InSession : List (List ℕ) → SenderEvent → Type 0

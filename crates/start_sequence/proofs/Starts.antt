@@ -4,16 +4,14 @@
 use mathlib.Core.Path.{◌≡◌, refl, sym, ap, ap₂, ◌∙◌}
 use mathlib.Core.Bool.{true, false}
 use mathlib.Core.List.{List, [], ◌∷◌}
-use Prim.Native.Nat.{ℕ, suc, ◌+◌, ◌*◌, ◌<◌, ◌≤◌}
+use Prim.Native.Nat.{ℕ, ◌+◌, ◌*◌, ◌<◌, ◌≤◌}
 use native.Mathlib.Nat.{add-zero}
-use native.Mathlib.Numerals.{add-one}
 use native.Mathlib.Omega.{arith}
 use borrow.Author.Tests.{le-leb, lt-leb, leb-true}
 use lib.Bits.{bit_xor, xor_block, xor_lt}
 use lib.Count.{ones, ones_in, ones_cat}
 use lib.Dec.{eqb, eqb→eq, leb}
-use lib.ListN.{length, drop, get_or, drop_of_length-le}
-use lib.Seq.{drop-cons}
+use lib.ListN.{length, take, get_or}
 use Rattle.base.specs.Octets.{bits_of, octet_bits}
 use Rattle.base.specs.Distance.{differing, wrong_bits}
 use Rattle.base.proofs.Computed.{below, is_true}
@@ -43,6 +41,12 @@ starts_two x y s t = starts_wrong x y s ∙ sym (starts_wrong x y t)
 pub starts_one : (x : ℕ) → starts (x ∷ []) ≡ false
 unfolding starts recognized octet_bits bits_of
 starts_one x = refl
+
+-- what stands behind two octets does not matter
+pub starts_front : (s : List ℕ) → starts (take 2 s) ≡ starts s
+starts_front [] = refl
+starts_front (x ∷ []) = refl
+starts_front (x ∷ y ∷ ys) = starts_two x y [] ys
 
 -- what is within one bit starts
 pub near_starts : (x y : ℕ) (s : List ℕ) → wrong_bits start_sequence (x ∷ y ∷ []) ≤ 1 → starts (x ∷ y ∷ s) ≡ true
@@ -75,17 +79,16 @@ at_once x y hx hy =
     ∙ ap₂ ◌+◌ (first_ones x hx) (second_ones y hy)
     ∙ sym (wrong_two x y)
 
--- at a place, by its two octets
-pub starts_by : (s : List ℕ) (i : ℕ) → i + 1 < length s → get_or s i 0 < 256 → get_or s (i + 1) 0 < 256
-    → starts (drop i s) ≡ leb (ones (bit_xor (get_or s i 0 * 0x100 + get_or s (i + 1) 0) 0xEB90)) 1
-starts_by s i h hx hy =
-    let e : drop (suc i) s ≡ get_or s (i + 1) 0 ∷ drop (suc (suc i)) s = rw add-one (drop-cons s (suc i) 0 (omega arith)) in
-    ap starts (drop-cons s i 0 (omega arith) ∙ ap (λ (l : List ℕ). get_or s i 0 ∷ l) e)
-    ∙ starts_wrong (get_or s i 0) (get_or s (i + 1) 0) (drop (suc (suc i)) s)
-    ∙ ap (λ (n : ℕ). leb n 1) (sym (at_once (get_or s i 0) (get_or s (i + 1) 0) hx hy))
+-- by the first two octets
+pub starts_by : (s : List ℕ) → 2 ≤ length s → get_or s 0 0 < 256 → get_or s 1 0 < 256
+    → starts s ≡ leb (ones (bit_xor (get_or s 0 0 * 0x100 + get_or s 1 0) 0xEB90)) 1
+starts_by [] h hx hy = absurd (omega arith)
+starts_by (x ∷ []) h hx hy = absurd (omega arith)
+starts_by (x ∷ y ∷ ys) h hx hy = starts_wrong x y ys ∙ ap (λ (n : ℕ). leb n 1) (sym (at_once x y hx hy))
 
--- a last octet starts nothing
-pub starts_last : (s : List ℕ) (i : ℕ) → length s ≤ i + 1 → i < length s → starts (drop i s) ≡ false
-starts_last s i h k =
-    ap starts (drop-cons s i 0 k ∙ ap (λ (l : List ℕ). get_or s i 0 ∷ l) (drop_of_length-le s {i = suc i} (omega arith)))
-    ∙ starts_one (get_or s i 0)
+-- less than two octets start nothing
+pub starts_short : (s : List ℕ) → length s < 2 → starts s ≡ false
+unfolding starts recognized octet_bits bits_of
+starts_short [] h = refl
+starts_short (x ∷ []) h = starts_one x
+starts_short (x ∷ y ∷ ys) h = absurd (omega arith)

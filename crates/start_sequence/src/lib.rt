@@ -1,19 +1,19 @@
 // Clause 8.3, Start Sequence, and documents 01 and 02: the first place at an octet boundary where it stands, at most one bit wrong.
 #![tactic(auto)]
 
-ghost use Rattle.std.specs.Prelude.{◌≡◌, ◌<◌, length, drop};
+ghost use Rattle.std.specs.Prelude.{◌≡◌};
 ghost use Rattle.start_sequence.specs.StartSequence.{starts, start_of};
 
-// Whether a start sequence stands at a place: the sixteen bits are compared at once, and those that differ are counted.
-fn starts_at(input: &[u8], i: usize) -> bool
-    requires { i < length input.now }
-    ensures { result ≡ starts (drop i input.now) }
+// Whether octets begin with a start sequence: its sixteen bits are compared at once, and those that differ are counted.
+fn starts_with_it(octets: &[u8]) -> bool
+    ensures { result ≡ starts octets.now }
 {
-    if i + 1 < input.len() {
-        let wrong = (input[i] as u32 * 0x100 + input[i + 1] as u32) ^ 0xEB90;
-        u32::count_ones(wrong) <= 1
-    } else {
-        false
+    match octets {
+        [first, second, ..] => {
+            let wrong = u16::from_be_bytes([*first, *second]) ^ 0xEB90;
+            wrong.count_ones() <= 1
+        }
+        _ => false,
     }
 }
 
@@ -21,13 +21,8 @@ fn starts_at(input: &[u8], i: usize) -> bool
 pub fn find_start(input: &[u8]) -> usize
     ensures { result ≡ start_of input.now }
 {
-    let mut left = input.len();
-    while 0 < left {
-        let i = input.len() - left;
-        if starts_at(input, i) {
-            return i;
-        }
-        left -= 1;
-    }
-    input.len()
+    input
+        .windows(2)
+        .position(|two| starts_with_it(two))
+        .unwrap_or(input.len())
 }

@@ -1,60 +1,25 @@
--- Octets copied down within memory, the first of them first: each is read before it is written over, so that what is written is what stood
--- there. A unit moved so, and units one after another.
+-- Octets copied within memory, so a unit moved, and units one after another.
 use mathlib.Core.Path.{◌≡◌, refl, sym, ap, ◌∙◌}
-use mathlib.Core.List.{List, [], ◌∷◌}
+use mathlib.Core.List.{List, [], ◌∷◌, ◌++◌}
 use Prim.Native.Nat.{ℕ, zero, suc, ◌+◌, ◌-◌, ◌<◌, ◌≤◌}
 use native.Mathlib.Nat.{zero-add}
 use native.Mathlib.Numerals.{add-one}
 use native.Mathlib.Omega.{arith}
-use lib.ListN.{length, get_or, take, drop, set, length-drop, length-take}
-use lib.Seq.{paste, paste-suc, length-paste, drop-paste, get_or-drop, get_or-take, length-take-le, take-length, take-take}
+use lib.ListN.{length, get_or, take, drop, length-drop, length-take}
+use lib.Seq.{paste, length-take-le, take-length, take-take}
 use Rattle.memory.specs.Placed.{placed}
-use Rattle.memory.proofs.Laws.{pasted}
+use Rattle.memory.proofs.Laws.{placed_fits}
 use Rattle.memory.proofs.Parts.{placed_own, placed_none}
 use Rattle.store.specs.Places.{place_offset, unit_at, unit_put, moved_down, without}
 
-module _ (s : List ℕ) (from to count : ℕ) (down : to ≤ from) (within : from + count ≤ length s) where
-  -- the octets that are copied
-  abbrev copied : List ℕ
-  copied = take count (drop from s)
-
-  copied_length : length copied ≡ count
-  copied_length = length-take-le count (drop from s) (rw (length-drop from s) (omega arith))
-
-  -- what the loop has not reached yet is as it was
-  ahead : (l : List ℕ) (i : ℕ) → i < count → l ≡ paste s to copied i → get_or l (from + i) 0 ≡ get_or copied i 0
-  ahead l i h e =
-      let a : to + i + (from - to) ≡ from + i = omega arith in
-      let b : to ≤ length s = omega arith in
-      let k : i ≤ length copied = omega (arith, copied_length) in
-      ap (λ (x : List ℕ). get_or x (from + i) 0) e
-      ∙ ap (λ (n : ℕ). get_or (paste s to copied i) n 0) (sym a)
-      ∙ sym (get_or-drop (to + i) (paste s to copied i) (from - to) 0)
-      ∙ ap (λ (x : List ℕ). get_or x (from - to) 0) (drop-paste s to copied i b k)
-      ∙ get_or-drop (to + i) s (from - to) 0
-      ∙ ap (λ (n : ℕ). get_or s n 0) a
-      ∙ sym (get_or-take count (drop from s) i 0 h ∙ get_or-drop from s i 0)
-
-  -- the loop's invariant: the first i octets are copied
-  abbrev pub Copied : List ℕ → ℕ → Type 0
-  Copied l i = (i ≤ count) × (l ≡ paste s to copied i) × (length l ≡ length s)
-
-  -- a turn
-  pub copy_turn : (l : List ℕ) (i : ℕ) → i < count → Copied l i → Copied (set l (to + i) (get_or l (from + i) 0)) (i + 1)
-  copy_turn l i h m =
-      let k : i < length copied = omega (arith, copied_length) in
-      let e : set l (to + i) (get_or l (from + i) 0) ≡ paste s to copied (i + 1) =
-      ap (set l (to + i)) (ahead l i h m.1)
-      ∙ ap (λ (x : List ℕ). set x (to + i) (get_or copied i 0)) m.1
-      ∙ paste-suc s to copied i 0 (omega arith) k
-      ∙ ap (paste s to copied) (sym (add-one i)) in
-      (omega arith, e, ap length e ∙ length-paste s to copied (i + 1) (omega arith) (omega (arith, copied_length)))
-
-  -- all are copied
-  pub copy_end : (l : List ℕ) (i : ℕ) → count ≤ i → Copied l i → l ≡ placed s to copied
-  copy_end l i h m =
-      let q : i ≡ length copied = omega (arith, m.0, copied_length) in
-      m.1 ∙ ap (paste s to copied) q ∙ pasted s to copied (omega (arith, copied_length))
+-- what `copy_within` leaves: the octets placed
+pub copied_within : (s : List ℕ) (from to count : ℕ) → to + count ≤ length s → from + count ≤ length s
+    → paste s to (drop from s) (from + count - from) ≡ placed s to (take count (drop from s))
+copied_within s from to count h k =
+    let n : from + count - from ≡ count = omega arith in
+    let l : length (take count (drop from s)) ≡ count = length-take-le count (drop from s) (rw (length-drop from s) (omega arith)) in
+    ap (paste s to (drop from s)) n
+    ∙ sym (placed_fits s to (take count (drop from s)) (omega arith) ∙ ap (λ (j : ℕ). take to s ++ take count (drop from s) ++ drop (to + j) s) l)
 
 -- a part that is cut where the list ends is as long as what is left of it
 part_own : (m : ℕ) (xs : List ℕ) → take (length (take m xs)) xs ≡ take m xs

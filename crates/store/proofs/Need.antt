@@ -2,16 +2,21 @@
 -- exceed those of all places.
 use mathlib.Core.Path.{◌≡◌, refl}
 use mathlib.Core.Bool.{Bool, true, false}
-use Prim.Native.Nat.{ℕ, ◌+◌, ◌≤◌}
+use Prim.Native.Nat.{ℕ, ◌+◌, ◌≤◌, max}
 use native.Mathlib.Omega.{arith}
 use borrow.Author.Tests.{leb-true, leb-false}
 use lib.Dec.{leb}
+use Rattle.base.proofs.Tests.{tests}
 use Rattle.base.specs.Choice.{pick}
 use Rattle.base.specs.Limits.{largest_k}
 use Rattle.fop.specs.Store.{larger, store_need}
 use Rattle.store.specs.Places.{places, place_offset}
 
 module _ (a b : ℕ) where
+  pub larger_max : max a b ≡ larger a b
+  unfolding larger
+  larger_max = grind (arith, tests)
+
   pub larger_first : a ≤ larger a b
   unfolding larger
   larger_first = by (leb a b) refl where

@@ -6,13 +6,11 @@ ghost use Rattle.store.specs.Slid.{slid};
 pub fn length_at(lengths: &[u16], place: usize) -> u16
     ensures { result ≡ get_or lengths.now place 0 }
 {
-    if place < lengths.len() {
-        return lengths[place];
-    }
-    0
+    lengths.get(place).copied().unwrap_or(0)
 }
 
-// Sets the length of the unit at a place; changes nothing beyond the last place.
+// Sets the length of the unit at a place; changes nothing beyond the last place. By an index behind its test, since the library says
+// nothing of a slice that is written through `get_mut`.
 pub fn set_length(lengths: &mut [u16], place: usize, length: u16)
     ensures { lengths.new ≡ set lengths.old place length }
 {
@@ -26,12 +24,6 @@ pub fn slide_lengths(lengths: &mut [u16], count: usize)
     ensures { lengths.new ≡ slid count lengths.old }
 {
     if count <= lengths.len() {
-        let rest = lengths.len() - count;
-        let mut i = 0;
-        while i < rest {
-            let length = lengths[count + i];
-            lengths[i] = length;
-            i += 1;
-        }
+        lengths.copy_within(count.., 0);
     }
 }

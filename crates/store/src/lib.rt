@@ -7,29 +7,19 @@ pub mod removal;
 pub mod units;
 
 ghost use Rattle.std.specs.Prelude.{◌≡◌, leb, length};
-ghost use Rattle.fop.specs.Store.{larger, store_need};
+ghost use Rattle.fop.specs.Store.{store_need};
 
 use base::{LARGEST_K, LARGEST_UNIT};
 
 // The sent units of the largest K, and the unit waiting. The store has a place for each.
 pub const PLACES: usize = LARGEST_K as usize + 1;
 
-// The larger of two numbers.
-fn larger(a: u16, b: u16) -> u16
-    ensures { result ≡ larger a b }
-{
-    if a <= b {
-        return b;
-    }
-    a
-}
-
 // The octets of the store that a sender needs: units for its window K, or for all outstanding if more, and one waiting.
 pub fn store_need(k: u16, outstanding: u8) -> usize
     ensures { result ≡ store_need k outstanding }
 {
-    let most = larger(k, outstanding as u16);
-    LARGEST_UNIT * (most as usize + 1)
+    let most = k.max(u16::from(outstanding));
+    LARGEST_UNIT * (usize::from(most) + 1)
 }
 
 // Whether the lent store has them.

@@ -9,31 +9,21 @@ use base::LARGEST_UNIT;
 fn part(memory: &[u8], first: usize, count: usize) -> &[u8]
     ensures { result.now ≡ take count (drop first memory.now) }
 {
-    let n = memory.len();
-    if n < first {
-        return &memory[n..];
-    }
-    if n - first < count {
-        return &memory[first..];
-    }
-    let end = first + count;
-    &memory[first..end]
+    let rest = &memory[first.min(memory.len())..];
+    &rest[..count.min(rest.len())]
 }
 
 // The unit at a place of the store.
 pub fn unit_at<'a>(store: &'a [u8], lengths: &[u16], place: usize) -> &'a [u8]
     ensures { result.now ≡ unit_at lengths.now place store.now }
 {
-    if store.len() / LARGEST_UNIT < place {
-        return &store[..0];
-    }
-    let count = length_at(lengths, place) as usize;
-    part(store, LARGEST_UNIT * place, count)
+    let count = usize::from(length_at(lengths, place));
+    part(store, LARGEST_UNIT.saturating_mul(place), count)
 }
 
 // Puts a unit at a place of the store; changes nothing where it does not fit.
 pub fn put_unit(store: &mut [u8], place: u8, unit: &[u8])
     ensures { store.new ≡ unit_put place unit.now store.old }
 {
-    memory::put(store, LARGEST_UNIT * (place as usize), unit);
+    memory::put(store, LARGEST_UNIT * usize::from(place), unit);
 }

@@ -11,7 +11,8 @@ use Rattle.base.specs.Choice.{pick}
 use Rattle.fop.specs.Units.{Own}
 use Rattle.fop.specs.declared.State.{State}
 use Rattle.fop.specs.declared.State.TheVariants.{S1, S2, S3, S4, S5, S6}
-use Rattle.fop.specs.Table.{FopEvent, table78}
+use Rattle.fop.specs.declared.Event.{Event as FopEvent}
+use Rattle.fop.specs.Table.{table78}
 use Rattle.fop.specs.Variables.{Fop, Work, begin, set_state, set_suspend, set_clock}
 use Rattle.fop.specs.Effective.{suspended_in, effective}
 use Rattle.fop.specs.Machine.{perform, perform_all, perform_cell, fop_do}

@@ -11,10 +11,11 @@ use Rattle.base.specs.Limits.{largest_frame, largest_unit}
 use Rattle.fop.specs.Units.{Own, word_octets}
 use Rattle.fop.specs.declared.State.{State}
 use Rattle.fop.specs.declared.State.TheVariants.{S1, S2, S3, S4, S5, S6}
-use Rattle.fop.specs.declared.Alert.TheVariants.{None, T1}
+use Rattle.fop.specs.declared.Alert.TheVariants.{T1}
+use Rattle.std.specs.Prelude.{None}
 use Rattle.fop.specs.declared.Lower.TheVariants.{AdAccept}
 use Rattle.fop.specs.declared.Response.TheVariants.{RejectAdUnit, AcceptDirective, RejectDirective, ConfirmDirective, DenyDirective}
-use Rattle.fop.specs.Table.{E2, E18, E20, E21, E29, E31, E35, E36, E41}
+use Rattle.fop.specs.declared.Event.TheVariants.{E2, E18, E20, E21, E29, E31, E35, E36, E41}
 use Rattle.fop.specs.Variables.{OutFlags, Fop, at_start}
 use Rattle.fop.specs.Events.{SenderEvent, request_ad, request_bd, tick, lower, directive, word_arrives}
 use Rattle.fop.specs.Answers.{Answer}

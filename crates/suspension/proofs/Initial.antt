@@ -14,11 +14,12 @@ use Rattle.base.specs.Choice.{pick}
 use Rattle.fop.specs.Units.{BD, Own, WordReceived, valid, invalid, other, read_word}
 use Rattle.fop.specs.declared.State.{State}
 use Rattle.fop.specs.declared.State.TheVariants.{S1, S2, S3, S4, S6}
-use Rattle.fop.specs.declared.Alert.TheVariants.{None}
+use Rattle.std.specs.Prelude.{None}
 use Rattle.fop.specs.declared.Lower.{Lower}
 use Rattle.fop.specs.declared.Response.{Response}
 use Rattle.fop.specs.declared.Response.TheVariants.{AcceptDirective, ConfirmDirective}
-use Rattle.fop.specs.Table.{FopEvent, table78}
+use Rattle.fop.specs.declared.Event.{Event as FopEvent}
+use Rattle.fop.specs.Table.{table78}
 use Rattle.fop.specs.Variables.{Fop, Work, on_fop, respond, begin, set_state, set_suspend, set_clock}
 use Rattle.fop.specs.Effective.{is_suspended}
 use Rattle.fop.specs.Machine.{perform, perform_all, perform_cell, fop_do, transmit_bc, purge}

@@ -13,7 +13,7 @@ use Rattle.base.specs.Choice.{pick}
 use Rattle.fop.specs.Units.{Own, read_word}
 use Rattle.fop.specs.declared.State.{State}
 use Rattle.fop.specs.declared.State.TheVariants.{S6}
-use Rattle.fop.specs.declared.Alert.TheVariants.{None}
+use Rattle.std.specs.Prelude.{None}
 use Rattle.fop.specs.declared.Response.TheVariants.{AcceptDirective, RejectDirective, ConfirmDirective}
 use Rattle.fop.specs.Variables.{Fop, set_state}
 use Rattle.fop.specs.Effective.{effective_of, effective, is_suspended}

@@ -9,7 +9,8 @@ use Prim.Native.Nat.{ℕ}
 use Rattle.fop.specs.Units.{Fdu, Frame, BD, Own, written}
 use Rattle.fop.specs.declared.State.{State}
 use Rattle.fop.specs.declared.Alert.{Alert}
-use Rattle.fop.specs.declared.Alert.TheVariants.{None}
+use Rattle.std.specs.Prelude as code
+use Rattle.std.specs.Prelude.{None}
 use Rattle.fop.specs.Variables.{Numbers, Queues, Fop, Work}
 use Rattle.fop.specs.Events.{SenderEvent, request_bd}
 use Rattle.fop.specs.Answers.{octets_down, run_of, answered}
@@ -25,7 +26,7 @@ pub record Matter : Type 0 where
   pub confirmed : List Fdu
   pub denied : List Fdu
   pub accepted : Bool
-  pub alert : Alert
+  pub alert : code.Option Alert
   pub abort : Bool
 
 abbrev pub matter : Work → Matter

@@ -18,7 +18,8 @@ use Rattle.fop.specs.declared.State.TheVariants.{S1, S6}
 use Rattle.fop.specs.declared.Alert.TheVariants.{Llif}
 use Rattle.fop.specs.declared.Lower.TheVariants.{AdAccept, AdReject, BcAccept, BcReject, BdReject}
 use Rattle.fop.specs.declared.Response.TheVariants.{RejectAdUnit, AcceptDirective, ConfirmDirective}
-use Rattle.fop.specs.Table.{E17, E23, E29, E46, table78, cell78}
+use Rattle.fop.specs.declared.Event.TheVariants.{E17, E23, E29, E46}
+use Rattle.fop.specs.Table.{table78, cell78}
 use Rattle.fop.specs.Variables.{Entry, Fop, Work, begin, set_state, set_suspend, set_clock, set_numbered, set_preset, set_sequence, set_wait, with_k}
 use Rattle.fop.specs.Effective.{is_suspended, in_service}
 use Rattle.fop.specs.Machine.{first_marked, perform_cell, look_for_fdu}

@@ -13,10 +13,13 @@ use Rattle.fop.specs.Units.{WordReceived, valid, invalid, other}
 use Rattle.fop.specs.declared.State.{State}
 use Rattle.fop.specs.declared.State.TheVariants.{S1, S2, S3, S4, S5, S6}
 use Rattle.fop.specs.declared.Lower.{Lower}
-use Rattle.fop.specs.Table.{Action, Cell, cell, if_not_suspended, NotApplicable, FopEvent, table78, cell78, Ignore, Accept, Reject, Confirm, RejectAd}
-use Rattle.fop.specs.Table.{AcceptBd, RejectBd, AddToWaitQueue, LookForFdu, LookForDirective, RemoveAcknowledgedFrames, InitiateAdRetransmission, InitiateBcRetransmission}
-use Rattle.fop.specs.Table.{ReleaseBcFrame, CancelTimer, StartTimer, Alert, Initialise, TransmitUnlock, TransmitSetVr, TransmitBd, SetSuspendState, Suspend, Resume}
-use Rattle.fop.specs.Table.{SetVs, SetNnr, SetK, SetT1Initial, SetTransmissionLimit, SetTimeoutType, AdOutReady, BcOutReady, BdOutReady}
+use Rattle.fop.specs.declared.Action.{Action}
+use Rattle.fop.specs.declared.Action.TheVariants.{Ignore, Accept, Reject, Confirm, RejectAd}
+use Rattle.fop.specs.declared.Event.{Event as FopEvent}
+use Rattle.fop.specs.Table.{Cell, cell, if_not_suspended, NotApplicable, table78, cell78}
+use Rattle.fop.specs.declared.Action.TheVariants.{AcceptBd, RejectBd, AddToWaitQueue, LookForFdu, LookForDirective, RemoveAcknowledgedFrames, InitiateAdRetransmission, InitiateBcRetransmission}
+use Rattle.fop.specs.declared.Action.TheVariants.{ReleaseBcFrame, CancelTimer, StartTimer, Alert, Initialise, TransmitUnlock, TransmitSetVr, TransmitBd, SetSuspendState, Suspend, Resume}
+use Rattle.fop.specs.declared.Action.TheVariants.{SetVs, SetNnr, SetK, SetT1Initial, SetTransmissionLimit, SetTimeoutType, AdOutReady, BcOutReady, BdOutReady}
 use Rattle.fop.specs.Variables.{Fop, Work, begin}
 use Rattle.fop.specs.Machine.{perform, perform_all, perform_cell, fop_do, send_next, send_waiting, transmit_ad, transmit_bc, remove_acknowledged}
 use Rattle.fop.specs.Events.{when, first, is_empty, seen, word_lines, word_event, fop_word, fop_ad, fop_bd, expiry_lines, fop_expiry, fop_tick, lower_event, fop_lower, directive_lines, directive_event, fop_directive, fop_received}

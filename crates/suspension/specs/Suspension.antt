@@ -1,12 +1,11 @@
 -- Document 02, order 9: "Prove that without such a reject no AD unit is sent, confirmed or denied from a suspension to its Resume, and that Resume brings
 -- back the state left, units outstanding and waiting, marks and V(S)." Of any sender, over any list of its events, all directives included, not only
 -- in a session.
-use Rattle.std.specs.Prelude.{◌≡◌, ◌⊎◌, Bool, true, false, not, ◌&&◌, ◌||◌, List, [], ◌∷◌, ◌++◌, ℕ, ◌≤◌, leb, eqb}
+use Rattle.std.specs.Prelude.{◌≡◌, ◌⊎◌, Bool, true, false, not, ◌&&◌, ◌||◌, List, [], ◌∷◌, ◌++◌, ℕ, ◌≤◌, leb, eqb, None}
 use Rattle.std.proofs.Math.Option.{none, some}
 use Rattle.fop.specs.Units.{BD, Own, written}
 use Rattle.fop.specs.declared.State.{State}
 use Rattle.fop.specs.declared.State.TheVariants.{S1, S2, S3, S4, S5, S6}
-use Rattle.fop.specs.declared.Alert.TheVariants.{None}
 use Rattle.fop.specs.declared.Response.{Response}
 use Rattle.fop.specs.declared.Response.TheVariants.{AcceptAdUnit, RejectAdUnit, AcceptBdUnit, RejectBdUnit, AcceptDirective, RejectDirective, ConfirmDirective, DenyDirective}
 use Rattle.fop.specs.Variables.{Fop, set_state, set_suspend, set_clock}

@@ -2,12 +2,13 @@
 use mathlib.Core.Path.{◌≡◌, refl, ap}
 use mathlib.Core.Bool.{Bool, true, false}
 use mathlib.Core.List.{List, [], ◌∷◌}
-use Prim.Native.Nat.{ℕ, suc, ◌+◌, ◌<◌, ◌≤◌}
+use Prim.Native.Nat.{ℕ, suc, ◌+◌, ◌-◌, ◌<◌, ◌≤◌}
 use native.Mathlib.Numerals.{add-one}
 use native.Mathlib.Omega.{arith}
 use lib.Dec.{eqb}
 use lib.ListN.{length, take, drop}
 use Rattle.base.specs.Choice.{pick}
+use Rattle.base.proofs.Lists.{rest}
 use Rattle.text.specs.Fields.{tab, before, fields_of}
 use Rattle.text.specs.Cut.{cut_of}
 
@@ -36,6 +37,11 @@ fields_whole (c ∷ s) h = step (eqb c tab) h (fields_whole s)
         → pick b ([] ∷ fields_of s) (before c (fields_of s)) ≡ (c ∷ s) ∷ []
     step true h ih = absurd (omega arith)
     step false h ih = ap (before c) (ih (omega arith))
+
+-- the same as the code cuts them
+pub fields_split : (place : ℕ) (s : List ℕ) → place ≡ cut_of s → place < length s
+    → fields_of s ≡ take place s ∷ fields_of (take (length s - (place + 1)) (drop (place + 1) s))
+fields_split place s e h = rw (rest s (place + 1), e) (fields_cut s (omega arith))
 
 -- there is a first field
 pub fields_some : (s : List ℕ) → 0 < length (fields_of s)

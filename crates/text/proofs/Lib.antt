@@ -4,3 +4,5 @@ pub mod Cuts
 pub mod Scans
 pub mod Spelling
 pub mod Outcomes
+pub mod Tens
+pub mod Buffers

@@ -1,42 +1,42 @@
 -- What writing comes to, by whether the room is enough.
-use mathlib.Core.Path.{◌≡◌, sym, ap, ◌∙◌}
+use mathlib.Core.Path.{◌≡◌, refl, sym, ap, ap₂, ◌∙◌}
 use mathlib.Core.List.{List}
-use Prim.Native.Nat.{ℕ, ◌<◌, ◌≤◌}
+use Prim.Native.Nat.{ℕ, ◌≤◌}
 use native.Mathlib.Omega.{arith}
-use borrow.Author.Tests.{le-leb, lt-leb}
-use lib.ListN.{length, drop, length-append, length-drop}
-use Rattle.base.specs.Outcome.{Outcome, Outcome.done, Outcome.refused, answer, after, number_of, count_of}
-use Rattle.text.specs.Answers.{written, written_answer}
-use Rattle.text.specs.declared.NumberWritten.{NumberWritten}
-use Rattle.text.specs.declared.NumberWritten.TheVariants.{Done, Room}
+use borrow.Author.Tests.{le-leb}
+use lib.Seq.{take_at}
+use lib.ListN.{length, take, drop, length-append}
+use Rattle.std.specs.Prelude.{Result, Ok, Err, IsOkAnd}
+use Rattle.base.specs.declared.Refusal.{Refusal}
+use Rattle.base.specs.Outcome.{Outcome, Outcome.done, answer, after, number_of, count_of}
+use Rattle.base.specs.Refusals.{written_answer}
+use Rattle.base.proofs.Refusals.{some_number}
+use Rattle.text.specs.Answers.{written}
 
 pub written_done : (text : List ℕ) (room : ℕ) → length text ≤ room → written text room ≡ done text tt
 unfolding written
 written_done text room h = simp (le-leb (length text) room h)
 
-pub written_short : (text : List ℕ) (room : ℕ) → room < length text → written text room ≡ refused 11 0
-unfolding written
-written_short text room h = simp (lt-leb (length text) room h)
+-- an outcome that is done is told as no refusal
+pub ok_done : (o : Outcome (Unit {0})) (octets : List ℕ) (w : Result ℕ Refusal) → written_answer w ≡ answer o → o ≡ done octets tt → w ≡ Ok (length octets)
+ok_done o octets (Ok n) e d = ap Ok (ap count_of e ∙ ap (λ x. count_of (answer x)) d)
+ok_done o octets (Err refusal) e d = absurd (some_number refusal (ap number_of e ∙ ap (λ x. number_of (answer x)) d))
 
--- the answer to a text that fits
-module _ (text : List ℕ) (room : ℕ) (fits : length text ≤ room) (w : NumberWritten) (e : written_answer w ≡ answer (written text room)) where
-  pub told_done : (n : ℕ) → w ≡ Done n → n ≡ length text
-  told_done n d = ap (λ (v : NumberWritten). count_of (written_answer v)) (sym d) ∙ ap count_of e ∙ ap (λ o. count_of (answer o)) (written_done text room fits)
+-- nor is a text that fits
+pub told_ok : (text : List ℕ) (room : ℕ) (w : Result ℕ Refusal) → length text ≤ room → written_answer w ≡ answer (written text room) → w ≡ Ok (length text)
+told_ok text room w h e = ok_done (written text room) text w e (written_done text room h)
 
-  pub never_short : w ≡ Room → ⊥
-  never_short d =
-      let z : ◌≡◌ {A = ℕ} 11 0 = ap (λ (v : NumberWritten). number_of (written_answer v)) (sym d) ∙ ap number_of e ∙ ap (λ o. number_of (answer o)) (written_done text room fits) in
-      omega arith
+-- and what then stands at the front
+pub told_text : (text old out : List ℕ) (w : Result ℕ Refusal) (count : ℕ) → length text ≤ length old → written_answer w ≡ answer (written text (length old)) → w ≡ Ok count
+    → out ≡ after (written text (length old)) old → take count out ≡ text
+told_text text old out w count h e is m =
+    let n : count ≡ length text = ap (λ (v : Result ℕ Refusal). count_of (written_answer v)) (sym is ∙ told_ok text (length old) w h e) in
+    ap₂ take n (m ∙ ap (λ o. after o old) (written_done text (length old) h)) ∙ take_at text (drop (length text) old) (length text) refl
 
 -- what is told to be written lies within the output
-within : (o : Outcome (Unit {0})) (old : List ℕ) → length (after o old) ≡ length old → count_of (answer o) ≤ length old
-within (Outcome.done octets more) old e = omega (arith, length-append octets (drop (length octets) old), length-drop (length octets) old)
-within (Outcome.refused number place) old e = omega arith
-
-pub count_within : (o : Outcome (Unit {0})) (old out : List ℕ) (w : NumberWritten) → written_answer w ≡ answer o → out ≡ after o old → length out ≡ length old
-    → count_of (written_answer w) ≤ length out
-count_within o old out w a m l = omega (arith, ap count_of a, within o old (ap length (sym m) ∙ l))
-
--- and nothing is refused where the outcome is done
-pub number_done : (o : Outcome (Unit {0})) (octets : List ℕ) (w : NumberWritten) → written_answer w ≡ answer o → o ≡ done octets tt → number_of (written_answer w) ≡ 0
-number_done o octets w a d = ap number_of a ∙ ap (λ x. number_of (answer x)) d
+pub ok_within : (o : Outcome (Unit {0})) (octets old out : List ℕ) (w : Result ℕ Refusal) → written_answer w ≡ answer o → o ≡ done octets tt → out ≡ after o old
+    → length out ≡ length old → IsOkAnd w (λ count. count ≤ length out)
+ok_within o octets old out w e d m l =
+    let n : length octets ≤ length out =
+    omega (arith, ap length (m ∙ ap (λ x. after x old) d) ∙ length-append octets (drop (length octets) old)) in
+    rw (ok_done o octets w e d) n

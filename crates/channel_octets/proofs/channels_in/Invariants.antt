@@ -1,12 +1,8 @@
 -- The loop's invariant: the first records are those of the octets, the others stand for none.
-use mathlib.Core.Path.{◌≡◌}
-use Prim.Native.Nat.{◌-◌, ◌≤◌}
+use Rattle.std.proofs.Common.{◌≡◌}
 use Rattle.channel_octets.specs.Kept.{records_in}
 use Rattle.channel_octets.proofs.Taken.{partly}
 use Rattle.channel_octets.proofs.channels_in.Given as goal
 
 abbrev pub invariant-loop-place : goal.invariant-loop-place
-invariant-loop-place l = (l.place ≤ l.read) × (l.channels ≡ partly l.spacecraft l.pool (records_in l.table) l.place)
-
-abbrev pub decreases-loop-place : goal.decreases-loop-place
-decreases-loop-place l = l.read - l.place
+invariant-loop-place l = l.channels ≡ partly l.spacecraft l.pool (records_in l.table) l.place

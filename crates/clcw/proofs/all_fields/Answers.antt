@@ -6,5 +6,5 @@ use Rattle.clcw.proofs.all_fields.Goals as goal
 
 pub returns : goal.returns
 returns c =
-    rw c.word-word.ensures
-    (sym (received_is c.args.octets.now (search rules) (λ i. (c.shared_slice_known-4-1.given i).fits)))
+    rw c.word.ensures
+    (sym (received_is c.args.octets (search rules) (λ i. search rules)))

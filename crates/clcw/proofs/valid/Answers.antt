@@ -1,27 +1,36 @@
--- Each test judges the fields of one octet, type and version in one.
+-- The tests one behind the other are those of the definition.
 use borrow.Author.Rules.{rules}
-use mathlib.Core.Path.{sym}
-use Rattle.clcw.proofs.Word.{valid_front, valid_cop, valid_spare, valid_last}
+use borrow.Author.Tests.{eqb-true, ne_eqb}
+use mathlib.Core.Path.{sym, ◌∙◌}
+use native.Mathlib.Omega.{arith}
+use Rattle.base.proofs.Tests.{apart}
+use Rattle.clcw.proofs.Word.{valid_is, valid_last}
+use Rattle.clcw.proofs.valid.Goals.{then-octets-eq0, else-octets-eq0, then-octets-eq1, else-octets-eq1}
 use Rattle.clcw.proofs.valid.Goals as goal
 
-pub returns-then-octets-ne0 : goal.returns-then-octets-ne0
-returns-then-octets-ne0 c =
-    let s = c.args.octets.now in
-    sym (valid_front s (search rules) (λ i. (c.shared_slice_known-1.given i).fits) c.if-octets-ne0.true)
+pub returns-then-octets-eq0-2 : goal.returns-then-octets-eq0-2
+returns-then-octets-eq0-2 c =
+    let s = c.args.octets in
+    elim c.if-octets-eq1.branch [
+      | then-octets-eq1 w ↦ elim c.if-octets-eq0.branch [
+        | then-octets-eq0 v ↦ sym (valid_last s (search rules) (λ i. search rules) (omega arith)
+            (eqb-true _ 1 (sym v.value-is ∙ w.if-octets-eq1.true)) (eqb-true _ 0 (sym w.value-is ∙ c.if-octets-eq0-2.true)))
+        | else-octets-eq0 v ↦ absurd (apart (sym (ne_eqb _ 0 v.if-octets-eq0.false) ∙ sym v.value-is ∙ w.if-octets-eq1.true))
+      ]
+      | else-octets-eq1 w ↦ absurd (apart (sym w.if-octets-eq1.false ∙ sym w.value-is ∙ c.if-octets-eq0-2.true))
+    ]
 
-pub returns-then-octets-ne1 : goal.returns-then-octets-ne1
-returns-then-octets-ne1 c =
-    let s = c.args.octets.now in
-    sym (valid_cop s (search rules) (λ i. (c.shared_slice_known-2-1.given i).fits) c.if-octets-ne0.false c.if-octets-ne1.true)
-
-pub returns-then-octets-ne0-2 : goal.returns-then-octets-ne0-2
-returns-then-octets-ne0-2 c =
-    let s = c.args.octets.now in
-    sym (valid_spare s (search rules) (λ i. (c.shared_slice_known-3-1.given i).fits)
-    c.if-octets-ne0.false c.if-octets-ne1.false c.if-octets-ne0-2.true)
-
-pub returns : goal.returns
-returns c =
-    let s = c.args.octets.now in
-    sym (valid_last s (search rules) (λ i. (c.shared_slice_known-4-1.given i).fits)
-    c.if-octets-ne0.false c.if-octets-ne1.false c.if-octets-ne0-2.false)
+pub returns-else-octets-eq0-2 : goal.returns-else-octets-eq0-2
+returns-else-octets-eq0-2 c =
+    let s = c.args.octets in
+    let e = valid_is s (search rules) (λ i. search rules) in
+    elim c.if-octets-eq1.branch [
+      | then-octets-eq1 w ↦ elim c.if-octets-eq0.branch [
+        | then-octets-eq0 v ↦ grind (arith, e)
+        | else-octets-eq0 v ↦ grind (arith, e)
+      ]
+      | else-octets-eq1 w ↦ elim c.if-octets-eq0.branch [
+        | then-octets-eq0 v ↦ grind (arith, e)
+        | else-octets-eq0 v ↦ grind (arith, e)
+      ]
+    ]

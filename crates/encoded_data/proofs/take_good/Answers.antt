@@ -1,11 +1,19 @@
--- The constants keep their rules, by computed tests over all entries (codeblock/proofs/ByTable).
-use mathlib.Core.Path.{refl}
-use Rattle.base.specs.Register.{shift_bit, shift_bits, register}
-use Rattle.codeblock.specs.Codeblock.{parity}
-use Rattle.codeblock.specs.Table.{share_of}
-use Rattle.codeblock.proofs.ByTable.{share_table, bit_table}
+-- Where there is no room for the information of all whole codeblocks, none is taken; else all are looked at.
+use mathlib.Core.Path.{refl, sym, ap}
+use Prim.Native.Nat.{ℕ}
+use native.Mathlib.Omega.{arith}
+use lib.ListN.{length}
+use Rattle.codeblock.specs.Codeblock.{judged}
+use Rattle.encoded_data.specs.EncodedData.{good_run, information_in, corrected_in}
+use Rattle.encoded_data.proofs.Scan.{whole_none}
 use Rattle.encoded_data.proofs.take_good.Goals as goal
 
-pub take_whole-requires : goal.take_whole-requires
-unfolding share_of parity register shift_bits shift_bit
-take_whole-requires c = (share_table _ refl tt, bit_table _ refl tt)
+pub returns-then-information-input-clause-run : goal.returns-then-information-input-clause-run
+unfolding good_run corrected_in
+returns-then-information-input-clause-run c =
+    let a = c.args in
+    (sym (ap (λ (n : ℕ). good_run (judged a.mode) n a.input.now) (whole_none (length a.input.now) (length a.information.now) (omega arith))), refl)
+
+pub returns-then-information-input-clause-memory : goal.returns-then-information-input-clause-memory
+unfolding information_in
+returns-then-information-input-clause-memory c = refl

@@ -7,7 +7,7 @@ use Rattle.frame.proofs.Octets.{total_is}
 use Rattle.frame.proofs.total.Goals as goal
 
 pub overflow_add-result : goal.overflow_add-result
-overflow_add-result c = omega (arith, c.pair.ensures, (c.shared_slice_known-1.given 2).fits, (c.shared_slice_known-1.given 3).fits)
+overflow_add-result c = omega (arith, c.from_be_bytes.ensures, (c.type_inv.octets 2).fits, (c.type_inv.octets 3).fits)
 
 pub returns : goal.returns
-returns c = ap (λ (x : ℕ). x + 1) c.pair.ensures ∙ sym (total_is _ (λ i. (c.shared_slice_known-1.given i).fits) (search rules))
+returns c = ap (λ (x : ℕ). x + 1) c.from_be_bytes.ensures ∙ sym (total_is _ (λ i. (c.type_inv.octets i).fits) (search rules))

@@ -1,18 +1,17 @@
--- The words of one field, one after the other.
-use Rattle.program_lines.proofs.Words.{ones}
+-- A field that is shorter than each word, or longer.
+use Rattle.std.proofs.Common.{arith}
+use Rattle.base.proofs.Lists.{same_length_not}
+use Rattle.program_lines.specs.Line.{word_bd, word_unlock, word_bad, word_free, by_fields}
 use Rattle.program_lines.proofs.one.Goals as goal
 
-pub returns-then-same : goal.returns-then-same
-returns-then-same c = search ones
+pub returns-in_default : goal.returns-in_default
+unfolding by_fields
+returns-in_default c =
+    let w = c.args.word.now in
+    rw (same_length_not w word_bd (λ e. omega arith), same_length_not w word_unlock (λ e. omega arith), same_length_not w word_bad (λ e. omega arith), same_length_not w word_free (λ e. omega arith))
 
-pub returns-then-same-2 : goal.returns-then-same-2
-returns-then-same-2 c = search ones
-
-pub returns-then-same-3 : goal.returns-then-same-3
-returns-then-same-3 c = search ones
-
-pub returns-then-same-4 : goal.returns-then-same-4
-returns-then-same-4 c = search ones
-
-pub returns : goal.returns
-returns c = search ones
+pub returns-in_default-18 : goal.returns-in_default-18
+unfolding by_fields
+returns-in_default-18 c =
+    let w = c.args.word.now in
+    rw (same_length_not w word_bd (λ e. omega arith), same_length_not w word_unlock (λ e. omega arith), same_length_not w word_bad (λ e. omega arith), same_length_not w word_free (λ e. omega arith))

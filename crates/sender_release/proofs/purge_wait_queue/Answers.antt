@@ -2,8 +2,8 @@
 use Rattle.sender_release.proofs.Ways.{purge_waiting, purge_none}
 use Rattle.sender_release.proofs.purge_wait_queue.Goals as goal
 
-pub returns-then-waiting : goal.returns-then-waiting
-returns-then-waiting c = search purge_waiting
+pub returns-then-work : goal.returns-then-work
+returns-then-work c = search purge_waiting
 
 pub returns : goal.returns
 returns c = search purge_none

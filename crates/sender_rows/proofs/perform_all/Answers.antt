@@ -1,26 +1,26 @@
-use mathlib.Core.Path.{◌≡◌, sym, ◌∙◌}
-use native.Mathlib.Omega.{arith}
-use lib.ListN as list
-use lib.ListN.{drop, get_or}
-use Rattle.sender_table.specs.Rows.{done}
-use Rattle.sender_table.specs.Numbers.{action_of}
-use Rattle.sender_rows.proofs.Numbered.{ignored, in_turn, all_done}
-use borrow.Author.Rules.{rules}
+-- The actions from an index on are the one there and those behind it; at the end there is none.
+use mathlib.Core.Path.{sym, ap, ◌∙◌}
+use mathlib.Core.List.{List}
+use Prim.Native.Nat.{◌+◌}
+use lib.ListN.{drop}
+use Rattle.std.proofs.lemmas.List.{drop_more, drop_all}
+use Rattle.fop.specs.declared.Action.{Action}
+use Rattle.fop.specs.declared.Action.TheVariants.{Ignore}
+use Rattle.sender_table.specs.Rows.{done_all}
 use Rattle.sender_rows.proofs.perform_all.Goals as goal
-use Rattle.sender_rows.proofs.perform_all.Goals.{then-number-ne-IGNORE, else-number-ne-IGNORE}
 
-pub loop-i-preserved : goal.loop-i-preserved
-loop-i-preserved c =
+pub loop-action-preserved : goal.loop-action-preserved
+unfolding done_all
+loop-action-preserved c =
     let a = c.args in
-    let l = c.loop-i in
-    let five : list.length a.numbers ≡ 5 = search rules in
-    let e : c.if-number-ne-IGNORE.next ≡ done (action_of (get_or a.numbers l.i 0)) a.value l.next =
-    elim c.if-number-ne-IGNORE.branch [ then-number-ne-IGNORE w ↦ w.next-is ∙ w.perform-next.ensures | else-number-ne-IGNORE w ↦ w.next-is ∙ ignored (get_or a.numbers l.i 0) a.value l.next w.if-number-ne-IGNORE.false ] in
-    (omega arith, in_turn a.numbers l.i a.value l.next c.if-number-ne-IGNORE.next (omega arith) e ∙ l.invariant.1)
+    let l = c.loop-action in
+    ap (done_all (drop (l.action-index + 1) a.actions.now) a.value) c.perform-work.ensures
+    ∙ ap (λ (s : List Action). done_all s a.value l.work) (sym (drop_more a.actions.now l.action-index Ignore c.loop-action-test.true))
+    ∙ l.invariant
 
 pub returns : goal.returns
+unfolding done_all
 returns c =
     let a = c.args in
-    let l = c.loop-i in
-    let five : list.length a.numbers ≡ 5 = search rules in
-    sym (all_done a.numbers l.i a.value l.next (omega arith)) ∙ l.invariant.1
+    let l = c.loop-action in
+    sym (ap (λ (s : List Action). done_all s a.value l.work) (drop_all l.action-index a.actions.now c.loop-action-test.false)) ∙ l.invariant

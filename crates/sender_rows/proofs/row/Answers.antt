@@ -1,9 +1,25 @@
--- No event's number keeps the work; else what the callees ensure, put together, is the event's row.
-use Rattle.sender_rows.proofs.Suspended.{no_row, chosen_row}
+-- No event keeps the work; else what the cell of the row chosen asks, done, is the event's row.
+use mathlib.Core.Path.{sym, ap, ap₂, ◌∙◌}
+use Rattle.std.specs.Prelude.{Option}
+use Rattle.fop.specs.declared.Event.{Event as FopEvent}
+use Rattle.fop.specs.Table.{table78, cell78}
+use Rattle.sender_values.specs.Actions.{to_state}
+use Rattle.sender_table.specs.Rows.{row_if}
+use Rattle.sender_table.specs.Cells.{asked_by}
+use Rattle.sender_table.proofs.Done.{asked_done, cell_row}
 use Rattle.sender_rows.proofs.row.Goals as goal
 
-pub returns-then-event-eq0 : goal.returns-then-event-eq0
-returns-then-event-eq0 c = search no_row
+pub returns-in_default : goal.returns-in_default
+unfolding row_if
+returns-in_default c = sym (ap (λ (e : Option FopEvent). row_if e c.args.value c.args.work) c.in_default.is)
 
 pub returns : goal.returns
-returns c = search chosen_row
+unfolding row_if
+returns c =
+    let a = c.args in
+    let w = a.work in
+    c.to_state.ensures
+    ∙ ap₂ to_state c.unwrap_or-next.ensures c.perform_all.ensures
+    ∙ ap (asked_done a.value w) (c.cell-asked.ensures ∙ ap (λ (e : FopEvent). asked_by (cell78 (table78 e) w.state) w.state) c.unless_suspended-chosen.ensures)
+    ∙ cell_row a.value w c.in-Some.event
+    ∙ ap (λ (e : Option FopEvent). row_if e a.value w) (sym c.in-Some.is)

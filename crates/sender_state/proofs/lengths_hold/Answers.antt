@@ -1,23 +1,18 @@
 -- Both tests are that of the lengths, of as many units as there are lengths at the most.
-use borrow.Author.Rules.{rules}
-use Prim.Native.Nat.{ℕ}
 use mathlib.Core.Path.{◌≡◌, sym, ap, ◌∙◌}
-use native.Mathlib.Omega.{arith}
+use Prim.Native.Nat.{min}
 use lib.ListN.{length}
-use Rattle.base.specs.Choice.{both}
-use Rattle.store.specs.Places.{places}
-use Rattle.sender_state.specs.State.{lengths_hold}
-use Rattle.sender_state.proofs.Kept.{all_held}
+use Rattle.sender_state.proofs.Kept.{filled_within, not_filled}
 use Rattle.sender_state.proofs.lengths_hold.Goals as goal
-use Rattle.sender_state.proofs.lengths_hold.Goals.{then-held-gt-PLACES, else-held-gt-PLACES}
 
-pub returns : goal.returns
-returns c =
+pub returns-then-lengths_filled : goal.returns-then-lengths_filled
+returns-then-lengths_filled c =
     let s = c.args.lengths.now in
-    let l : length s ≡ places = search rules in
-    let first : lengths_hold c.if-held-gt-PLACES.first s ≡ lengths_hold c.args.held s =
-    elim c.if-held-gt-PLACES.branch [
-      | then-held-gt-PLACES w ↦ ap (λ (n : ℕ). lengths_hold n s) (w.first-is ∙ sym l) ∙ all_held s c.args.held (omega (arith, l, w.if-held-gt-PLACES.true))
-      | else-held-gt-PLACES w ↦ ap (λ (n : ℕ). lengths_hold n s) w.first-is
-    ] in
-    c.both.ensures ∙ ap (both c.lengths_filled-filled.result) c.lengths_within-within.ensures ∙ c.lengths_filled-filled.ensures ∙ first
+    let m : c.min.result ≡ min c.args.held (length s) = c.min.ensures ∙ ap (min c.args.held) (sym c.told-lengths) in
+    filled_within c.args.held c.min.result s m c.lengths_filled.ensures c.if-lengths_filled.true c.lengths_within.ensures
+
+pub returns-else-lengths_filled : goal.returns-else-lengths_filled
+returns-else-lengths_filled c =
+    let s = c.args.lengths.now in
+    let m : c.min.result ≡ min c.args.held (length s) = c.min.ensures ∙ ap (min c.args.held) (sym c.told-lengths) in
+    not_filled c.args.held c.min.result s m c.lengths_filled.ensures c.if-lengths_filled.false

@@ -1,14 +1,10 @@
--- The tests so far and those of what is left are those of the whole.
+-- The test so far is that of the lengths met.
 use mathlib.Core.Path.{◌≡◌}
-use Prim.Native.Nat.{◌-◌, ◌≤◌}
-use lib.ListN.{drop}
-use Rattle.base.specs.Choice.{both}
-use Rattle.store.specs.Places.{places}
-use Rattle.sender_state.specs.State.{lengths_hold}
+use lib.Dec.{leb}
+use lib.ListN.{take}
+use Rattle.std.specs.List.{list_all}
+use Rattle.base.specs.Limits.{largest_unit}
 use Rattle.sender_state.proofs.lengths_within.Given as goal
 
-abbrev pub invariant-loop-i : goal.invariant-loop-i
-invariant-loop-i l = (l.i ≤ places) × (both l.within (lengths_hold 0 (drop l.i l.lengths)) ≡ lengths_hold 0 l.lengths)
-
-abbrev pub decreases-loop-i : goal.decreases-loop-i
-decreases-loop-i l = places - l.i
+abbrev pub invariant-loop-length : goal.invariant-loop-length
+invariant-loop-length l = l.within ≡ list_all (λ length. leb length largest_unit) (take l.length-index l.lengths)

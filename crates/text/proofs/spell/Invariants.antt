@@ -1,9 +1,7 @@
--- The digits behind a place stand (proofs/Spelling).
-use Rattle.text.proofs.Spelling.{Spelled}
+-- The digits from a place on stand, and in front of them rest has its digits still to come.
+use Rattle.std.proofs.Common.{◌≡◌, ◌++◌, ◌<◌, take, drop}
+use Rattle.text.specs.Decimal.{decimal}
 use Rattle.text.proofs.spell.Given as goal
 
-abbrev pub invariant-loop-rest : goal.invariant-loop-rest
-invariant-loop-rest l = Spelled l.n l.initial.out l.out l.place l.rest
-
-abbrev pub decreases-loop-rest : goal.decreases-loop-rest
-decreases-loop-rest l = l.rest
+abbrev pub invariant-loop-place : goal.invariant-loop-place
+invariant-loop-place l = (0 < l.place → take l.place (decimal l.n) ≡ decimal l.rest) × (l.out ≡ take l.place l.initial.out ++ drop l.place (decimal l.n))

@@ -1,44 +1,58 @@
-use borrow.Author.Rules.{rules}
-use mathlib.Core.Path.{refl, sym, ◌∙◌}
-use native.Mathlib.Omega.{arith}
-use Rattle.text.proofs.Scans.{value_low, value_high, value_big, value_on, value_end}
+use Rattle.std.proofs.Common.{sym, ap, ◌∙◌, ◌+◌, drop, arith}
+use Rattle.text.specs.Decimal.{value_within}
+use Rattle.text.proofs.Scans.{value_other, value_big, value_on, value_end}
 use Rattle.text.proofs.value.Goals as goal
 
-pub loop-i-init : goal.loop-i-init
-loop-i-init c = (search rules, search rules, refl)
-
-pub returns-then-c-lt-ZERO : goal.returns-then-c-lt-ZERO
-returns-then-c-lt-ZERO c =
-    let l = c.loop-i in
+pub returns-then-not-is_ascii_digit : goal.returns-then-not-is_ascii_digit
+returns-then-not-is_ascii_digit c =
+    let l = c.loop-octet in
     let a = c.args in
-    sym (value_low a.limit l.a a.text.now l.i (omega arith) (omega arith)) ∙ l.invariant.2
+    sym (value_other a.limit l.value a.text.now l.octet-index (omega arith) c.if-not-is_ascii_digit.ensures.cases) ∙ l.invariant.1
 
-pub returns-then-c-gt-NINE : goal.returns-then-c-gt-NINE
-returns-then-c-gt-NINE c =
-    let l = c.loop-i in
+pub returns-in_err-checked_mul : goal.returns-in_err-checked_mul
+returns-in_err-checked_mul c =
+    let l = c.loop-octet in
     let a = c.args in
-    sym (value_high a.limit l.a a.text.now l.i (omega arith) (omega arith)) ∙ l.invariant.2
+    let digit = c.if-not-is_ascii_digit.ensures.cases in
+    let big = c.in_err-checked_mul.ensures in
+    c.from_residual.ensures
+    ∙ sym (value_big a.limit l.value a.text.now l.octet-index (omega arith) digit.0 digit.1 (omega arith))
+    ∙ l.invariant.1
 
-pub returns-then-limit-d : goal.returns-then-limit-d
-returns-then-limit-d c =
-    let l = c.loop-i in
+pub returns-in_err-value : goal.returns-in_err-value
+returns-in_err-value c =
+    let l = c.loop-octet in
     let a = c.args in
-    sym (value_big a.limit l.a a.text.now l.i (omega arith) (omega arith) (omega arith) (omega arith)) ∙ l.invariant.2
+    let digit = c.if-not-is_ascii_digit.ensures.cases in
+    let ten = c.in_ok-checked_mul.ensures in
+    let big = c.in_err-value.ensures in
+    c.from_residual-in_err-value.ensures
+    ∙ sym (value_big a.limit l.value a.text.now l.octet-index (omega arith) digit.0 digit.1 (omega arith))
+    ∙ l.invariant.1
 
-pub returns-then-limit-d-2 : goal.returns-then-limit-d-2
-returns-then-limit-d-2 c =
-    let l = c.loop-i in
+pub returns-then-limit-value : goal.returns-then-limit-value
+returns-then-limit-value c =
+    let l = c.loop-octet in
     let a = c.args in
-    sym (value_big a.limit l.a a.text.now l.i (omega arith) (omega arith) (omega arith) (omega arith)) ∙ l.invariant.2
+    let digit = c.if-not-is_ascii_digit.ensures.cases in
+    let ten = c.in_ok-checked_mul.ensures in
+    let more = c.in_ok-value.ensures in
+    sym (value_big a.limit l.value a.text.now l.octet-index (omega arith) digit.0 digit.1 (omega arith)) ∙ l.invariant.1
 
-pub loop-i-preserved : goal.loop-i-preserved
-loop-i-preserved c =
-    let l = c.loop-i in
+pub loop-octet-preserved : goal.loop-octet-preserved
+loop-octet-preserved c =
+    let l = c.loop-octet in
     let a = c.args in
-    (search rules, omega arith, sym (value_on a.limit l.a a.text.now l.i (omega arith) (omega arith) (omega arith) (omega arith)) ∙ l.invariant.2)
+    let digit = c.if-not-is_ascii_digit.ensures.cases in
+    let ten = c.in_ok-checked_mul.ensures in
+    let more = c.in_ok-value.ensures in (
+      c.if-limit-value.false,
+      ap (λ v. value_within a.limit v (drop (l.octet-index + 1) a.text.now)) (omega arith)
+          ∙ sym (value_on a.limit l.value a.text.now l.octet-index (omega arith) digit.0 digit.1 (omega arith)) ∙ l.invariant.1,
+    )
 
 pub returns : goal.returns
 returns c =
-    let l = c.loop-i in
+    let l = c.loop-octet in
     let a = c.args in
-    sym (value_end a.limit l.a a.text.now l.i (omega arith)) ∙ l.invariant.2
+    sym (value_end a.limit l.value a.text.now l.octet-index (omega arith)) ∙ l.invariant.1

@@ -1,12 +1,7 @@
 -- The digits left, behind the value so far, give the value of all.
-use Prim.Native.Nat.{◌-◌, ◌≤◌}
-use mathlib.Core.Path.{◌≡◌}
-use lib.ListN.{length, drop}
+use Rattle.std.proofs.Common.{◌≡◌, ◌≤◌, drop}
 use Rattle.text.specs.Decimal.{value_within}
 use Rattle.text.proofs.value.Given as goal
 
-abbrev pub invariant-loop-i : goal.invariant-loop-i
-invariant-loop-i l = (l.i ≤ length l.text) × (l.a ≤ l.limit) × (value_within l.limit l.a (drop l.i l.text) ≡ value_within l.limit 0 l.text)
-
-abbrev pub decreases-loop-i : goal.decreases-loop-i
-decreases-loop-i l = length l.text - l.i
+abbrev pub invariant-loop-octet : goal.invariant-loop-octet
+invariant-loop-octet l = (l.value ≤ l.limit) × (value_within l.limit l.value (drop l.octet-index l.text) ≡ value_within l.limit 0 l.text)

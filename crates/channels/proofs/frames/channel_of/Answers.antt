@@ -14,11 +14,11 @@ missing : (s : List ℕ) → length s < 3 → 0 ≡ field_at virtual_channel_ide
 unfolding field_at value_of
 missing s h = sym (ap (λ (bits : List ℕ). value_of 0 (take 6 bits)) (drop_of_length-le (octet_bits s) {i = 16} (omega (arith, length_bits s))))
 
-pub returns-then-octets-lt3 : goal.returns-then-octets-lt3
-returns-then-octets-lt3 c = missing c.args.octets.now c.if-octets-lt3.true
+pub returns-in_default : goal.returns-in_default
+returns-in_default c = missing c.args.octets.now c.in_default.len_below
 
-pub returns : goal.returns
-returns c =
+pub returns-in-len3-up : goal.returns-in-len3-up
+returns-in-len3-up c =
     let s = c.args.octets.now in
-    let o = c.shared_slice_known-1.given 2 in
-    sym (field_in_octet s 2 0 6 2 refl (omega arith) o.fits ∙ omega (arith, o.fits))
+    let o = c.type_inv.octets 2 in
+    sym (field_in_octet s 2 0 6 2 refl (omega (arith, c.in-len3-up.len_at_least)) o.fits ∙ omega (arith, o.fits))

@@ -24,5 +24,5 @@ overflow_add-result-3 c =
 pub returns : goal.returns
 returns c =
     let word = c.args.self in
-    simp (c.bit-lockout.ensures, c.bit-wait.ensures, c.bit-retransmit.ensures)
+    simp (c.from-lockout.ensures, c.from-wait.ensures, c.from-retransmit.ensures)
     (sym (octets_are word (search rules) (search rules) (search rules)))

@@ -5,4 +5,4 @@ use Rattle.clcw.proofs.Word.{word_is}
 use Rattle.clcw.proofs.Clcw.word.Goals as goal
 
 pub returns : goal.returns
-returns c = sym (word_is c.args.octets.now (search rules) (λ i. (c.shared_slice_known-3-1.given i).fits))
+returns c = sym (word_is c.args.octets (search rules) (λ i. search rules))

@@ -9,13 +9,13 @@ use Rattle.start_sequence.proofs.Search.{start_room}
 use Rattle.cltu.proofs.Outcomes.{reading_long, reading_none, reading_found}
 use Rattle.cltu.proofs.reader.read.Goals as goal
 
-pub returns-then-len-gt-LARGEST_INPUT : goal.returns-then-len-gt-LARGEST_INPUT
-returns-then-len-gt-LARGEST_INPUT c =
+pub returns-then-input-gt-LARGEST_INPUT : goal.returns-then-input-gt-LARGEST_INPUT
+returns-then-input-gt-LARGEST_INPUT c =
     let a = c.args in
     let p = told (reading_long (judged a.mode) a.input.now (length a.out.now) (search rules)) a.out.now in record { answer = p.0; memory = p.1 }
 
-pub returns-then-len-first : goal.returns-then-len-first
-returns-then-len-first c =
+pub returns-then-input-first : goal.returns-then-input-first
+returns-then-input-first c =
     let a = c.args in
     let p = told (reading_none (judged a.mode) a.input.now (length a.out.now) (omega arith) (omega (arith, c.find_start-first.ensures))) a.out.now in record { answer = p.0; memory = p.1 }
 

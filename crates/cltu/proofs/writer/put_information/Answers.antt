@@ -2,9 +2,9 @@
 use borrow.Author.Rules.{rules}
 use mathlib.Core.Path.{◌≡◌, ap, ◌∙◌}
 use mathlib.Core.List.{List}
-use Prim.Native.Nat.{ℕ, ◌-◌, ◌*◌}
+use Prim.Native.Nat.{ℕ, ◌*◌}
 use native.Mathlib.Omega.{arith}
-use lib.ListN.{take, drop}
+use lib.ListN.{take}
 use Rattle.base.specs.Limits.{largest_frame}
 use Rattle.encoded_data.proofs.Scan.{part_front}
 use Rattle.memory.specs.Placed.{placed}
@@ -20,6 +20,6 @@ returns c =
     let a = c.args in
     let f = a.frame.now in
     let p = c.put in
-    let e : take (a.count - 0) (drop 0 p.new.memory) ≡ filled f =
+    let e : take a.count p.new.memory ≡ filled f =
     part_front (filled f) _ p.new.memory a.count (p.ensures ∙ filled_front f (7 * codeblocks largest_frame) (search rules)) (omega (arith, length_filled f)) in
     c.randomize.ensures ∙ ap (λ (x : List ℕ). placed a.information.now 0 (randomized 0 x)) e

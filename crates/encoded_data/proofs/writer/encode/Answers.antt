@@ -1,11 +1,15 @@
--- The constant keeps its rule, by computed tests over all entries (codeblock/proofs/ByTable).
-use mathlib.Core.Path.{refl}
-use Rattle.base.specs.Register.{shift_bit, shift_bits, register}
-use Rattle.codeblock.specs.Codeblock.{parity}
-use Rattle.codeblock.specs.Table.{share_of}
-use Rattle.codeblock.proofs.ByTable.{share_table}
+-- Where the codeblocks do not fit, nothing is placed.
+use mathlib.Core.Path.{sym}
+use Prim.Native.Nat.{◌/◌}
+use native.Mathlib.Omega.{arith}
+use lib.ListN.{length}
+use Rattle.memory.proofs.Laws.{placed_not}
+use Rattle.encoded_data.specs.EncodedData.{encoded}
+use Rattle.encoded_data.proofs.Encoded.{length_encoded}
 use Rattle.encoded_data.proofs.writer.encode.Goals as goal
 
-pub encode_by-requires : goal.encode_by-requires
-unfolding share_of parity register shift_bits shift_bit
-encode_by-requires c = share_table _ refl tt
+pub returns-else-information-out : goal.returns-else-information-out
+returns-else-information-out c =
+    let a = c.args in
+    let s = a.information.now in
+    sym (placed_not a.out.now 0 (encoded (length s / 7) s) (omega (arith, length_encoded (length s / 7) s (omega arith))))

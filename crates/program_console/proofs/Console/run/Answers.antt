@@ -1,40 +1,30 @@
-use Prim.Native.Nat.{◌+◌, ◌≤◌}
-use native.Mathlib.Omega.{arith}
-use lib.ListN.{length}
-use lib.Seq.{length-take-le}
-use Rattle.program_rows.specs.Rows.{row_room}
+use Rattle.std.proofs.Common.{ap, Ok, arith}
 use Rattle.program_console.specs.Feed.{progress_of}
-use Rattle.program_console.proofs.Feeding.{run_start, run_on, run_end}
+use Rattle.program_console.proofs.Feeding.{taken_none, never_refused, taken_on, taken_all}
 use Rattle.program_console.proofs.Console.run.Goals as goal
 
-pub loop-i-init : goal.loop-i-init
-loop-i-init c =
-    let a = c.args in
-    (omega arith, run_start (progress_of a.self) a.chunk.now a.out.now (omega arith))
+pub loop-octet-init : goal.loop-octet-init
+loop-octet-init c = taken_none (progress_of c.args.self.now) c.args.chunk.now c.args.out.now
 
-pub step-place-requires : goal.step-place-requires
-step-place-requires c =
-    let l = c.loop-i in
+pub returns-in_err-count : goal.returns-in_err-count
+returns-in_err-count c =
     let a = c.args in
-    let t = length-take-le l.i a.chunk.now (omega arith) in
-    let h : l.place.at + row_room ≤ length l.out = omega (arith, l.invariant.1.most, l.invariant.1.whole) in
-    h
+    let l = c.loop-octet in
+    let s = c.step in
+    absurd (never_refused (progress_of a.self.now) a.chunk.now a.out.now c.requires l.octet-index (progress_of l.self) l.out l.place c.loop-octet-test.true l.auto.out l.invariant
+    s.result s.ensures.most s.ensures.answer _ c.in_err-count.was)
 
-pub loop-i-preserved : goal.loop-i-preserved
-loop-i-preserved c =
-    let l = c.loop-i in
+pub loop-octet-preserved : goal.loop-octet-preserved
+loop-octet-preserved c =
     let a = c.args in
-    let t = c.step-place in (
-      omega arith,
-      run_on (progress_of a.self) a.chunk.now a.out.now (omega arith) l.i (progress_of l.place.console) l.out l.place.at (omega arith) l.invariant.1
-          (progress_of t.result.console) t.new.out t.result.at t.ensures,
-    )
-
-pub shape_of-out : goal.shape_of-out
-shape_of-out c = c.loop-i.invariant.1.whole
+    let l = c.loop-octet in
+    let s = c.step in
+    taken_on (progress_of a.self.now) a.chunk.now a.out.now c.requires l.octet-index (progress_of l.self) l.out l.place c.loop-octet-test.true l.auto.out l.invariant
+    s.result s.ensures.most s.ensures.answer c.in_ok-count.count c.in_ok-count.was s.new.out s.ensures.memory (progress_of s.new.self) s.ensures.next
 
 pub returns : goal.returns
 returns c =
-    let l = c.loop-i in
     let a = c.args in
-    run_end (progress_of a.self) a.chunk.now a.out.now (omega arith) l.i (progress_of l.place.console) l.out l.place.at (omega arith) l.invariant.1
+    let l = c.loop-octet in
+    let t = taken_all (progress_of a.self.now) a.chunk.now a.out.now l.octet-index (progress_of l.self) l.out l.place (omega arith) l.invariant in
+    record { count = ap (λ place. Ok place) t.0; memory = t.1; next = t.2 }

@@ -4,4 +4,4 @@ use Rattle.sender.proofs.answers.answered.Goals as goal
 
 pub returns : goal.returns
 unfolding answered
-returns c = rw (c.kind_handed-kind.ensures, c.sender_of.ensures)
+returns c = rw (c.kind_handed.ensures, c.sender_of.ensures)

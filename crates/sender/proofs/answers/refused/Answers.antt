@@ -4,4 +4,4 @@ use Rattle.sender.proofs.answers.refused.Goals as goal
 
 pub returns : goal.returns
 unfolding refusing
-returns c = rw (c.refused_event.ensures, c.refused_responses-responses.ensures)
+returns c = rw (c.number.ensures, c.refused_event.ensures, c.refused_responses.ensures)

@@ -1,5 +1,5 @@
 -- Each arm is the law of its directives.
-use Rattle.sender_events.proofs.DirectiveRows.{initiated, initiated_by_bc, terminated, resumed, number_set, limit_set, no_directive, no_directive_above}
+use Rattle.sender_events.proofs.DirectiveRows.{initiated, initiated_checked, initiated_by_bc, terminated, resumed, number_set, limit_set, no_directive, no_directive_above}
 use Prim.Native.Nat.{◌≤◌}
 use native.Mathlib.Omega.{arith}
 use Rattle.sender_events.proofs.directives.directive_event.Goals as goal
@@ -10,11 +10,16 @@ returns-in-5 c = search terminated
 pub returns-in-6 : goal.returns-in-6
 returns-in-6 c = search resumed
 
-pub returns-in-1-to-2 : goal.returns-in-1-to-2
-returns-in-1-to-2 c = search initiated
+pub returns-in-1 : goal.returns-in-1
+returns-in-1 c = search initiated
+
+pub returns-in-2 : goal.returns-in-2
+returns-in-2 c = search initiated_checked
 
 pub returns-in-3-to-4 : goal.returns-in-3-to-4
-returns-in-3-to-4 c = search initiated_by_bc
+returns-in-3-to-4 c =
+    let from-three : 3 ≤ c.args.number = omega arith in
+    search initiated_by_bc
 
 pub returns-in-7-to-8 : goal.returns-in-7-to-8
 returns-in-7-to-8 c =

@@ -16,8 +16,8 @@ loop-i-preserved c =
     let o = c.args.octets.now in
     let n = length_from o number_octets places in (
       search rules,
-      store_by (pairs_from o number_octets places) (replicate places 0) c.loop-i.lengths c.loop-i.i c.pair_at-length.result c.loop-i.invariant.1
-          (c.pair_at-length.ensures ∙ sym (from_at o number_octets places c.loop-i.i (omega arith))) (omega arith) (omega arith),
+      store_by (pairs_from o number_octets places) (replicate places 0) c.loop-i.lengths c.loop-i.i c.pair_at.result c.loop-i.invariant.1
+          (c.pair_at.ensures ∙ sym (from_at o number_octets places c.loop-i.i (omega arith))) (omega arith) (omega arith),
       simp length-set (search rules),
     )
 

@@ -1,8 +1,10 @@
+use mathlib.Core.List.{List}
 use borrow.Author.Rules.{rules}
+use mathlib.Core.List.{List}
 use mathlib.Core.Path.{◌≡◌, refl, ap, ◌∙◌}
-use Prim.Native.Nat.{◌*◌}
+use Prim.Native.Nat.{ℕ, ◌*◌, ◌<◌, ◌/◌, ◌%◌}
 use native.Mathlib.Omega.{arith}
-use lib.ListN.{length, length-set}
+use lib.ListN.{length, get_or, length-set}
 use lib.Seq.{paste, paste-zero}
 use Rattle.memory.proofs.Laws.{pasted}
 use Rattle.sender_octets.specs.Kept.{number_octets, pairs}
@@ -18,10 +20,13 @@ bounds-octets-place-in-loop-i c = simp length-set (omega arith)
 pub loop-i-preserved : goal.loop-i-preserved
 loop-i-preserved c =
     let m = c.args.octets.now in
-    let g = c.args.lengths.now in (
+    let g = c.args.lengths.now in
+    let x = get_or g c.loop-i.i 0 in
+    let small : x < 65536 = c.fits-lengths c.loop-i.i in
+    let high : x / 256 % 256 ≡ x / 256 = omega arith in (
       search rules,
-      two_stored m number_octets g c.loop-i.i c.loop-i.invariant.1 c.high-first.ensures c.low-second.ensures (omega (arith, c.requires.1))
-          (omega (arith, c.requires.0, c.requires.1)),
+      two_stored m number_octets g c.loop-i.i c.loop-i.invariant.1 (ap (λ (l : List ℕ). get_or l 0 0) c.to_be_bytes.ensures ∙ high)
+          (ap (λ (l : List ℕ). get_or l 1 0) c.to_be_bytes.ensures) (omega (arith, c.requires.1)) (omega (arith, c.requires.0, c.requires.1)),
       simp length-set c.loop-i.invariant.2,
     )
 

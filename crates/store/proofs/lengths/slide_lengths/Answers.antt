@@ -1,41 +1,26 @@
-use mathlib.Core.Path.{refl}
+-- What is copied down is the rest; a list that is shorter stays.
+use mathlib.Core.Path.{◌≡◌, sym, ap, ◌∙◌}
+use mathlib.Core.List.{List, ◌++◌}
+use Prim.Native.Nat.{ℕ, ◌-◌, ◌<◌}
 use native.Mathlib.Omega.{arith}
-use borrow.Author.Rules.{rules}
-use Rattle.store.proofs.Steps.{step, end, short}
+use lib.ListN.{length, drop, drop_of_length-le}
+use lib.Seq.{paste}
+use Rattle.base.proofs.Lists.{rest}
+use Rattle.store.specs.Slid.{slid}
 use Rattle.store.proofs.lengths.slide_lengths.Goals as goal
 
-pub overflow_sub-rest : goal.overflow_sub-rest
-overflow_sub-rest c = omega arith
+slid_down : (s : List ℕ) (count : ℕ) → paste s 0 (drop count s) (length s - count) ≡ slid count s
+unfolding slid
+slid_down s count = grind (arith, rest s count)
 
-pub loop-i-init : goal.loop-i-init
-loop-i-init c = (refl, search rules, refl)
+pub returns-then-count-lengths : goal.returns-then-count-lengths
+returns-then-count-lengths c = c.copy_within.ensures.after ∙ slid_down _ _
 
-pub overflow_add-length : goal.overflow_add-length
-overflow_add-length c = omega arith
-
-pub offset_bounds-lengths-count : goal.offset_bounds-lengths-count
-offset_bounds-lengths-count c = omega arith
-
-pub bounds-lengths-count : goal.bounds-lengths-count
-bounds-lengths-count c = omega arith
-
-pub offset_bounds-lengths-i : goal.offset_bounds-lengths-i
-offset_bounds-lengths-i c = omega arith
-
-pub bounds-lengths-i : goal.bounds-lengths-i
-bounds-lengths-i c = omega arith
-
-pub overflow_add-i : goal.overflow_add-i
-overflow_add-i c = omega arith
-
-pub loop-i-smaller : goal.loop-i-smaller
-loop-i-smaller c = omega arith
-
-pub loop-i-preserved : goal.loop-i-preserved
-loop-i-preserved c = step _ _ _ _ _ (omega arith) (omega arith) c.loop-i.invariant
-
-pub returns-after-loop-i : goal.returns-after-loop-i
-returns-after-loop-i c = search end
+slid_short : (s : List ℕ) (count : ℕ) → length s < count → s ≡ slid count s
+unfolding slid
+slid_short s count h =
+    let q : length s - count ≡ 0 = omega arith in
+    sym (ap (λ (x : List ℕ). x ++ drop (length s - count) s) (drop_of_length-le s {i = count} (omega arith)) ∙ ap (λ (k : ℕ). drop k s) q)
 
 pub returns-else-count-lengths : goal.returns-else-count-lengths
-returns-else-count-lengths c = search short
+returns-else-count-lengths c = search slid_short

@@ -1,40 +1,25 @@
 -- A unit that is not empty lies within the store, and its octets are copied down; an empty one leaves the store as it is.
-use mathlib.Core.Path.{◌≡◌, ap, ◌∙◌}
-use Prim.Native.Nat.{ℕ, ◌+◌}
+use mathlib.Core.Path.{◌≡◌, ◌∙◌}
+use Prim.Native.Nat.{◌+◌, ◌≤◌}
 use native.Mathlib.Omega.{arith}
-use lib.ListN.{take, drop, length}
-use Rattle.base.specs.Limits.{largest_unit}
-use Rattle.memory.specs.Placed.{placed}
-use Rattle.store.specs.Places.{place_offset}
-use Rattle.store.proofs.Moving.{unit_within, unit_moved, unit_empty}
+use lib.ListN.{length}
+use Rattle.store.specs.Places.{place_offset, unit_at}
+use Rattle.store.proofs.Moving.{copied_within, unit_within, unit_moved, unit_empty}
 use Rattle.store.proofs.removal.move_unit.Goals as goal
 
-pub returns-then-octets-eq0 : goal.returns-then-octets-eq0
-returns-then-octets-eq0 c =
+pub returns-then-octets-gt0 : goal.returns-then-octets-gt0
+returns-then-octets-gt0 c =
     let a = c.args in
-    unit_empty a.lengths.now a.count a.i a.store.now _ c.unit_at-octets.ensures (omega (arith, c.if-octets-eq0.true))
+    let u = c.unit_at-octets.result.now in
+    let same : u ≡ unit_at a.lengths.now (a.count + a.i) a.store.now = rw (c.from.ensures, c.from-2.ensures) at c.unit_at-octets.ensures in
+    let within : place_offset (a.count + a.i) + length u ≤ length a.store.now = unit_within a.lengths.now a.count a.i a.store.now u same c.if-octets-gt0.true in
+    let moved = rw (c.from.ensures, c.from-2.ensures, c.from-to.ensures) at c.copy_within.ensures.after in
+    moved
+    ∙ copied_within a.store.now (place_offset (a.count + a.i)) (place_offset a.i) (length u) (omega arith) within
+    ∙ unit_moved a.lengths.now a.count a.i a.store.now u same
 
-pub move_next-requires : goal.move_next-requires
-move_next-requires c =
+pub returns-else-octets-gt0 : goal.returns-else-octets-gt0
+returns-else-octets-gt0 c =
     let a = c.args in
-    let w = unit_within a.lengths.now a.count a.i a.store.now _ c.unit_at-octets.ensures (omega (arith, c.if-octets-eq0.false)) in
-    omega (arith, w, c.if-count-eq1.true)
-
-pub returns-then-count-eq1 : goal.returns-then-count-eq1
-returns-then-count-eq1 c =
-    let a = c.args in
-    let n = length c.unit_at-octets.result.now in
-    let p : place_offset a.i + largest_unit ≡ place_offset (a.count + a.i) = omega (arith, c.if-count-eq1.true) in
-    c.move_next.ensures
-    ∙ ap (λ (k : ℕ). placed a.store.now (place_offset a.i) (take n (drop k a.store.now))) p
-    ∙ unit_moved a.lengths.now a.count a.i a.store.now _ c.unit_at-octets.ensures
-
-pub move_octets-requires : goal.move_octets-requires
-move_octets-requires c =
-    let a = c.args in
-    (omega arith, unit_within a.lengths.now a.count a.i a.store.now _ c.unit_at-octets.ensures (omega (arith, c.if-octets-eq0.false)))
-
-pub returns : goal.returns
-returns c =
-    let a = c.args in
-    c.move_octets.ensures ∙ unit_moved a.lengths.now a.count a.i a.store.now _ c.unit_at-octets.ensures
+    let same = rw (c.from.ensures, c.from-2.ensures) at c.unit_at-octets.ensures in
+    unit_empty a.lengths.now a.count a.i a.store.now _ same c.if-octets-gt0.false

@@ -1,32 +1,20 @@
-use borrow.Author.Rules.{rules}
+-- No unit removed leaves the store as it is; else one unit is moved after another.
 use mathlib.Core.Path.{◌≡◌, refl, sym, ap, ◌∙◌}
 use Prim.Native.Nat.{ℕ}
 use native.Mathlib.Omega.{arith}
-use lib.ListN.{length}
 use Rattle.store.specs.Places.{without}
 use Rattle.store.proofs.Moving.{without_none, without_next}
-use Rattle.store.proofs.Laws.{without_length}
 use Rattle.store.proofs.removal.remove_units.Goals as goal
-
-pub returns-then-count-eq0 : goal.returns-then-count-eq0
-returns-then-count-eq0 c =
-    let a = c.args in
-    let old = a.store.now in
-    sym (ap (λ (n : ℕ). without a.lengths.now n a.staying old) c.if-count-eq0.true ∙ without_none a.lengths.now a.staying old)
 
 pub loop-i-init : goal.loop-i-init
 unfolding without
-loop-i-init c = (search rules, refl, refl)
+loop-i-init c = refl
 
 pub loop-i-preserved : goal.loop-i-preserved
-loop-i-preserved c =
-    let a = c.args in
-    let e = c.move_unit.ensures ∙ without_next a.lengths.now a.count c.loop-i.i a.store.now c.loop-i.store c.loop-i.invariant.1 in
-    (search rules, e, ap length e ∙ without_length a.lengths.now a.count a.store.now _)
+loop-i-preserved c = c.move_unit.ensures ∙ without_next c.args.lengths.now c.args.count c.loop-i.i c.args.store.now c.loop-i.store c.loop-i.invariant
 
-pub returns : goal.returns
-returns c =
-    let l = c.loop-i in
+pub returns-else-count-gt0 : goal.returns-else-count-gt0
+returns-else-count-gt0 c =
     let a = c.args in
-    let e : l.i ≡ a.staying = omega arith in
-    l.invariant.1 ∙ ap (λ (n : ℕ). without a.lengths.now a.count n a.store.now) e
+    let e : a.count ≡ 0 = omega arith in
+    sym (ap (λ (n : ℕ). without a.lengths.now n a.staying a.store.now) e ∙ without_none a.lengths.now a.staying a.store.now)
