@@ -72,7 +72,7 @@ fn told_refused(refused: Refused, event: &mut u8) -> u8
     refused.refusal.number()
 }
 
-// The same, put at the front of a lent buffer.
+// A channel at its start, its record put at the front of a lent buffer.
 #[tactic(auto, using(crate::proofs::ChannelCalls::new_setting, crate::proofs::ChannelCalls::new_short, crate::proofs::ChannelCalls::new_kept_lem))]
 pub fn new_call(channel: u32, window: u32, vr: u32, octets: &mut [u8]) -> u8
     ensures number { result ≡ (new_call channel window vr octets.old).number }

@@ -22,8 +22,7 @@ fn tell(told: Answer, state: &mut [u8], answer: &mut [u8]) -> u8
     ensures state { state.new ≡ placed state.old 0 (octets_of told.next.fop) }
     ensures answer { answer.new ≡ placed answer.old 0 (octets_of_answer told) }
 {
-    let next = told.next;
-    put_state(state, next.state());
+    put_state(state, told.next.state());
     let octets = octets_of_answer(told);
     memory::put(answer, 0, &octets);
     told.refusal
