@@ -125,6 +125,16 @@ pub fn judge(octets: &[u8], spacecraft: u16, channel: u8) -> Result<(), Refusal>
     Frame { octets, n }.judge_content(spacecraft, channel)
 }
 
+// The refusal by its number, 0 where there is none.
+pub fn refusal(octets: &[u8], spacecraft: u16, channel: u8) -> u8
+    ensures { result ≡ refusal_of octets.now spacecraft channel }
+{
+    match judge(octets, spacecraft, channel) {
+        Ok(()) => 0,
+        Err(refusal) => refusal.number(),
+    }
+}
+
 // The fields of lent octets, or the refusal. A frame that is not refused has our address.
 pub fn read(octets: &[u8], spacecraft: u16, channel: u8) -> Result<Fields, Refusal>
     ensures value { result ≡ reading_of octets.now spacecraft channel }
