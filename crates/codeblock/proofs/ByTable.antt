@@ -1,9 +1,10 @@
 -- The tables by which a codeblock goes. Each has its rule by one computed test over the whole table (`share_table`, `bit_table`). The first
 -- holds the shares of octets, which add up to the error control octet (`next_parity`, `next_two`); the second the search for the wrong
--- bit, which tells the judgement in either mode (`none_judged`, `detecting_judged`, `correcting_judged`).
+-- bit (`bit_found`), which tells the judgement in either mode (`none_judged`, `detecting_judged`, `correcting_judged`).
 use mathlib.Core.Path.{◌≡◌, refl, sym, ap, ap₂, ◌∙◌}
 use mathlib.Core.Bool.{Bool, true, false}
 use mathlib.Core.List.{List, [], ◌∷◌}
+use mathlib.Core.Logic.{◌⊎◌, inl, inr, ⊎_elim}
 use Prim.Native.Nat.{ℕ, zero, suc, ◌+◌, ◌*◌, ◌/◌, ◌%◌, ◌<◌, ◌≤◌}
 use native.Mathlib.Nat.{mul-one}
 use native.Mathlib.Omega.{arith}
@@ -110,6 +111,20 @@ bit_in columns i = place_in 0 columns (i * 2)
 
 pub bit_table : (table : List ℕ) → length table ≡ 128 → T (follows (bit_in columns63) 0 table) → BitTable table
 bit_table table l t = record { rule = λ i h. table_follows table (bit_in columns63) t i (omega arith) ∙ sym (bit_place 63 0 (i * 2) (omega arith)) }
+
+-- it is one of the first 63, or none
+pub bit_found : (n i v : ℕ) → i + n ≤ 63 → (bit_for n i v < 63) ⊎ (bit_for n i v ≡ no_bit)
+unfolding bit_for
+bit_found zero i v k = inr refl
+bit_found (suc n) i v k = go (eqb (single_syndrome i) v) (bit_found n (suc i) v (omega arith))
+  where
+    go : (b : Bool) → (bit_for n (suc i) v < 63) ⊎ (bit_for n (suc i) v ≡ no_bit)
+        → (pick b i (bit_for n (suc i) v) < 63) ⊎ (pick b i (bit_for n (suc i) v) ≡ no_bit)
+    go true later = inl (omega arith)
+    go false later = later
+
+pub bit_most : (v : ℕ) → bit_for 63 0 v ≤ no_bit
+bit_most v = ⊎_elim (λ h. omega arith) (λ e. omega arith) (bit_found 63 0 v (omega arith))
 
 -- by the table, where the filler bit of the syndrome is zero; no bit gives another syndrome
 pub bit_even : (table : List ℕ) (v : ℕ) → BitTable table → v < 256 → v % 2 ≡ 0 → get_or table (v / 2) 0 ≡ bit_for 63 0 v
