@@ -82,7 +82,7 @@ names octets spacecraft channel f e = go (eqb (refusal_of octets spacecraft chan
     go : (b : Bool) → eqb (refusal_of octets spacecraft channel) 0 ≡ b → named octets ≡ channel
     go true z = (accepted octets spacecraft channel (eqb-true (refusal_of octets spacecraft channel) 0 z)).our_channel
     go false z =
-        let r = sym (reading_refused octets spacecraft channel (eqb-false (refusal_of octets spacecraft channel) 0 z)) ∙ e in
+        let r = sym (reading_refused octets spacecraft channel (eqb-false (refusal_of octets spacecraft channel) 0 z)).0 ∙ e in
         let y : ◌≡◌ {A = ℕ} 0 1 = cc in
         absurd (omega arith)
 

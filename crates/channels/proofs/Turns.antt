@@ -13,13 +13,11 @@ use lib.ListN.{length}
 use lib.Seq.{set_out}
 use Rattle.base.specs.Choice.{must}
 use Rattle.base.specs.Octets.{Octets}
-use Rattle.base.specs.Refusals.{refusal_number, frame_refusal}
 use Rattle.base.specs.Outcome.{Outcome}
 use Rattle.farm.specs.declared.Event.TheVariants.{E10}
 use Rattle.frame.specs.Answers.{fields_of, reading_of}
 use Rattle.frame.specs.Frame.{refusal_of, kind_of}
 use Rattle.frame.proofs.Accepted.{reading_frame, reading_refused}
-use Rattle.frame.proofs.Named.{reading_told}
 use Rattle.receiver.specs.declared.Channel.{Channel}
 use Rattle.receiver.specs.declared.ChannelAnswer.{ChannelAnswer}
 use Rattle.base.specs.declared.Refusal.TheVariants.{Release}
@@ -79,9 +77,8 @@ module _ (spacecraft pool : ℕ) (cs : List Channel) where
       read h true false z e = absurd (absent_refused cs octets spacecraft lent e (eqb-true (refusal_of octets spacecraft (addressed cs octets)) 0 z))
       read h false there z e =
           let d = eqb-false (refusal_of octets spacecraft (addressed cs octets)) 0 z in
-          let number : refusal_number (frame_refusal (refusal_of octets spacecraft (addressed cs octets))) ≡ refusal_of octets spacecraft (addressed cs octets) =
-          rw (reading_refused octets spacecraft (addressed cs octets) d) at (reading_told octets spacecraft (addressed cs octets)) in
-          rw (reading_refused octets spacecraft (addressed cs octets) d) (subst (λ (n : ℕ). FrameCase octets (nothing n 9 cs)) (sym number) (refused h d))
+          let e = reading_refused octets spacecraft (addressed cs octets) d in
+          rw e.0 (subst (λ (n : ℕ). FrameCase octets (nothing n 9 cs)) (sym e.1) (refused h d))
 
       judged : (b : Bool) → table_holds spacecraft pool cs ≡ b
           → FrameCase octets (must b (nothing 12 0 cs) (by_reading pool cs (addressed cs octets) (reading_of octets spacecraft (addressed cs octets))))

@@ -68,7 +68,7 @@ module _ {frame : List ℕ} (w : WholeFrame frame) where
     pub front_refused : TooShort (take (7 * m) (filled frame))
     front_refused spacecraft channel =
         let e = refusal_front spacecraft channel in
-        reading_refused front spacecraft channel (λ z. omega arith) ∙ ap (λ (n : ℕ). Err (frame_refusal n)) e
+        (reading_refused front spacecraft channel (λ z. omega arith)).0 ∙ ap (λ (n : ℕ). Err (frame_refusal n)) e
 
   -- what a reading hands out is the front of the frame: all of it, or too short
   handed : (fits : Bool) (offset m corrected room : ℕ) (octets : List ℕ) (found : Found)

@@ -20,8 +20,9 @@ use Rattle.frame_header.proofs.Laws.{Valid, valid_told}
 use Rattle.frame.specs.Frame.{unlock_command, total_of, data_field, is_command, command_held, header_refusal, content_refusal, refusal_of, kind_of}
 use Rattle.frame.specs.declared.Kind.TheVariants.{Ad, Bd, Unlock, SetVr}
 use Rattle.std.specs.Prelude.{Ok, Err}
-use Rattle.base.specs.Refusals.{frame_refusal}
+use Rattle.base.specs.Refusals.{refusal_number, frame_refusal}
 use Rattle.frame.specs.Answers.{fields_of, reading_of, part_of}
+use Rattle.frame.proofs.Named.{reading_told}
 use Rattle.frame.proofs.Octets.{length_data, command_one, command_other}
 
 pub record Accepted (s : List ℕ) (spacecraft channel : ℕ) : Type 0 where
@@ -109,11 +110,15 @@ module _ (s : List ℕ) (n : ℕ) (octets : (i : ℕ) → get_or s i 0 < 256) (l
   kind_ad d e =
       rw (control_zero d, ap (λ (x : ℕ). eqb x 1) (bypass_is s octets (omega arith)) ∙ ne_eqb (o s 0 / 32 % 2) 1 e, number_is s octets (omega arith))
 
--- what reading answers
+-- what reading answers: a refusal has its number
 pub reading_refused : (s : List ℕ) (spacecraft channel : ℕ) → (refusal_of s spacecraft channel ≡ 0 → ⊥)
-    → reading_of s spacecraft channel ≡ Err (frame_refusal (refusal_of s spacecraft channel))
+    → (reading_of s spacecraft channel ≡ Err (frame_refusal (refusal_of s spacecraft channel)))
+    × (refusal_number (frame_refusal (refusal_of s spacecraft channel)) ≡ refusal_of s spacecraft channel)
 unfolding reading_of
-reading_refused s spacecraft channel d = rw (ne_eqb (refusal_of s spacecraft channel) 0 d)
+reading_refused s spacecraft channel d = (
+  rw (ne_eqb (refusal_of s spacecraft channel) 0 d),
+  rw (ne_eqb (refusal_of s spacecraft channel) 0 d) at (reading_told s spacecraft channel),
+)
 
 pub reading_frame : (s : List ℕ) (spacecraft channel : ℕ) → refusal_of s spacecraft channel ≡ 0
     → reading_of s spacecraft channel

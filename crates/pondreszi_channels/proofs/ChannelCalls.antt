@@ -139,7 +139,7 @@ module _ (spacecraft pool : ℕ) (cs : List Channel) where
       go b e k true f = eqb-true _ 0 f
       go false e k false f = absurd (k refl)
       go true e k false f =
-          absurd (k (ap (λ (x : FrameReading). (by_reading pool cs (addressed cs frame) x).unit) (reading_refused frame spacecraft (addressed cs frame) (eqb-false _ 0 f))))
+          absurd (k (ap (λ (x : FrameReading). (by_reading pool cs (addressed cs frame) x).unit) (reading_refused frame spacecraft (addressed cs frame) (eqb-false _ 0 f)).0))
 
   pub frame_count : (frame : List ℕ) {t : Turn} {n : ℕ} → t ≡ frame_turn spacecraft pool cs frame → n ≡ unit_count t.unit frame
       → n ≡ length (unit_part spacecraft pool cs frame)

@@ -41,7 +41,7 @@ module _ (r : Receiver) (frame : List ℕ) where
 
   none_of_refused : (refusal ≡ 0 → ⊥) → (receive_of r frame).unit ≡ None
   unfolding receive_of by_reading answered channel.answered
-  none_of_refused d = ap (λ (x : FrameReading). (by_reading r x).unit) (reading_refused frame r.farm.spacecraft r.farm.channel.number d)
+  none_of_refused d = ap (λ (x : FrameReading). (by_reading r x).unit) (reading_refused frame r.farm.spacecraft r.farm.channel.number d).0
 
   not_refused : ((receive_of r frame).unit ≡ None → ⊥) → refusal ≡ 0
   not_refused h = go (eqb refusal 0) refl
