@@ -1,4 +1,4 @@
--- The run of good codeblocks by any judge, one codeblock at a time as the loop takes them (`Taken`).
+-- The run of good codeblocks by any judge, one codeblock at a time as the loop takes them (`Taken`), and what is left behind them (`Left`).
 use mathlib.Core.Path.{◌≡◌, refl, sym, ap, ap₂, subst, ◌∙◌}
 use mathlib.Core.Bool.{Bool, true, false}
 use mathlib.Core.List.{List, ◌++◌, append_assoc, append-nil}
@@ -6,15 +6,16 @@ use Prim.Native.Nat.{ℕ, zero, suc, ◌+◌, ◌-◌, ◌*◌, ◌/◌, ◌<◌
 use native.Mathlib.Nat.{not-suc-le-zero, zero-add, add-zero, add_assoc, mul-suc}
 use native.Mathlib.Numerals.{add-one}
 use native.Mathlib.Omega.{arith}
-use borrow.Author.Tests.{le-leb, lt-leb}
-use borrow.Rule.Slice.PartMut.{put_mid}
+use borrow.Author.Tests.{le-leb, lt-leb, leb-true}
+use lib.Dec.{leb}
 use lib.ListN.{length, take, drop, length-append, length-drop}
 use lib.Seq.{take_at, drop-drop}
 use Rattle.base.specs.Choice.{pick}
 use Rattle.std.specs.Prelude.{Option}
 use Rattle.codeblock.specs.Codeblock.{good, is_good, information_of, corrected_of}
 use Rattle.codeblock.specs.declared.Judged.{Judged}
-use Rattle.memory.proofs.Laws.{placed_mid, placed_behind}
+use Rattle.memory.specs.Placed.{placed}
+use Rattle.memory.proofs.Laws.{placed_behind}
 use Rattle.encoded_data.specs.EncodedData.{good_run, information_in, corrected_in, whole_in}
 use Rattle.encoded_data.proofs.Encoded.{cut_front, cut_back}
 
@@ -105,85 +106,59 @@ module _ (judge : List ℕ → Option Judged) where
       (corrected_more n (drop 8 s) ∙ ap (λ (j : Option Judged). corrected_in judge n (drop 8 s) + corrected_of j) (block_next s n))
       ∙ sym (add_assoc (corrected_of (judge (take 8 s))) (corrected_in judge n (drop 8 s)) (corrected_of (block_at s (suc n))))
 
-  -- n codeblocks of s are taken: they are good, and their information stands at the front of a memory that was `old`; the rest is left, to be cut by the size
-  pub record Taken (s old memory rest : List ℕ) (size corrected n : ℕ) : Type 0 where
-    pub eight : size ≡ 8
-    pub left : rest ≡ drop (8 * n) s
-    pub within : 8 * n ≤ length s
-    pub run : good_run judge (length s / 8) s ≡ n + good_run judge (length s / 8 - n) (drop (8 * n) s)
+  -- n codeblocks of s are taken: they are good, and their information stands at the front of a memory that was `old`
+  pub record Taken (whole : ℕ) (s old memory : List ℕ) (corrected n : ℕ) : Type 0 where
+    pub within : n ≤ whole
+    pub run : good_run judge whole s ≡ n + good_run judge (whole - n) (drop (8 * n) s)
     pub count : corrected ≡ corrected_in judge n s
     pub few : corrected ≤ n
     pub long : length (information_in judge n s) ≡ 7 * n
     pub front : memory ≡ information_in judge n s ++ drop (length (information_in judge n s)) old
 
-  pub taken_none : (s old rest : List ℕ) (size n : ℕ) → rest ≡ s → size ≡ 8 → n ≡ 0 → Taken s old old rest size 0 n
+  pub taken_none : (whole : ℕ) (s old : List ℕ) {n : ℕ} → n ≡ 0 → Taken whole s old old 0 n
   unfolding information_in corrected_in
-  taken_none s old rest size n r z none =
-      let e : length s / 8 ≡ length s / 8 - 0 = omega arith in
-      subst (Taken s old old rest size 0) (sym none) (record {
-        eight = z;
-        left = r;
+  taken_none whole s old none =
+      let e : whole ≡ whole - 0 = omega arith in
+      subst (Taken whole s old old 0) (sym none) (record {
         within = omega arith;
-        run = ap (λ (j : ℕ). good_run judge j s) e ∙ sym (zero-add (good_run judge (length s / 8 - 0) s));
+        run = ap (λ (j : ℕ). good_run judge j s) e ∙ sym (zero-add (good_run judge (whole - 0) s));
         count = refl;
         few = omega arith;
         long = refl;
         front = refl;
       })
 
-  module _ {s old memory rest : List ℕ} {size corrected n : ℕ} (t : Taken s old memory rest size corrected n) where
-    -- no whole codeblock is left
-    pub all_taken : length rest < size → n ≡ length s / 8
-    all_taken h = omega (arith, t.eight, t.within, ap length t.left, length-drop (8 * n) s)
-
-    pub taken_all : length rest < size → good_run judge (length s / 8) s ≡ length s / 8
-    unfolding good_run
-    taken_all h =
-        let whole = all_taken h in
-        let z : length s / 8 - n ≡ 0 = omega arith in
-        let r : good_run judge (length s / 8 - n) (drop (8 * n) s) ≡ 0 = ap (λ (j : ℕ). good_run judge j (drop (8 * n) s)) z in
+  module _ {whole : ℕ} {s old memory : List ℕ} {corrected n : ℕ} (t : Taken whole s old memory corrected n) where
+    pub taken_bad : (j : Option Judged) → j ≡ block_at s n → is_good j ≡ false → good_run judge whole s ≡ n
+    taken_bad j e b =
+        let r = run_stop (whole - n) (drop (8 * n) s) (ap is_good (sym e) ∙ b) in
         omega (arith, t.run)
 
-    -- the next codeblock, cut from the rest
-    module _ (block more : List ℕ) (e : (rest ≡ block ++ more) × (length block ≡ size)) where
-      block_is : judge block ≡ block_at s n
-      block_is = ap judge (cut_front rest block more 8 e.0 (e.1 ∙ t.eight) ∙ ap (take 8) t.left)
+    pub taken_all : whole ≤ n → good_run judge whole s ≡ n
+    unfolding good_run
+    taken_all h =
+        let z : whole - n ≡ 0 = omega arith in
+        let r : good_run judge (whole - n) (drop (8 * n) s) ≡ 0 = ap (λ (j : ℕ). good_run judge j (drop (8 * n) s)) z in
+        omega (arith, t.run)
 
-      pub taken_bad : is_good (judge block) ≡ false → good_run judge (length s / 8) s ≡ n
-      taken_bad b =
-          let r = run_stop (length s / 8 - n) (drop (8 * n) s) (ap is_good (sym block_is) ∙ b) in
-          omega (arith, t.run)
-
-      pub there : n < length s / 8
-      there = omega (arith, ap length e.0, length-append block more, e.1, t.eight, t.within, ap length t.left, length-drop (8 * n) s)
-
-      pub taken_more : (information : List ℕ) (one size' : ℕ) → judge block ≡ good information one → length information ≡ 7 → one ≤ 1 → size' ≡ size
-          → length memory ≡ length old → 7 * (length s / 8) ≤ length old
-          → (written : List ℕ) (at k n' : ℕ) → written ≡ information → at ≡ 7 * n → k ≡ 7 → n' ≡ n + 1 → Taken s old (put_mid at k memory written) more size' (corrected + one) n'
-      taken_more information one size' g seven few z same room written at k n' w a eight next = subst (Taken s old (put_mid at k memory written) more size' (corrected + one)) (sym next) (record {
-        eight = z ∙ t.eight;
-        left = cut_back rest block more 8 e.0 (e.1 ∙ t.eight) ∙ ap (drop 8) t.left ∙ drop-drop 8 (8 * n) s ∙ ap (λ (j : ℕ). drop j s) next_eight;
-        within = omega (arith, there);
-        run = t.run ∙ ap (λ (j : ℕ). n + j) (run_step s (length s / 8) n there (ap is_good b)) ∙ (omega arith);
-        count = ap₂ (λ (j : ℕ) (x : Option Judged). j + corrected_of x) t.count (sym b) ∙ sym (corrected_more n s) ∙ ap (λ (j : ℕ). corrected_in judge j s) (sym (add-one n));
-        few = omega (arith, t.few);
-        long = ap length (sym o) ∙ length-append (information_in judge n s) information ∙ (omega (arith, seven, t.long));
-        front = placed_mid memory at k information written w (eight ∙ sym seven) (omega (arith, there))
-            ∙ placed_behind old (information_in judge n s) information memory at t.front (a ∙ sym t.long) (omega (arith, there))
-            ∙ ap (λ (x : List ℕ). x ++ drop (length x) old) o;
-      })
-        where
-          b : block_at s n ≡ good information one
-          b = sym block_is ∙ g
-
-          next_eight : 8 * n + 8 ≡ 8 * (n + 1)
-          next_eight = omega arith
-
-          o : information_in judge n s ++ information ≡ information_in judge (n + 1) s
-          o =
-              ap (λ (x : Option Judged). information_in judge n s ++ information_of x) (sym b)
-              ∙ sym (information_more n s)
-              ∙ ap (λ (j : ℕ). information_in judge j s) (sym (add-one n))
+    pub taken_more : (information : List ℕ) (one : ℕ) → good information one ≡ block_at s n → n < whole → length information ≡ 7 → one ≤ 1 → 7 * whole ≤ length old
+        → {memory' : List ℕ} {n' : ℕ} → memory' ≡ placed memory (7 * n) information → n' ≡ n + 1 → Taken whole s old memory' (corrected + one) n'
+    taken_more information one b h seven few room {memory'} w next = subst (Taken whole s old memory' (corrected + one)) (sym next) (record {
+      within = omega arith;
+      run = t.run ∙ ap (λ (j : ℕ). n + j) (run_step s whole n h (ap is_good (sym b))) ∙ (omega arith);
+      count = ap₂ (λ (j : ℕ) (x : Option Judged). j + corrected_of x) t.count b ∙ sym (corrected_more n s) ∙ ap (λ (j : ℕ). corrected_in judge j s) (sym (add-one n));
+      few = omega (arith, t.few);
+      long = ap length (sym o) ∙ length-append (information_in judge n s) information ∙ (omega (arith, seven, t.long));
+      front = w
+          ∙ placed_behind old (information_in judge n s) information memory (7 * n) t.front (sym t.long) (omega arith)
+          ∙ ap (λ (x : List ℕ). x ++ drop (length x) old) o;
+    })
+      where
+        o : information_in judge n s ++ information ≡ information_in judge (n + 1) s
+        o =
+            ap (λ (x : Option Judged). information_in judge n s ++ information_of x) b
+            ∙ sym (information_more n s)
+            ∙ ap (λ (j : ℕ). information_in judge j s) (sym (add-one n))
 
   -- where what is good has seven octets of information, n codeblocks of a run have seven each
   module _ (seven : (block : List ℕ) → is_good (judge block) ≡ true → length (information_of (judge block)) ≡ 7) where
@@ -197,12 +172,49 @@ module _ (judge : List ℕ → Option Judged) where
         ∙ ap₂ ◌+◌ (seven (take 8 s) f.0) (length_information_in m n (drop 8 s) f.1)
         ∙ (omega (arith, mul-suc 7 n))
 
+-- behind n codeblocks the rest of s is left, to be cut by the size
+pub record Left (s rest : List ℕ) (size n : ℕ) : Type 0 where
+  pub eight : size ≡ 8
+  pub behind : rest ≡ drop (8 * n) s
+
+pub left_all : {s rest : List ℕ} {size n : ℕ} → rest ≡ s → size ≡ 8 → n ≡ 0 → Left s rest size n
+left_all {s} {rest} {size} r z none = subst (Left s rest size) (sym none) (record { eight = z; behind = r })
+
+module _ {s rest : List ℕ} {size n : ℕ} (l : Left s rest size n) (within : n ≤ length s / 8) where
+  -- no whole codeblock
+  pub left_none : length rest < size → n ≡ length s / 8
+  left_none h = omega (arith, l.eight, ap length l.behind, length-drop (8 * n) s)
+
+  -- the next codeblock, cut from the rest
+  module _ (block more : List ℕ) (e : (rest ≡ block ++ more) × (length block ≡ size)) where
+    pub left_next : block ≡ take 8 (drop (8 * n) s)
+    left_next = cut_front rest block more 8 e.0 (e.1 ∙ l.eight) ∙ ap (take 8) l.behind
+
+    pub left_some : n < length s / 8
+    left_some = omega (arith, ap length e.0, length-append block more, e.1, l.eight, ap length l.behind, length-drop (8 * n) s)
+
+    pub left_more : {size' n' : ℕ} → size' ≡ size → n' ≡ n + 1 → Left s more size' n'
+    left_more {size'} z next =
+        let next_eight : 8 * n + 8 ≡ 8 * (n + 1) = omega arith in
+        subst (Left s more size') (sym next) (record {
+          eight = z ∙ l.eight;
+          behind = cut_back rest block more 8 e.0 (e.1 ∙ l.eight) ∙ ap (drop 8) l.behind ∙ drop-drop 8 (8 * n) s ∙ ap (λ (j : ℕ). drop j s) next_eight;
+        })
+
 -- the codeblocks looked at, by whether there is room for their information
 pub whole_room : (octets room : ℕ) → 7 * (octets / 8) ≤ room → whole_in octets room ≡ octets / 8
 whole_room octets room h = simp (le-leb (7 * (octets / 8)) room h)
 
 pub whole_none : (octets room : ℕ) → room < 7 * (octets / 8) → whole_in octets room ≡ 0
 whole_none octets room h = simp (lt-leb (7 * (octets / 8)) room h)
+
+-- they are there, and there is room for them
+pub whole_fits : (octets room : ℕ) → (8 * whole_in octets room ≤ octets) × (7 * whole_in octets room ≤ room)
+whole_fits octets room = go (leb (7 * (octets / 8)) room) refl
+  where
+    go : (b : Bool) → leb (7 * (octets / 8)) room ≡ b → (8 * pick b (octets / 8) 0 ≤ octets) × (7 * pick b (octets / 8) 0 ≤ room)
+    go true e = (omega arith, leb-true (7 * (octets / 8)) room e)
+    go false e = (omega arith, omega arith)
 
 -- the run of all whole codeblocks, where there is room
 pub run_whole : (judge : List ℕ → Option Judged) (s : List ℕ) {n room : ℕ} → n ≡ good_run judge (whole_in (length s) room) s → 7 * (length s / 8) ≤ room
