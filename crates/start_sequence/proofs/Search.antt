@@ -1,19 +1,35 @@
--- The search for the first start sequence: where it ends if it begins at no place before (`first_place`, `none_found`), and what is known of
--- where it ends: a start sequence stands there, whole, and none earlier (`found_starts`, `start_room`, `none_earlier`, `none_found`); one that stands
--- behind octets that hold none, at most one bit of it wrong, is the one found (`first_near`, `first_start`).
+-- The search for the first start sequence: one step of it (`search_on`, `search_found`); where it ends if it begins at no place before
+-- (`first_place`, `none_found`); and what is known of where it ends: a start sequence stands there, whole, and none earlier
+-- (`found_starts`, `start_room`, `none_earlier`); one that stands behind octets that hold none, at most one bit of it wrong, is the one found
+-- (`first_near`, `first_start`).
 use mathlib.Core.Path.{◌≡◌, refl, sym, ap, ◌∙◌}
 use mathlib.Core.Bool.{Bool, true, false}
 use mathlib.Core.List.{List, [], ◌∷◌, ◌++◌}
 use Prim.Native.Nat.{ℕ, zero, suc, ◌+◌, ◌<◌, ◌≤◌}
 use native.Mathlib.Nat.{le_of_suc-le-suc, not-suc-le-zero}
+use native.Mathlib.Numerals.{add-one}
 use native.Mathlib.Omega.{arith}
 use lib.ListN.{length, drop}
+use lib.Seq.{drop-cons}
 use Rattle.base.specs.Choice.{pick}
 use Rattle.base.specs.Octets.{bits_of, octet_bits}
 use Rattle.base.specs.Distance.{differing, wrong_bits}
 use Rattle.base.proofs.Tests.{apart, yes, no}
 use Rattle.start_sequence.specs.StartSequence.{start_sequence, starts, start_of, Received}
 use Rattle.start_sequence.proofs.Starts.{near_starts, none_before, starts_two, starts_one}
+
+-- no start at i: the search goes on; a start at i: it ends
+pub search_on : (s : List ℕ) (i : ℕ) → i < length s → starts (drop i s) ≡ false → start_of (drop i s) ≡ suc (start_of (drop (i + 1) s))
+unfolding start_of
+search_on s i h e =
+    let e' = rw (drop-cons s i 0) at e in
+    rw (add-one, drop-cons s i 0, e')
+
+pub search_found : (s : List ℕ) (i : ℕ) → i < length s → starts (drop i s) ≡ true → start_of (drop i s) ≡ 0
+unfolding start_of
+search_found s i h e =
+    let e' = rw (drop-cons s i 0) at e in
+    rw (drop-cons s i 0, e')
 
 -- where a start is found, its two octets are there
 pub start_room : (s : List ℕ) → start_of s < length s → start_of s + 2 ≤ length s

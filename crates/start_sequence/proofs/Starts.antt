@@ -4,14 +4,16 @@
 use mathlib.Core.Path.{◌≡◌, refl, sym, ap, ap₂, ◌∙◌}
 use mathlib.Core.Bool.{true, false}
 use mathlib.Core.List.{List, [], ◌∷◌}
-use Prim.Native.Nat.{ℕ, ◌+◌, ◌*◌, ◌<◌, ◌≤◌}
+use Prim.Native.Nat.{ℕ, suc, ◌+◌, ◌*◌, ◌<◌, ◌≤◌}
 use native.Mathlib.Nat.{add-zero}
+use native.Mathlib.Numerals.{add-one}
 use native.Mathlib.Omega.{arith}
 use borrow.Author.Tests.{le-leb, lt-leb, leb-true}
 use lib.Bits.{bit_xor, xor_block, xor_lt}
 use lib.Count.{ones, ones_in, ones_cat}
 use lib.Dec.{eqb, eqb→eq, leb}
-use lib.ListN.{length, take, get_or}
+use lib.ListN.{length, take, drop, get_or, length-drop}
+use lib.Seq.{drop-cons}
 use Rattle.base.specs.Octets.{bits_of, octet_bits}
 use Rattle.base.specs.Distance.{differing, wrong_bits}
 use Rattle.base.proofs.Computed.{below, is_true}
@@ -79,12 +81,14 @@ at_once x y hx hy =
     ∙ ap₂ ◌+◌ (first_ones x hx) (second_ones y hy)
     ∙ sym (wrong_two x y)
 
--- by the first two octets
-pub starts_by : (s : List ℕ) → 2 ≤ length s → get_or s 0 0 < 256 → get_or s 1 0 < 256
-    → starts s ≡ leb (ones (bit_xor (get_or s 0 0 * 0x100 + get_or s 1 0) 0xEB90)) 1
-starts_by [] h hx hy = absurd (omega arith)
-starts_by (x ∷ []) h hx hy = absurd (omega arith)
-starts_by (x ∷ y ∷ ys) h hx hy = starts_wrong x y ys ∙ ap (λ (n : ℕ). leb n 1) (sym (at_once x y hx hy))
+-- at a place, by its two octets
+pub starts_by : (s : List ℕ) (i : ℕ) → i + 1 < length s → get_or s i 0 < 256 → get_or s (i + 1) 0 < 256
+    → starts (drop i s) ≡ leb (ones (bit_xor (get_or s i 0 * 0x100 + get_or s (i + 1) 0) 0xEB90)) 1
+starts_by s i h hx hy =
+    let e : drop (suc i) s ≡ get_or s (i + 1) 0 ∷ drop (suc (suc i)) s = rw add-one (drop-cons s (suc i) 0 (omega arith)) in
+    ap starts (drop-cons s i 0 (omega arith) ∙ ap (λ (l : List ℕ). get_or s i 0 ∷ l) e)
+    ∙ starts_wrong (get_or s i 0) (get_or s (i + 1) 0) (drop (suc (suc i)) s)
+    ∙ ap (λ (n : ℕ). leb n 1) (sym (at_once (get_or s i 0) (get_or s (i + 1) 0) hx hy))
 
 -- less than two octets start nothing
 pub starts_short : (s : List ℕ) → length s < 2 → starts s ≡ false
@@ -92,3 +96,7 @@ unfolding starts recognized octet_bits bits_of
 starts_short [] h = refl
 starts_short (x ∷ []) h = starts_one x
 starts_short (x ∷ y ∷ ys) h = absurd (omega arith)
+
+-- such as a last octet
+pub starts_last : (s : List ℕ) (i : ℕ) → length s ≤ i + 1 → i < length s → starts (drop i s) ≡ false
+starts_last s i h k = starts_short (drop i s) (omega (arith, length-drop i s))

@@ -15,4 +15,4 @@ pub returns-in-len2-up : goal.returns-in-len2-up
 returns-in-len2-up c =
     let s = c.args.octets.now in
     ap (λ (x : ℕ). leb (ones (bit_xor x 0xEB90)) 1) c.from_be_bytes-wrong.ensures
-    ∙ sym (starts_by s (omega arith) (c.type_inv.octets 0).fits (c.type_inv.octets 1).fits)
+    ∙ sym (starts_by s 0 (omega arith) (c.type_inv.octets 0).fits (c.type_inv.octets 1).fits)
