@@ -1,5 +1,5 @@
 -- The search for the first start sequence: one step of it (`search_on`, `search_found`); where it ends if it begins at no place before
--- (`first_place`, `none_found`); and what is known of where it ends: a start sequence stands there, whole, and none earlier
+-- (`first_place`, `none_found`, `place_told`); and what is known of where it ends: a start sequence stands there, whole, and none earlier
 -- (`found_starts`, `start_room`, `none_earlier`); one that stands behind octets that hold none, at most one bit of it wrong, is the one found
 -- (`first_near`, `first_start`).
 use mathlib.Core.Path.{◌≡◌, refl, sym, ap, ◌∙◌}
@@ -11,6 +11,7 @@ use native.Mathlib.Numerals.{add-one}
 use native.Mathlib.Omega.{arith}
 use lib.ListN.{length, drop}
 use lib.Seq.{drop-cons}
+use Rattle.std.specs.Prelude.{Option, Some, None, IfSome, IfNone, MatchOption}
 use Rattle.base.specs.Choice.{pick}
 use Rattle.base.specs.Octets.{bits_of, octet_bits}
 use Rattle.base.specs.Distance.{differing, wrong_bits}
@@ -117,3 +118,10 @@ first_place [] i h e none = absurd (not-suc-le-zero h)
 first_place (x ∷ xs) zero h e none = yes (starts (x ∷ xs)) 0 (suc (start_of xs)) e
 first_place (x ∷ xs) (suc i) h e none =
     no (starts (x ∷ xs)) 0 (suc (start_of xs)) (none 0 (omega arith)) ∙ ap suc (first_place xs i (le_of_suc-le-suc h) e (λ k l. none (suc k) (omega arith)))
+
+-- so where a search ends that names such a place, or none
+pub place_told : (s : List ℕ) (r : Option ℕ) → IfSome r (λ i. (i < length s) × (starts (drop i s) ≡ true))
+    → IfSome r (λ i. (k : ℕ) → k < i → starts (drop k s) ≡ false) → IfNone r ((k : ℕ) → k < length s → starts (drop k s) ≡ false)
+    → MatchOption r (start_of s ≡ length s) (λ i. start_of s ≡ i)
+place_told s None there before none = none_found s none
+place_told s (Some i) there before none = first_place s i there.0 there.1 before

@@ -50,6 +50,10 @@ starts_front [] = refl
 starts_front (x ∷ []) = refl
 starts_front (x ∷ y ∷ ys) = starts_two x y [] ys
 
+-- at a place stand its octet and what is behind it
+pub starts_octet : (s : List ℕ) (i : ℕ) → i < length s → starts (drop i s) ≡ starts (get_or s i 0 ∷ drop (i + 1) s)
+starts_octet s i h = ap starts (drop-cons s i 0 h ∙ ap (λ (n : ℕ). get_or s i 0 ∷ drop n s) (sym (add-one i)))
+
 -- what is within one bit starts
 pub near_starts : (x y : ℕ) (s : List ℕ) → wrong_bits start_sequence (x ∷ y ∷ []) ≤ 1 → starts (x ∷ y ∷ s) ≡ true
 near_starts x y s h = starts_wrong x y s ∙ le-leb (wrong_bits start_sequence (x ∷ y ∷ [])) 1 h

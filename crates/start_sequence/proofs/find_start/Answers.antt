@@ -1,10 +1,16 @@
+-- The first place is found, or there is none.
 use borrow.Author.Rules.{rules}
-use mathlib.Core.Path.{◌∙◌}
-use Rattle.std.specs.Slice.Iter.{windows_rest, windows_size}
-use Rattle.start_sequence.proofs.Windows.{position_of}
+use mathlib.Core.Path.{◌≡◌}
+use Prim.Native.Nat.{ℕ}
+use lib.ListN.{length}
+use Rattle.std.specs.Prelude.{MatchOption}
+use Rattle.start_sequence.specs.StartSequence.{start_of}
+use Rattle.start_sequence.proofs.Search.{place_told}
 use Rattle.start_sequence.proofs.find_start.Goals as goal
 
 pub returns : goal.returns
 returns c =
-    c.unwrap_or.ensures
-    ∙ position_of windows_size windows_rest _ _ c.args.input.now c.windows.result c.position.result c.windows.ensures.rest c.windows.ensures.size c.windows.ensures.runs c.position.ensures.runs (λ x b q k. search rules)
+    let s = c.args.input.now in
+    let f = c.first_place.ensures in
+    let e : MatchOption c.first_place.result (start_of s ≡ length s) (λ (i : ℕ). start_of s ≡ i) = place_told s c.first_place.result f.there f.before f.none in
+    search rules
