@@ -85,7 +85,8 @@ impl Channels {
 
     // Lent octets, with the receiver next.
     pub fn receive(self, octets: &[u8]) -> (Turn, Channels)
-        ensures { turned_of result ≡ receive_of self octets.now }
+        ensures turn { turn_of self.count result.0 ≡ frame_turn_of self octets.now }
+        ensures told { turned_of result ≡ receive_of self octets.now }
     {
         let turn = self.frame_turn(octets);
         (turn, self.after(turn))

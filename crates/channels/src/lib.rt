@@ -108,7 +108,8 @@ impl Channels {
 
     // A buffer release that names a channel, with the receiver next.
     pub fn release(self, number: u8) -> (Turn, Channels)
-        ensures { turned_of result ≡ release_of self number }
+        ensures turn { turn_of self.count result.0 ≡ release_turn_of self number }
+        ensures told { turned_of result ≡ release_of self number }
     {
         let turn = self.release_turn(number);
         (turn, self.after(turn))
