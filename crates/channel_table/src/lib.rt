@@ -8,6 +8,7 @@ ghost use Rattle.base.specs.Outcome.{answer, after};
 ghost use Rattle.base.specs.Refusals.{written_answer};
 ghost use Rattle.channels.specs.Table.{turn_of, records_after, frame_turn, release_turn, unit_part, word_writing};
 ghost use Rattle.channel_table.specs.Taken.{few_of, empty_of, with_record};
+ghost use Rattle.channel_table.specs.Changed.{Changed};
 
 use base::Refusal;
 use channels::{Channels, LARGEST_CHANNELS, NO_RECORD, Table, Turn};
@@ -59,6 +60,7 @@ fn put(records: &mut [Channel], turn: Turn)
 pub fn receive(records: &mut [Channel], spacecraft: u16, pool: u8, octets: &[u8]) -> Turn
     ensures answer { turn_of (length records.old) result ≡ frame_turn spacecraft pool records.old octets.now }
     ensures memory { records.new ≡ records_after (frame_turn spacecraft pool records.old octets.now) records.old }
+    ensures changed { Changed (frame_turn spacecraft pool records.old octets.now) records.old records.new }
 {
     let table = Table {
         spacecraft,
@@ -74,6 +76,7 @@ pub fn receive(records: &mut [Channel], spacecraft: u16, pool: u8, octets: &[u8]
 pub fn release(records: &mut [Channel], spacecraft: u16, pool: u8, number: u8) -> Turn
     ensures answer { turn_of (length records.old) result ≡ release_turn spacecraft pool records.old number }
     ensures memory { records.new ≡ records_after (release_turn spacecraft pool records.old number) records.old }
+    ensures changed { Changed (release_turn spacecraft pool records.old number) records.old records.new }
 {
     let table = Table {
         spacecraft,
