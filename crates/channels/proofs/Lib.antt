@@ -1,5 +1,6 @@
 pub mod Found
 pub mod Told
+pub mod Value
 pub mod Judged
 pub mod RecordLaws
 pub mod Addresses
