@@ -135,7 +135,7 @@ initialises : (w : Work) → Four w → Four (act.initialise w)
 unfolding act.initialise act.set_suspend_state act.count_one with_variables
 initialises w h = purges w h
 
-alerts : (a : Reason) (w : Work) → Four w → Four (act.alert a w)
+alerts : (a : std.Option Reason) (w : Work) → Four w → Four (act.alert a w)
 unfolding act.alert act.notify act.cancel_timer with_variables with_told
 alerts a w h = purges (act.cancel_timer w) h
 
@@ -161,7 +161,7 @@ keeps InitiateBcRetransmission n w h = retransmits_bc w h
 keeps ReleaseBcFrame n w h = h
 keeps CancelTimer n w h = h
 keeps StartTimer n w h = h
-keeps (Alert r) n w h = alerts r w h
+keeps (Alert r) n w h = alerts (Some r) w h
 keeps Initialise n w h = initialises w h
 keeps TransmitUnlock n w h = transmits_bc w h _ _
 keeps TransmitSetVr n w h = transmits_bc w h _ _

@@ -88,8 +88,8 @@ pub fn purge_wait_queue(work: Work) -> Work
     work
 }
 
-// Clause 7.9.2.14, Alert.
-pub fn alert(work: Work, reason: Alert) -> Work
+// Clause 7.9.2.14, Alert; with no reason nothing is notified.
+pub fn alert(work: Work, reason: Option<Alert>) -> Work
     ensures { result ≡ alert reason work }
 {
     notify(

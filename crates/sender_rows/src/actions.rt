@@ -47,7 +47,7 @@ pub fn perform(work: Work, action: Action, value: u16) -> Work
         Action::ReleaseBcFrame => release_bc_frame(work),
         Action::CancelTimer => cancel_timer(work),
         Action::StartTimer => start_timer(work),
-        Action::Alert(reason) => alert(work, reason),
+        Action::Alert(reason) => alert(work, Some(reason)),
         Action::Initialise => initialise(work),
         Action::TransmitUnlock => transmit_unlock(work),
         Action::TransmitSetVr => transmit_set_vr(work, octet(value)),

@@ -3,6 +3,7 @@ use Prim.Native.Nat.{ℕ, suc, ◌%◌}
 use mathlib.Core.Path.{◌≡◌, subst}
 use mathlib.Core.Bool.{Bool, true, false}
 use mathlib.Core.List.{List, [], ◌∷◌}
+use Rattle.std.specs.Prelude.{Some}
 use Rattle.fop.specs.Units.{Fdu}
 use Rattle.fop.specs.declared.Action.{Action}
 use Rattle.fop.specs.declared.Action.TheVariants.{Ignore, Accept, Reject, Confirm, RejectAd, AcceptBd, RejectBd, AddToWaitQueue, LookForFdu, LookForDirective, RemoveAcknowledgedFrames}
@@ -94,7 +95,7 @@ module _ (x : Case) (b : Brings) (meets : Needed b x.octets x.value x.sender) wh
   step ReleaseBcFrame mode w m h = turned_mode x w (act.release_bc_frame w) ReleaseBcFrame mode m h released (λ p f z u l g. values.release_bc_frame_lem x w m g)
   step CancelTimer mode w m h = turned_mode x w (act.cancel_timer w) CancelTimer mode m h ceased (λ p f z u l g. values.cancel_timer_lem x w m g)
   step StartTimer mode w m h = turned_mode x w (act.start_timer w) StartTimer mode m h started (λ p f z u l g. values.start_timer_lem x w m g)
-  step (Alert r) mode w m h = purged_mode x w (act.alert r w) (Alert r) mode m h ceased (λ p f z l g. purge.alerts x w m g r)
+  step (Alert r) mode w m h = purged_mode x w (act.alert (Some r) w) (Alert r) mode m h ceased (λ p f z l g. purge.alerts x w m g r)
   step Initialise mode w m h = purged_mode x w (act.initialise w) Initialise mode m h (suspended_at 0) (λ p f z l g. purge.initialise x w m g)
   step TransmitUnlock mode w m h =
       on_going_lem x w (act.transmit_unlock w) m (perform TransmitUnlock m) controlled (λ p f z u l g. handing.transmit_unlock_lem x w m g) mode h

@@ -43,7 +43,7 @@ units_run w lengths store =
     let q = w.queues in
     denied_run
     (with_queues (record { sent = q.sent; marked = q.marked; waiting = false; control = None; control_marked = false }) w) lengths store
-    alert.Llif
+    (Some alert.Llif)
 
 -- with the Sent_Queue empty no more units are held
 held_fewer : (sent : ℕ) (b : Bool) → units_held 0 b ≤ units_held sent b
@@ -138,12 +138,12 @@ module _ (x : Case) (w : Work) (m : machine.Work) {p : Stored} {f : Bool} {z : I
   room : Room 2 w.told.responses
   room = less_room 2 (suc (suc l)) w.told.responses (omega arith) h.going.room
 
-  pub alerts : (r : Alert) → Open x p false (both_purged (ceased z)) false l (act.alert r w) (perform (action.Alert r) m)
+  pub alerts : (r : Alert) → Open x p false (both_purged (ceased z)) false l (act.alert (Some r) w) (perform (action.Alert r) m)
   unfolding act.alert act.notify act.cancel_timer with_variables with_told
   alerts r =
       let e : EndedOf x p (ceased z) h.lengths h.store h.c h.d (act.cancel_timer w) = idle_again h.ended h.ended.counted (stops h.ended.idle) in
-      goes_on h (action.Alert r) (act.alert r w) (h.d ++ units w h.lengths h.store)
-      (release.alert _ _ _ _ _ w h.lengths h.store room r) (well.alert w h.lengths h.store r h.formed)
+      goes_on h (action.Alert r) (act.alert (Some r) w) (h.d ++ units w h.lengths h.store)
+      (release.alert _ _ _ _ _ w h.lengths h.store room r) (well.alert w h.lengths h.store (Some r) h.formed)
       (purged_ended (act.cancel_timer w) e h.going) (purged_going (act.cancel_timer w) e h.going)
 
   pub initialise : Open x p false (both_purged (suspended_at 0 z)) false l (act.initialise w) (perform action.Initialise m)

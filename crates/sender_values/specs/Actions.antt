@@ -116,9 +116,9 @@ hand_down h w = with_told (handing h w.told) w
 unfoldable pub abort : Work → Work
 abort w = with_told (telling true w.told.alert w.told.suspended w.told) w
 
--- an Alert notification
-unfoldable pub notify : Alert → Work → Work
-notify a w = with_told (telling w.told.abort (Some a) w.told.suspended w.told) w
+-- an Alert notification, or none
+unfoldable pub notify : Option Alert → Work → Work
+notify a w = with_told (telling w.told.abort a w.told.suspended w.told) w
 
 -- clause 7.9.2.18, Suspend: a Suspend notification
 unfoldable pub suspend : Work → Work
@@ -287,8 +287,8 @@ not_waiting w =
 unfoldable pub purge_wait_queue : Work → Work
 purge_wait_queue w = pick w.queues.waiting (respond RejectAdUnit (not_waiting w)) w
 
--- clause 7.9.2.14, Alert
-unfoldable pub alert : Alert → Work → Work
+-- clause 7.9.2.14, Alert; with no reason nothing is notified
+unfoldable pub alert : Option Alert → Work → Work
 alert a w = notify a (purge_wait_queue (purge_sent_queue (cancel_timer w)))
 
 -- clause 7.9.2.17, Initialise

@@ -57,11 +57,11 @@ pub fn abort(mut work: Work) -> Work
     work
 }
 
-// An Alert notification.
-pub fn notify(mut work: Work, alert: Alert) -> Work
+// An Alert notification, or none.
+pub fn notify(mut work: Work, alert: Option<Alert>) -> Work
     ensures { result ≡ notify alert work }
 {
-    work.told.alert = Some(alert);
+    work.told.alert = alert;
     work
 }
 

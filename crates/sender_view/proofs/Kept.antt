@@ -226,7 +226,7 @@ module _ (w : Work) (lengths store : List ℕ) (well : WellFormed w lengths stor
 both_purged_lem : (w : Work) (lengths store : List ℕ) → WellFormed w lengths store → WellFormed (act.purge_wait_queue (act.purge_sent_queue w)) lengths store
 both_purged_lem w lengths store well = purge_wait_queue_lem (act.purge_sent_queue w) lengths store (purge_sent_queue_lem w lengths store well)
 
-pub alert : (w : Work) (lengths store : List ℕ) (a : Alert) → WellFormed w lengths store → WellFormed (act.alert a w) lengths store
+pub alert : (w : Work) (lengths store : List ℕ) (a : Option Alert) → WellFormed w lengths store → WellFormed (act.alert a w) lengths store
 unfolding act.alert act.notify with_told
 alert w lengths store a well = both_purged_lem (act.cancel_timer w) lengths store (cancel_timer_lem w lengths store well)
 

@@ -140,9 +140,17 @@ module _ (e : Option FopEvent) (o : List ℕ) (n : ℕ) (c d : List Fdu) (w : Wo
   purge_cancelled =
       cancelled_first (view e o n c d w lengths store) (fop_of w lengths store).queues.wait_queue (fop_of w lengths store).queues.bc_frame ∙ purge_both e o n c d (act.cancel_timer w) lengths store room
 
-  pub alert : (a : Alert) → perform (action.Alert a) (view e o n c d w lengths store) ≡ view e o n c denied_units (act.alert a w) lengths store
-  unfolding perform act.alert act.notify with_told
-  alert a = ap (λ (x : machine.Work). machine.tell x.notices.abort (Some a) x.notices.suspended x) purge_cancelled
+  -- purged, with the timer cancelled, and an alert or none told
+  pub told_lem : (a : std.Option Alert)
+      → (let p : machine.Work = purge (view e o n c d w lengths store) in
+      machine.tell p.notices.abort a p.notices.suspended (machine.on_fop (machine.set_clock 0 p.fop.clock.transmission_count p.fop) p))
+      ≡ view e o n c denied_units (act.alert a w) lengths store
+  unfolding act.alert act.notify with_told
+  told_lem a = ap (λ (x : machine.Work). machine.tell x.notices.abort a x.notices.suspended x) purge_cancelled
+
+  pub alert : (a : Alert) → perform (action.Alert a) (view e o n c d w lengths store) ≡ view e o n c denied_units (act.alert (Some a) w) lengths store
+  unfolding perform
+  alert a = told_lem (Some a)
 
   pub initialise : perform action.Initialise (view e o n c d w lengths store) ≡ view e o n c denied_units (act.initialise w) lengths store
   unfolding perform act.initialise act.count_one act.set_suspend_state with_variables

@@ -86,7 +86,7 @@ module _ (w : Work) where
   both_purged_lem = wait_purged_lem (act.deny_control w.queues.control (act.emptied w)) (sent_purged_lem w.queues.control)
 
 -- the run denied by Alert, and the run confirmed, which Alert keeps
-pub denied_run : (w : Work) (lengths store : List ℕ) (a : Alert)
+pub denied_run : (w : Work) (lengths store : List ℕ) (a : Option Alert)
     → run_of (fdus (entries_of lengths store w.variables.vs w.queues.sent w.queues.marked)) ≡ (act.alert a w).told.denied
 unfolding act.alert act.notify act.cancel_timer with_variables with_told
 denied_run w lengths store a =
