@@ -1,6 +1,7 @@
 -- Table 7-8, the FOP-1 state table, row by row: for each event and state the actions, in the standard's words, and the next state.
 -- E18, E31 to E34 and E104 are suspension's rows (document 02, order 9): with Timeout_Type and Suspend_State 0 no event meets them (specs/Events).
-use Rattle.std.specs.Prelude.{ℕ, ◌-◌, List, [], ◌∷◌, ltb, map, get_or}
+use Rattle.std.specs.Prelude.{ℕ, ◌-◌, List, [], ◌∷◌, ltb, map, get_or, None, Some}
+use Rattle.std.specs.Prelude as code
 use Rattle.std.proofs.Math.Option.{Option, none, some}
 use Rattle.base.specs.Choice.{pick}
 use Rattle.fop.specs.declared.Alert.{Alert as Reason}
@@ -84,6 +85,11 @@ events =
 -- the event with a number, if there is one
 unfoldable pub event_of : ℕ → Option FopEvent
 event_of k = get_or (none ∷ map some events) (place_numbered k) none
+
+-- an event, or none, as the code has it
+abbrev pub as_code : Option FopEvent → code.Option FopEvent
+as_code none = None
+as_code (some e) = Some e
 
 -- the actions and the next state; "IF SS = 0 .. ELSE .." (E35); "Not Applicable", which has no next state
 pub data Cell : Type 0 where

@@ -3,7 +3,7 @@
 #![tactic(auto)]
 
 ghost use Rattle.std.specs.Prelude.{◌≡◌};
-ghost use Rattle.fop.specs.Table.{event_number};
+ghost use Rattle.fop.specs.Table.{event_number, event_of, as_code};
 
 // Active, Retransmit without wait, Retransmit with wait, Initialising without BC frame, Initialising with BC frame, Initial.
 #[derive(Clone, Copy)]
@@ -71,12 +71,77 @@ pub enum Event {
     E104,
 }
 
+// The events in the order of their numbers.
+const EVENTS: [Event; 50] = [
+    Event::E1,
+    Event::E2,
+    Event::E3,
+    Event::E4,
+    Event::E5,
+    Event::E6,
+    Event::E7,
+    Event::E8,
+    Event::E9,
+    Event::E10,
+    Event::E11,
+    Event::E12,
+    Event::E13,
+    Event::E14,
+    Event::E15,
+    Event::E16,
+    Event::E17,
+    Event::E18,
+    Event::E19,
+    Event::E20,
+    Event::E21,
+    Event::E22,
+    Event::E23,
+    Event::E24,
+    Event::E25,
+    Event::E26,
+    Event::E27,
+    Event::E28,
+    Event::E29,
+    Event::E30,
+    Event::E31,
+    Event::E32,
+    Event::E33,
+    Event::E34,
+    Event::E35,
+    Event::E36,
+    Event::E37,
+    Event::E38,
+    Event::E39,
+    Event::E40,
+    Event::E41,
+    Event::E42,
+    Event::E43,
+    Event::E44,
+    Event::E45,
+    Event::E46,
+    Event::E101,
+    Event::E102,
+    Event::E103,
+    Event::E104,
+];
+
 impl Event {
     // Its number.
     pub fn number(self) -> u8
         ensures { result ≡ event_number self }
     {
         self as u8
+    }
+
+    // The event with a number, 1 to 46 or 101 to 104; any other number is no event's.
+    pub fn numbered(number: u8) -> Option<Event>
+        ensures { result ≡ as_code (event_of number) }
+    {
+        match number {
+            1..=46 => Some(EVENTS[usize::from(number) - 1]),
+            101..=104 => Some(EVENTS[usize::from(number) - 55]),
+            _ => None,
+        }
     }
 }
 
