@@ -42,6 +42,5 @@ pub fn row(work: Work, event: Option<Event>, value: u16) -> Work
     };
     let chosen = unless_suspended(event, work.variables.suspend_state);
     let asked = cell(chosen, work.state);
-    let next = asked.next.unwrap_or(work.state);
-    to_state(perform_all(work, asked.actions, value), next)
+    to_state(perform_all(work, &asked.actions, value), asked.next)
 }

@@ -10,8 +10,9 @@ use Rattle.fop.specs.declared.Event.TheVariants.{E1}
 use Rattle.fop.specs.declared.State.{State}
 use Rattle.fop.specs.declared.State.TheVariants.{S1, S2, S3, S4, S5, S6}
 use Rattle.fop.specs.Table.{events, table78, cell78}
+use Rattle.sender_table.specs.declared.CellAsked.{CellAsked}
 use Rattle.sender_table.specs.declared.table.TableCell.{TableCell}
-use Rattle.sender_table.specs.Cells.{Asked, asked_in, asked_by, place_of, column_of, Tells}
+use Rattle.sender_table.specs.Cells.{asked_in, asked_by, place_of, column_of, Tells}
 use Rattle.sender_table.proofs.Places.{event_there, place_below}
 
 -- in all states
@@ -27,11 +28,11 @@ of_six f g e S5 = ap (λ l. get_or l 4 (f S1)) e
 of_six f g e S6 = ap (λ l. get_or l 5 (f S1)) e
 
 -- what the row of an event asks
-abbrev by_event : FopEvent → State → Asked
+abbrev by_event : FopEvent → State → CellAsked
 by_event e s = asked_by (cell78 (table78 e) s) s
 
 -- what a row of cells asks
-abbrev by_row : TableCell → List TableCell → State → Asked
+abbrev by_row : TableCell → List TableCell → State → CellAsked
 by_row missing row s = asked_in (get_or row (column_of s) missing) s
 
 -- the rows ask what the events' rows ask
@@ -42,12 +43,12 @@ pub tells : (rows : List (List TableCell)) → Agree rows → Tells rows
 tells rows agree = record { says = λ missing e s. row_tells missing e s } where
   row_tells : (missing : TableCell) (e : FopEvent) (s : State) → by_row missing (get_or rows (place_of e) []) s ≡ by_event e s
   row_tells missing e =
-      let f : List TableCell → List Asked = λ row. six (by_row missing row) in
-      let g : FopEvent → List Asked = λ x. six (by_event x) in
+      let f : List TableCell → List CellAsked = λ row. six (by_row missing row) in
+      let g : FopEvent → List CellAsked = λ x. six (by_event x) in
       let p = place_of e in
       let many : length rows ≡ 50 = sym (length-map rows f) ∙ ap length (agree missing) in
       of_six (by_row missing (get_or rows p [])) (by_event e)
       (sym (get_or-map f rows p [] (f []) (omega (arith, many, place_below e)))
-      ∙ ap (λ (l : List (List Asked)). get_or l p (f [])) (agree missing)
+      ∙ ap (λ (l : List (List CellAsked)). get_or l p (f [])) (agree missing)
       ∙ get_or-map g events p E1 (f []) (place_below e)
       ∙ ap g (event_there e))

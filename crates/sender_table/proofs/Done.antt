@@ -1,20 +1,22 @@
 -- That what a cell of table 7-8 asks, done, is the event's row. While suspended, the row of E35 is that of E40.
 use mathlib.Core.Path.{◌≡◌, refl, sym, ap, ◌∙◌}
 use mathlib.Core.Bool.{Bool, true, false}
-use mathlib.Core.List.{List, map}
-use Prim.Native.Nat.{ℕ}
+use mathlib.Core.List.{List, [], ◌∷◌, map}
+use Prim.Native.Nat.{ℕ, zero, suc}
 use lib.Dec.{eqb}
 use lib.ListN.{get_or}
 use Rattle.std.proofs.lemmas.List.{get_or-map}
 use Rattle.base.specs.Choice.{pick}
+use Rattle.fop.specs.declared.Action.{Action}
 use Rattle.fop.specs.declared.Event.{Event as FopEvent}
 use Rattle.fop.specs.declared.Event.TheVariants.{E1, E40}
 use Rattle.fop.specs.declared.State.{State}
 use Rattle.fop.specs.Table.{events, event_number, Cell, cell, if_not_suspended, NotApplicable, table78, cell78}
 use Rattle.sender_values.specs.declared.Work.{Work}
 use Rattle.sender_values.specs.Actions.{to_state}
-use Rattle.sender_table.specs.Rows.{done_all, done_cell, row_of}
-use Rattle.sender_table.specs.Cells.{Asked, asked_by, place_of, unless_suspended}
+use Rattle.sender_table.specs.declared.CellAsked.{CellAsked}
+use Rattle.sender_table.specs.Rows.{done, done_all, done_cell, row_of}
+use Rattle.sender_table.specs.Cells.{most_actions, filled_up, asked_by, place_of, unless_suspended}
 use Rattle.sender_table.proofs.Places.{event_there, place_below}
 use Rattle.sender_table.proofs.Cells.{six, of_six}
 
@@ -38,10 +40,10 @@ abbrev chosen : Bool → FopEvent → FopEvent
 chosen free e = pick (eqb (event_number e) 35) (pick free e E40) e
 
 -- what the row chosen asks, and what the event's own row asks
-abbrev by_chosen : Bool → FopEvent → State → Asked
+abbrev by_chosen : Bool → FopEvent → State → CellAsked
 by_chosen free e s = asked_by (cell78 (table78 (chosen free e)) s) s
 
-abbrev by_own : Bool → FopEvent → State → Asked
+abbrev by_own : Bool → FopEvent → State → CellAsked
 by_own free e s = asked_by (decided free (cell78 (table78 e) s)) s
 
 alike : (free : Bool) → map (λ e. six (by_chosen free e)) events ≡ map (λ e. six (by_own free e)) events
@@ -52,17 +54,24 @@ alike false = refl
 chosen_asks : (free : Bool) (e : FopEvent) (s : State) → by_chosen free e s ≡ by_own free e s
 chosen_asks free e s = of_six (by_chosen free e) (by_own free e) (at_event (λ x. six (by_chosen free x)) (λ x. six (by_own free x)) (alike free) e) s
 
+-- Ignore, which fills a cell up, does nothing
+filled_done : (k : ℕ) (acts : List Action) (n : ℕ) (w : Work) → done_all (filled_up k acts) n w ≡ done_all acts n w
+unfolding done done_all
+filled_done zero acts n w = refl
+filled_done (suc k) [] n w = filled_done k [] n w
+filled_done (suc k) (a ∷ more) n w = filled_done k more n (done a n w)
+
 module _ (n : ℕ) (w : Work) where
-  abbrev pub asked_done : Asked → Work
+  abbrev pub asked_done : CellAsked → Work
   asked_done a = to_state a.next (done_all a.actions n w)
 
   -- a cell of the state that the work is in
   cell_done : (free : Bool) (c : Cell) → eqb w.variables.suspend_state 0 ≡ free → asked_done (asked_by (decided free c) w.state) ≡ done_cell c n w
-  unfolding asked_by done_cell done_all to_state
+  unfolding asked_by done_cell done done_all to_state
   cell_done free NotApplicable b = refl
-  cell_done free (cell acts t) b = refl
-  cell_done true (if_not_suspended acts others t) b = rw b refl
-  cell_done false (if_not_suspended acts others t) b = rw b refl
+  cell_done free (cell acts t) b = ap (to_state t) (filled_done most_actions acts n w)
+  cell_done true (if_not_suspended acts others t) b = rw b (ap (to_state t) (filled_done most_actions acts n w))
+  cell_done false (if_not_suspended acts others t) b = rw b (ap (to_state t) (filled_done most_actions others n w))
 
   -- the row chosen, done, is the event's row
   pub cell_row : (e : FopEvent) → asked_done (asked_by (cell78 (table78 (unless_suspended e w.variables.suspend_state)) w.state) w.state) ≡ row_of e n w

@@ -1,33 +1,40 @@
 -- What a cell of table 7-8 asks in a state, and what src/table.rt says that it asks; that the two are the same is proofs/Cells.
-use Rattle.std.specs.Prelude.{ℕ, ◌-◌, ◌≡◌, List, [], eqb, ltb, get_or, unwrap_or}
+use Rattle.std.specs.Prelude.{ℕ, zero, suc, ◌-◌, ◌≡◌, List, [], ◌∷◌, eqb, ltb, get_or, unwrap_or}
 use Rattle.base.specs.Choice.{pick}
 use Rattle.fop.specs.declared.Action.{Action}
+use Rattle.fop.specs.declared.Action.TheVariants.{Ignore}
 use Rattle.fop.specs.declared.Event.{Event as FopEvent}
 use Rattle.fop.specs.declared.Event.TheVariants.{E40}
 use Rattle.fop.specs.declared.State.{State}
 use Rattle.fop.specs.declared.State.TheVariants as state
 use Rattle.fop.specs.Table.{Cell, cell, if_not_suspended, NotApplicable, table78, cell78, event_number}
+use Rattle.sender_table.specs.declared.CellAsked.{CellAsked}
 use Rattle.sender_table.specs.declared.table.TableCell.{TableCell}
 
--- actions in their order, and then the next state
-pub record Asked : Type 0 where
-  pub actions : List Action
-  pub next : State
+-- a cell of the table has at most five actions
+abbrev pub most_actions : ℕ
+most_actions = 5
 
--- what a cell asks in the state s. "Not Applicable": no action, and the state is kept. "IF SS = 0 .. ELSE ..": the actions of SS = 0, since while
--- suspended another row is asked for (`unless_suspended`).
-unfoldable pub asked_by : Cell → State → Asked
-asked_by NotApplicable s = record { actions = []; next = s }
-asked_by (cell acts next) s = record { actions = acts; next = next }
-asked_by (if_not_suspended acts others next) s = record { actions = acts; next = next }
+-- actions filled up with Ignore to a count
+abbrev pub filled_up : ℕ → List Action → List Action
+filled_up zero acts = acts
+filled_up (suc k) [] = Ignore ∷ filled_up k []
+filled_up (suc k) (a ∷ more) = a ∷ filled_up k more
+
+-- what a cell asks in the state s: its actions and its next state. "Not Applicable": no action, and the state is kept. "IF SS = 0 .. ELSE ..": the
+-- actions of SS = 0, since while suspended another row is asked for (`unless_suspended`).
+unfoldable pub asked_by : Cell → State → CellAsked
+asked_by NotApplicable s = record { actions = filled_up most_actions []; next = s }
+asked_by (cell acts next) s = record { actions = filled_up most_actions acts; next = next }
+asked_by (if_not_suspended acts others next) s = record { actions = filled_up most_actions acts; next = next }
 
 -- "IF SS = 0 .. ELSE .." stands in one row, E35: while suspended it is the row of the invalid directive, E40
 abbrev pub unless_suspended : FopEvent → ℕ → FopEvent
 unless_suspended e suspend_state = pick (eqb (event_number e) 35) (pick (eqb suspend_state 0) e E40) e
 
 -- what a cell of src/table.rt asks in the state s: where it names no next state, the state is kept
-abbrev pub asked_in : TableCell → State → Asked
-asked_in c s = record { actions = c.actions.now; next = unwrap_or c.next s }
+abbrev pub asked_in : TableCell → State → CellAsked
+asked_in c s = record { actions = c.actions.0 ∷ c.actions.1 ∷ c.actions.2 ∷ c.actions.3 ∷ c.actions.4 ∷ []; next = unwrap_or c.next s }
 
 -- the place of an event's row: E1 to E46, then E101 to E104
 abbrev pub place_of : FopEvent → ℕ

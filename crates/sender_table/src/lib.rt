@@ -8,7 +8,14 @@ ghost use Rattle.fop.specs.Table.{table78, cell78};
 ghost use Rattle.sender_table.specs.Cells.{place_of, column_of, asked_in, asked_by, Tells};
 
 use crate::table::{ROWS, TableCell};
-use fop::{Event, State};
+use fop::{Action, Event, State};
+
+// What a cell of table 7-8 asks in a state: its actions in their order, five, filled up with Ignore, and the next state.
+#[derive(Clone, Copy)]
+pub struct CellAsked {
+    pub actions: [Action; 5],
+    pub next: State,
+}
 
 // The place of an event's row: behind E46 comes E101.
 fn place(event: Event) -> usize
@@ -25,17 +32,27 @@ fn column(state: State) -> usize
     state as usize
 }
 
-// The cell of an event in a state, by rows that say what the table says; that the data's do is computed once, where they are passed.
-fn cell_in(rows: &[[TableCell; 6]; 50], event: Event, state: State) -> TableCell
-    requires { Tells rows.now }
-    ensures { asked_in result state ≡ asked_by (cell78 (table78 event) state) state }
+// What a cell of the data asks in a state.
+fn asked(cell: TableCell, state: State) -> CellAsked
+    ensures { result ≡ asked_in cell state }
 {
-    rows[place(event)][column(state)]
+    let (first, second, third, fourth, fifth) = cell.actions;
+    let actions = [first, second, third, fourth, fifth];
+    let next = cell.next.unwrap_or(state);
+    CellAsked { actions, next }
+}
+
+// The cell of an event in a state, by rows that say what the table says; that the data's do is computed once, where they are passed.
+fn cell_in(rows: &[[TableCell; 6]; 50], event: Event, state: State) -> CellAsked
+    requires { Tells rows.now }
+    ensures { result ≡ asked_by (cell78 (table78 event) state) state }
+{
+    asked(rows[place(event)][column(state)], state)
 }
 
 // The cell of an event in a state.
-pub fn cell(event: Event, state: State) -> TableCell
-    ensures { asked_in result state ≡ asked_by (cell78 (table78 event) state) state }
+pub fn cell(event: Event, state: State) -> CellAsked
+    ensures { result ≡ asked_by (cell78 (table78 event) state) state }
 {
     cell_in(ROWS, event, state)
 }

@@ -9,271 +9,292 @@ use fop::Action::{
 use fop::Alert::{Clcw, Limit, Llif, Lockout, Nnr, Synch, T1, Term};
 use fop::State::{self, S1, S2, S3, S4, S5, S6};
 
-// A cell: its actions in their order, and the next state; None keeps the state.
+// A cell: its actions in their order, filled up with Ignore, and the next state; None keeps the state. No cell holds an address, so the
+// library keeps no variables, wherever it is loaded.
 #[derive(Clone, Copy)]
 pub struct TableCell {
-    pub actions: &'static [Action],
+    pub actions: (Action, Action, Action, Action, Action),
     pub next: Option<State>,
 }
 
 // "Not Applicable".
 const NOT_APPLICABLE: TableCell = TableCell {
-    actions: &[],
+    actions: (Ignore, Ignore, Ignore, Ignore, Ignore),
     next: None,
 };
 
 // "Ignore", where the state stays.
 const IGNORED: TableCell = TableCell {
-    actions: &[Ignore],
+    actions: (Ignore, Ignore, Ignore, Ignore, Ignore),
     next: None,
 };
 
 const TO_ALERT_SYNCH: TableCell = TableCell {
-    actions: &[Alert(Synch)],
+    actions: (Alert(Synch), Ignore, Ignore, Ignore, Ignore),
     next: Some(S6),
 };
 
 const TO_ALERT_CLCW: TableCell = TableCell {
-    actions: &[Alert(Clcw)],
+    actions: (Alert(Clcw), Ignore, Ignore, Ignore, Ignore),
     next: Some(S6),
 };
 
 const TO_ALERT_LIMIT: TableCell = TableCell {
-    actions: &[Alert(Limit)],
+    actions: (Alert(Limit), Ignore, Ignore, Ignore, Ignore),
     next: Some(S6),
 };
 
 const TO_ALERT_NNR: TableCell = TableCell {
-    actions: &[Alert(Nnr)],
+    actions: (Alert(Nnr), Ignore, Ignore, Ignore, Ignore),
     next: Some(S6),
 };
 
 const TO_ALERT_LOCKOUT: TableCell = TableCell {
-    actions: &[Alert(Lockout)],
+    actions: (Alert(Lockout), Ignore, Ignore, Ignore, Ignore),
     next: Some(S6),
 };
 
 const TO_ALERT_T1: TableCell = TableCell {
-    actions: &[Alert(T1)],
+    actions: (Alert(T1), Ignore, Ignore, Ignore, Ignore),
     next: Some(S6),
 };
 
 const TO_ALERT_LLIF: TableCell = TableCell {
-    actions: &[Alert(Llif)],
+    actions: (Alert(Llif), Ignore, Ignore, Ignore, Ignore),
     next: Some(S6),
 };
 
 const CHECKED: TableCell = TableCell {
-    actions: &[Confirm, CancelTimer],
+    actions: (Confirm, CancelTimer, Ignore, Ignore, Ignore),
     next: Some(S1),
 };
 
 const CARRIED_OUT: TableCell = TableCell {
-    actions: &[Confirm, ReleaseBcFrame, CancelTimer],
+    actions: (Confirm, ReleaseBcFrame, CancelTimer, Ignore, Ignore),
     next: Some(S1),
 };
 
 const ALL_ACKNOWLEDGED: TableCell = TableCell {
-    actions: &[RemoveAcknowledgedFrames, CancelTimer, LookForFdu],
+    actions: (
+        RemoveAcknowledgedFrames,
+        CancelTimer,
+        LookForFdu,
+        Ignore,
+        Ignore,
+    ),
     next: Some(S1),
 };
 
 const SOME_ACKNOWLEDGED: TableCell = TableCell {
-    actions: &[RemoveAcknowledgedFrames, LookForFdu],
+    actions: (RemoveAcknowledgedFrames, LookForFdu, Ignore, Ignore, Ignore),
     next: Some(S1),
 };
 
 const ACKNOWLEDGED_LIMIT: TableCell = TableCell {
-    actions: &[RemoveAcknowledgedFrames, Alert(Limit)],
+    actions: (
+        RemoveAcknowledgedFrames,
+        Alert(Limit),
+        Ignore,
+        Ignore,
+        Ignore,
+    ),
     next: Some(S6),
 };
 
 const ACKNOWLEDGED_AGAIN: TableCell = TableCell {
-    actions: &[
+    actions: (
         RemoveAcknowledgedFrames,
         InitiateAdRetransmission,
         LookForFdu,
-    ],
+        Ignore,
+        Ignore,
+    ),
     next: Some(S2),
 };
 
 const ACKNOWLEDGED_WAIT: TableCell = TableCell {
-    actions: &[RemoveAcknowledgedFrames],
+    actions: (RemoveAcknowledgedFrames, Ignore, Ignore, Ignore, Ignore),
     next: Some(S3),
 };
 
-const AGAIN_TO_S2: TableCell = TableCell {
-    actions: &[InitiateAdRetransmission, LookForFdu],
-    next: Some(S2),
-};
-
 const AGAIN: TableCell = TableCell {
-    actions: &[InitiateAdRetransmission, LookForFdu],
+    actions: (InitiateAdRetransmission, LookForFdu, Ignore, Ignore, Ignore),
     next: None,
 };
 
+const AGAIN_TO_S2: TableCell = TableCell {
+    next: Some(S2),
+    ..AGAIN
+};
+
 const AGAIN_BC: TableCell = TableCell {
-    actions: &[InitiateBcRetransmission, LookForDirective],
+    actions: (
+        InitiateBcRetransmission,
+        LookForDirective,
+        Ignore,
+        Ignore,
+        Ignore,
+    ),
     next: None,
 };
 
 const TO_S2: TableCell = TableCell {
-    actions: &[Ignore],
+    actions: (Ignore, Ignore, Ignore, Ignore, Ignore),
     next: Some(S2),
 };
 
 const TO_S3: TableCell = TableCell {
-    actions: &[Ignore],
+    actions: (Ignore, Ignore, Ignore, Ignore, Ignore),
     next: Some(S3),
 };
 
 const SUSPEND_1: TableCell = TableCell {
-    actions: &[SetSuspendState(1), Suspend],
+    actions: (SetSuspendState(1), Suspend, Ignore, Ignore, Ignore),
     next: Some(S6),
 };
 
 const SUSPEND_2: TableCell = TableCell {
-    actions: &[SetSuspendState(2), Suspend],
+    actions: (SetSuspendState(2), Suspend, Ignore, Ignore, Ignore),
     next: Some(S6),
 };
 
 const SUSPEND_3: TableCell = TableCell {
-    actions: &[SetSuspendState(3), Suspend],
+    actions: (SetSuspendState(3), Suspend, Ignore, Ignore, Ignore),
     next: Some(S6),
 };
 
 const SUSPEND_4: TableCell = TableCell {
-    actions: &[SetSuspendState(4), Suspend],
+    actions: (SetSuspendState(4), Suspend, Ignore, Ignore, Ignore),
     next: Some(S6),
 };
 
 const ADD_AND_LOOK: TableCell = TableCell {
-    actions: &[AddToWaitQueue, LookForFdu],
+    actions: (AddToWaitQueue, LookForFdu, Ignore, Ignore, Ignore),
     next: None,
 };
 
 const ADD: TableCell = TableCell {
-    actions: &[AddToWaitQueue],
+    actions: (AddToWaitQueue, Ignore, Ignore, Ignore, Ignore),
     next: None,
 };
 
 const REJECTED_AD: TableCell = TableCell {
-    actions: &[RejectAd],
+    actions: (RejectAd, Ignore, Ignore, Ignore, Ignore),
     next: None,
 };
 
 const SEND_BD: TableCell = TableCell {
-    actions: &[TransmitBd],
+    actions: (TransmitBd, Ignore, Ignore, Ignore, Ignore),
     next: None,
 };
 
 const REJECTED_BD: TableCell = TableCell {
-    actions: &[RejectBd],
+    actions: (RejectBd, Ignore, Ignore, Ignore, Ignore),
     next: None,
 };
 
 const REJECTED: TableCell = TableCell {
-    actions: &[Reject],
+    actions: (Reject, Ignore, Ignore, Ignore, Ignore),
     next: None,
 };
 
 const INITIATE: TableCell = TableCell {
-    actions: &[Accept, Initialise, Confirm],
+    actions: (Accept, Initialise, Confirm, Ignore, Ignore),
     next: Some(S1),
 };
 
 const INITIATE_CHECK: TableCell = TableCell {
-    actions: &[Accept, Initialise, StartTimer],
+    actions: (Accept, Initialise, StartTimer, Ignore, Ignore),
     next: Some(S4),
 };
 
 const INITIATE_UNLOCK: TableCell = TableCell {
-    actions: &[Accept, Initialise, TransmitUnlock],
+    actions: (Accept, Initialise, TransmitUnlock, Ignore, Ignore),
     next: Some(S5),
 };
 
 const INITIATE_SET_VR: TableCell = TableCell {
-    actions: &[Accept, Initialise, SetVs, SetNnr, TransmitSetVr],
+    actions: (Accept, Initialise, SetVs, SetNnr, TransmitSetVr),
     next: Some(S5),
 };
 
 const TERMINATE: TableCell = TableCell {
-    actions: &[Accept, Alert(Term), Confirm],
+    actions: (Accept, Alert(Term), Confirm, Ignore, Ignore),
     next: Some(S6),
 };
 
 const TERMINATED: TableCell = TableCell {
-    actions: &[Accept, Confirm],
+    actions: (Accept, Confirm, Ignore, Ignore, Ignore),
     next: None,
 };
 
 const RESUME_1: TableCell = TableCell {
-    actions: &[Accept, Resume, Confirm],
+    actions: (Accept, Resume, Confirm, Ignore, Ignore),
     next: Some(S1),
 };
 
 const RESUME_2: TableCell = TableCell {
-    actions: &[Accept, Resume, Confirm],
+    actions: (Accept, Resume, Confirm, Ignore, Ignore),
     next: Some(S2),
 };
 
 const RESUME_3: TableCell = TableCell {
-    actions: &[Accept, Resume, Confirm],
+    actions: (Accept, Resume, Confirm, Ignore, Ignore),
     next: Some(S3),
 };
 
 const RESUME_4: TableCell = TableCell {
-    actions: &[Accept, Resume, Confirm],
+    actions: (Accept, Resume, Confirm, Ignore, Ignore),
     next: Some(S4),
 };
 
 const NUMBERS_SET: TableCell = TableCell {
-    actions: &[Accept, SetVs, SetNnr, Confirm],
+    actions: (Accept, SetVs, SetNnr, Confirm, Ignore),
     next: None,
 };
 
 const K_SET: TableCell = TableCell {
-    actions: &[Accept, SetK, Confirm],
+    actions: (Accept, SetK, Confirm, Ignore, Ignore),
     next: None,
 };
 
 const T1_SET: TableCell = TableCell {
-    actions: &[Accept, SetT1Initial, Confirm],
+    actions: (Accept, SetT1Initial, Confirm, Ignore, Ignore),
     next: None,
 };
 
 const LIMIT_SET: TableCell = TableCell {
-    actions: &[Accept, SetTransmissionLimit, Confirm],
+    actions: (Accept, SetTransmissionLimit, Confirm, Ignore, Ignore),
     next: None,
 };
 
 const TIMEOUT_TYPE_SET: TableCell = TableCell {
-    actions: &[Accept, SetTimeoutType, Confirm],
+    actions: (Accept, SetTimeoutType, Confirm, Ignore, Ignore),
     next: None,
 };
 
 const AD_READY_LOOK: TableCell = TableCell {
-    actions: &[AdOutReady, LookForFdu],
+    actions: (AdOutReady, LookForFdu, Ignore, Ignore, Ignore),
     next: None,
 };
 
 const AD_READY: TableCell = TableCell {
-    actions: &[AdOutReady],
+    actions: (AdOutReady, Ignore, Ignore, Ignore, Ignore),
     next: None,
 };
 
 const BC_READY_LOOK: TableCell = TableCell {
-    actions: &[BcOutReady, LookForDirective],
+    actions: (BcOutReady, LookForDirective, Ignore, Ignore, Ignore),
     next: None,
 };
 
 const BC_READY: TableCell = TableCell {
-    actions: &[BcOutReady],
+    actions: (BcOutReady, Ignore, Ignore, Ignore, Ignore),
     next: None,
 };
 
 const BD_READY: TableCell = TableCell {
-    actions: &[BdOutReady, AcceptBd],
+    actions: (BdOutReady, AcceptBd, Ignore, Ignore, Ignore),
     next: None,
 };
 

@@ -1,5 +1,5 @@
 -- No event keeps the work; else what the cell of the row chosen asks, done, is the event's row.
-use mathlib.Core.Path.{sym, ap, ap₂, ◌∙◌}
+use mathlib.Core.Path.{sym, ap, ◌∙◌}
 use Rattle.std.specs.Prelude.{Option}
 use Rattle.fop.specs.declared.Event.{Event as FopEvent}
 use Rattle.fop.specs.Table.{table78, cell78}
@@ -19,7 +19,7 @@ returns c =
     let a = c.args in
     let w = a.work in
     c.to_state.ensures
-    ∙ ap₂ to_state c.unwrap_or-next.ensures c.perform_all.ensures
+    ∙ ap (to_state c.cell-asked.result.next) c.perform_all.ensures
     ∙ ap (asked_done a.value w) (c.cell-asked.ensures ∙ ap (λ (e : FopEvent). asked_by (cell78 (table78 e) w.state) w.state) c.unless_suspended-chosen.ensures)
     ∙ cell_row a.value w c.in-Some.event
     ∙ ap (λ (e : Option FopEvent). row_if e a.value w) (sym c.in-Some.is)
