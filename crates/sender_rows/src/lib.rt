@@ -4,7 +4,7 @@
 mod actions;
 
 ghost use Rattle.std.specs.Prelude.{◌≡◌};
-ghost use Rattle.sender_table.specs.Rows.{done_all, row_if};
+ghost use Rattle.sender_table.specs.Rows.{done_all, row_if, row_numbered};
 ghost use Rattle.sender_table.specs.Cells.{unless_suspended};
 
 use crate::actions::perform;
@@ -43,4 +43,11 @@ pub fn row(work: Work, event: Option<Event>, value: u16) -> Work
     let chosen = unless_suspended(event, work.variables.suspend_state);
     let asked = cell(chosen, work.state);
     to_state(perform_all(work, &asked.actions, value), asked.next)
+}
+
+// The work by the row of the event with a number; a number that is no event's does nothing.
+pub fn row_numbered(work: Work, number: u8, value: u16) -> Work
+    ensures { result ≡ row_numbered number value work }
+{
+    row(work, Event::numbered(number), value)
 }

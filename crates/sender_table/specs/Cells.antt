@@ -1,5 +1,5 @@
 -- What a cell of table 7-8 asks in a state, and what src/table.rt says that it asks; that the two are the same is proofs/Cells.
-use Rattle.std.specs.Prelude.{ℕ, zero, suc, ◌-◌, ◌≡◌, List, [], ◌∷◌, eqb, ltb, get_or, unwrap_or}
+use Rattle.std.specs.Prelude.{ℕ, zero, suc, ◌-◌, ◌≡◌, List, [], ◌∷◌, Option, None, Some, eqb, ltb, get_or, unwrap_or}
 use Rattle.base.specs.Choice.{pick}
 use Rattle.fop.specs.declared.Action.{Action}
 use Rattle.fop.specs.declared.Action.TheVariants.{Ignore}
@@ -27,6 +27,11 @@ unfoldable pub asked_by : Cell → State → CellAsked
 asked_by NotApplicable s = record { actions = filled_up most_actions []; next = s }
 asked_by (cell acts next) s = record { actions = filled_up most_actions acts; next = next }
 asked_by (if_not_suspended acts others next) s = record { actions = filled_up most_actions acts; next = next }
+
+-- the cell of an event, if it is one, in the state s; no event: no action, and the state is kept
+unfoldable pub cell_if : Option FopEvent → State → CellAsked
+cell_if None s = asked_by NotApplicable s
+cell_if (Some e) s = asked_by (cell78 (table78 e) s) s
 
 -- "IF SS = 0 .. ELSE .." stands in one row, E35: while suspended it is the row of the invalid directive, E40
 abbrev pub unless_suspended : FopEvent → ℕ → FopEvent

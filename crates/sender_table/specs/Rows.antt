@@ -3,7 +3,7 @@ use Rattle.std.specs.Prelude.{ℕ, ◌%◌, Bool, true, false, List, [], ◌∷�
 use Rattle.base.specs.Choice.{pick}
 use Rattle.fop.specs.declared.Action.{Action}
 use Rattle.fop.specs.declared.Event.{Event as FopEvent}
-use Rattle.fop.specs.Table.{Cell, cell, if_not_suspended, NotApplicable, table78, cell78}
+use Rattle.fop.specs.Table.{event_of, as_code, Cell, cell, if_not_suspended, NotApplicable, table78, cell78}
 use Rattle.fop.specs.declared.Action.TheVariants.{Ignore, Accept, Reject, Confirm, RejectAd, AcceptBd, RejectBd, AddToWaitQueue, LookForFdu, LookForDirective, RemoveAcknowledgedFrames}
 use Rattle.fop.specs.declared.Action.TheVariants.{InitiateAdRetransmission, InitiateBcRetransmission, ReleaseBcFrame, CancelTimer, StartTimer, Alert, Initialise, TransmitUnlock, TransmitSetVr, TransmitBd}
 use Rattle.fop.specs.declared.Action.TheVariants.{SetSuspendState, Suspend, Resume, SetVs, SetNnr, SetK, SetT1Initial, SetTransmissionLimit, SetTimeoutType, AdOutReady, BcOutReady, BdOutReady}
@@ -79,3 +79,7 @@ row_of e n w = done_cell (cell78 (table78 e) w.state) n w
 unfoldable pub row_if : Option FopEvent → ℕ → Work → Work
 row_if None n w = w
 row_if (Some e) n w = row_of e n w
+
+-- the row of the event with this number; a number that is no event's does nothing
+unfoldable pub row_numbered : ℕ → ℕ → Work → Work
+row_numbered k n w = row_if (as_code (event_of k)) n w

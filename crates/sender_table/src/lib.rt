@@ -4,10 +4,10 @@
 pub mod table;
 
 ghost use Rattle.std.specs.Prelude.{◌≡◌};
-ghost use Rattle.fop.specs.Table.{table78, cell78};
-ghost use Rattle.sender_table.specs.Cells.{place_of, column_of, asked_in, asked_by, Tells};
+ghost use Rattle.fop.specs.Table.{event_of, as_code, table78, cell78};
+ghost use Rattle.sender_table.specs.Cells.{place_of, column_of, asked_in, asked_by, cell_if, Tells};
 
-use crate::table::{ROWS, TableCell};
+use crate::table::{NOT_APPLICABLE, ROWS, TableCell};
 use fop::{Action, Event, State};
 
 // What a cell of table 7-8 asks in a state: its actions in their order, five, filled up with Ignore, and the next state.
@@ -55,4 +55,14 @@ pub fn cell(event: Event, state: State) -> CellAsked
     ensures { result ≡ asked_by (cell78 (table78 event) state) state }
 {
     cell_in(ROWS, event, state)
+}
+
+// The cell of the event with a number; a number that is no event's asks nothing and keeps the state.
+pub fn cell_numbered(number: u8, state: State) -> CellAsked
+    ensures { result ≡ cell_if (as_code (event_of number)) state }
+{
+    match Event::numbered(number) {
+        Some(event) => cell(event, state),
+        None => asked(NOT_APPLICABLE, state),
+    }
 }

@@ -18,7 +18,7 @@ pub struct TableCell {
 }
 
 // "Not Applicable".
-const NOT_APPLICABLE: TableCell = TableCell {
+pub const NOT_APPLICABLE: TableCell = TableCell {
     actions: (Ignore, Ignore, Ignore, Ignore, Ignore),
     next: None,
 };
