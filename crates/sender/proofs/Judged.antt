@@ -4,9 +4,10 @@ use mathlib.Core.Bool.{Bool, true, false}
 use mathlib.Core.List.{List}
 use Prim.Native.Nat.{ℕ}
 use native.Mathlib.Omega.{arith}
+use borrow.Author.Tests.{eq-eqb}
 use lib.ListN.{length}
 use lib.Dec.{leb, eqb}
-use Rattle.base.specs.Choice.{pick, must}
+use Rattle.base.specs.Choice.{pick, must, both}
 use Rattle.base.specs.Outcome.{Outcome, answer, after}
 use Rattle.base.specs.Limits.{largest_unit}
 use Rattle.base.proofs.Tests.{yes, no}
@@ -19,6 +20,8 @@ use Rattle.clcw.specs.declared.ReceivedWord.{ReceivedWord}
 use Rattle.fop.specs.declared.Event.{Event as FopEvent}
 use Rattle.fop.specs.declared.Event.TheVariants.{E1, E2, E3, E4, E5, E6, E7, E8, E9, E10, E11, E12, E13, E14, E15, E16, E17, E18, E19, E20, E21, E22, E23, E24, E25, E26, E27, E28, E29, E30, E31, E32, E33, E34, E35, E36, E37, E38, E39, E40, E41, E42, E43, E44, E45, E46, E101, E102, E103, E104}
 use Rattle.fop.specs.Table.{event_number}
+use Rattle.fop.specs.Effective.{in_service}
+use Rattle.fop.specs.declared.State.{State}
 use Rattle.fop.specs.Events.{lower_event}
 use Rattle.sender_values.specs.declared.SenderState.{SenderState}
 use Rattle.sender_values.specs.declared.Work.{Work}
@@ -213,6 +216,10 @@ unfolding bypassed_by row_if
 bd_row s o store output {w = w} p q r m =
     same_step (sym (ap₂ (λ (k : FopEvent) (v : Work). bypassed_by k s v o store output) p (r ∙ ap₂ (λ (k : FopEvent) (v : Work). row_of k 0 v) p q)))
     (m.0, (stored_same (answer (handing s w o output)) store, m.1))
+
+-- the event and the state pick whether the unit is added
+pub adds_told : (event : FopEvent) (s : SenderState) {k : State} → event_number event ≡ 19 → s.state ≡ k → in_service k ≡ added event s
+adds_told event s p q = sym (ap (λ (b : Bool). both b (in_service s.state)) (eq-eqb (event_number event) 19 p) ∙ ap in_service q)
 
 -- an AD request: the unit offered goes into the store where the frame is written and the unit is added
 module _ (event : FopEvent) (s : SenderState) (w : Work) (o store output : List ℕ) (x : Written) {out ls : List ℕ} {a : Answer}

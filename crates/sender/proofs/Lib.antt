@@ -1,3 +1,4 @@
 pub mod Steps
 pub mod Starts
 pub mod Judged
+pub mod Timer
