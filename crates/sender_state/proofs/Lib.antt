@@ -1,2 +1,3 @@
+pub mod Initial
 pub mod Kept
 pub mod Suspended
