@@ -4,19 +4,19 @@ use mathlib.Core.List.{List, [], ◌∷◌, ◌++◌, append_assoc, append-nil}
 use Prim.Native.Nat.{ℕ, ◌+◌, ◌-◌, ◌*◌, ◌<◌, ◌≤◌}
 use native.Mathlib.Numerals.{add-one}
 use native.Mathlib.Omega.{arith}
-use borrow.Author.Tests.{le-leb, eq-eqb, ne_eqb}
+use borrow.Author.Tests.{le-leb, lt-leb, eq-eqb, ne_eqb}
 use lib.ListN.{length, take, drop, get_or, length-append, length-drop, drop_of_length-le}
 use lib.Seq.{take-suc, take_all, take_at, drop_at, drop-drop}
 use Rattle.std.specs.Prelude.{Result, Ok, Err}
 use Rattle.base.specs.declared.Refusal.{Refusal}
-use Rattle.base.specs.Outcome.{Outcome.done, answer, after, count_of}
+use Rattle.base.specs.Outcome.{Outcome.done, Outcome.refused, answer, after, count_of}
 use Rattle.base.specs.Refusals.{written_answer}
 use Rattle.base.proofs.Lists.{rest}
 use Rattle.text.specs.Answers.{written}
 use Rattle.text.proofs.Outcomes.{told_ok, written_done}
 use Rattle.program_rows.specs.Rows.{text_of}
 use Rattle.program_rows.specs.Rows.{row_room}
-use Rattle.program_console.specs.Feed.{Progress, end_of, octet_next, octet_text, chunk_next, chunk_text, last_text, feeding}
+use Rattle.program_console.specs.Feed.{Progress, end_of, octet_next, octet_text, chunk_next, chunk_text, last_text, feeding, fed_next}
 
 -- octets behind octets
 pub next_append : (p : Progress) (xs ys : List ℕ) → chunk_next p (xs ++ ys) ≡ chunk_next (chunk_next p xs) ys
@@ -106,6 +106,18 @@ module _ (p : Progress) (chunk : List ℕ) (room : ℕ) where
   pub fed_done : length chunk * row_room ≤ room → feeding p chunk room ≡ done (chunk_text p chunk) tt
   unfolding feeding
   fed_done h = rw (le-leb (length chunk * row_room) room h)
+
+  pub fed_next_lem : length chunk * row_room ≤ room → fed_next p chunk room ≡ chunk_next p chunk
+  unfolding fed_next
+  fed_next_lem h = rw (le-leb (length chunk * row_room) room h)
+
+  pub fed_short : room < length chunk * row_room → feeding p chunk room ≡ refused 11 0
+  unfolding feeding
+  fed_short h = rw (lt-leb (length chunk * row_room) room h)
+
+  pub fed_same : room < length chunk * row_room → fed_next p chunk room ≡ p
+  unfolding fed_next
+  fed_same h = rw (lt-leb (length chunk * row_room) room h)
 
 -- the end of the input
 pub last_none : (p : Progress) → length p.line ≡ 0 → last_text p ≡ []
