@@ -1,4 +1,5 @@
 pub mod Kept
+pub mod Judged
 pub mod Restored
 pub mod Facts
 pub mod Examples
