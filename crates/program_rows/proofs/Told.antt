@@ -1,7 +1,8 @@
 -- An event's name, and a row field by field.
-use mathlib.Core.Path.{◌≡◌, refl}
+use mathlib.Core.Path.{◌≡◌, refl, sym, ap, ◌∙◌}
 use mathlib.Core.List.{List, [], ◌∷◌, ◌++◌, append_assoc}
-use Prim.Native.Nat.{ℕ}
+use Prim.Native.Nat.{ℕ, ◌≤◌}
+use native.Mathlib.Omega.{arith}
 use Rattle.text.specs.Decimal.{decimal, digits_below}
 use Rattle.text.specs.Fields.{tab, newline}
 use Rattle.farm.specs.Table.{event_number}
@@ -23,6 +24,23 @@ event_named E8 = refl
 event_named E9 = refl
 event_named E10 = refl
 event_named E11 = refl
+
+-- and its number is one of the eleven
+pub event_few : (e : Event) → event_number e ≤ 11
+event_few E1 = omega arith
+event_few E2 = omega arith
+event_few E3 = omega arith
+event_few E4 = omega arith
+event_few E5 = omega arith
+event_few E6 = omega arith
+event_few E7 = omega arith
+event_few E8 = omega arith
+event_few E9 = omega arith
+event_few E10 = omega arith
+event_few E11 = omega arith
+
+pub event_told : (e : Event) {r : ℕ} → r ≡ event_number e → (event_text e ≡ 0x45 ∷ decimal r) × (r ≤ 11)
+event_told e p = (event_named e ∙ ap (λ (x : ℕ). 0x45 ∷ decimal x) (sym p), omega (arith, event_few e))
 
 -- a row put together part by part is its fields joined
 pub row_joined : (number state vr counter : List ℕ) (lockout wait retransmit : ℕ)
