@@ -4,12 +4,12 @@ use mathlib.Core.Path.{◌≡◌, refl, sym, ap, ◌∙◌}
 use mathlib.Core.Bool.{Bool, true, false}
 use mathlib.Core.List.{List, [], ◌∷◌, ◌++◌}
 use mathlib.Core.Logic.{◌⊎◌, ⊎_elim}
-use Prim.Native.Nat.{ℕ, zero, suc, ◌+◌, ◌-◌, ◌<◌, ◌≤◌}
+use Prim.Native.Nat.{ℕ, zero, suc, ◌+◌, ◌-◌, ◌/◌, ◌<◌, ◌≤◌}
 use native.Mathlib.Omega.{arith}
 use borrow.Author.Tests.{leb-true, leb-false}
 use lib.Dec.{leb}
-use lib.ListN.{length, take, drop, get_or, set, length-drop, length-take}
-use lib.Seq.{length-take-le, get_or-set_same, get_or-set_other, get_or-drop, get_or-take}
+use lib.ListN.{length, take, drop, get_or, set, length-drop, length-take, drop_of_length-le}
+use lib.Seq.{length-take-le, take-nil, get_or-set_same, get_or-set_other, get_or-drop, get_or-take}
 use Rattle.base.specs.Limits.{largest_unit}
 use Rattle.memory.proofs.Parts.{placed_length, placed_there, placed_before, placed_after}
 use Rattle.store.specs.Slid.{slid}
@@ -23,6 +23,12 @@ Short lengths = (i : ℕ) → get_or lengths i 0 ≤ largest_unit
 -- a unit is no longer than its length
 unit_length : (lengths : List ℕ) (place : ℕ) (store : List ℕ) → length (unit_at lengths place store) ≤ get_or lengths place 0
 unit_length lengths place store = omega (arith, length-take (get_or lengths place 0) (drop (place_offset place) store))
+
+-- a place behind the end of the store has no unit
+pub no_unit_lem : (lengths : List ℕ) (place : ℕ) (store : List ℕ) → length store / largest_unit < place → [] ≡ unit_at lengths place store
+no_unit_lem lengths place store h =
+    let b : length store ≤ place_offset place = omega arith in
+    sym (ap (take (get_or lengths place 0)) (drop_of_length-le store {i = place_offset place} b) ∙ take-nil (get_or lengths place 0))
 
 -- A unit put.
 module _ (lengths store unit : List ℕ) (place : ℕ) where
