@@ -1,16 +1,17 @@
 -- What memory holds after octets were placed into it: them at their place, before and behind them what was there; and octets placed where they
--- stand change nothing. Each is said of any octets; where they do not fit the memory is as it was.
+-- stand change nothing. Each is said of any octets; where they do not fit the memory is as it was. And parts that fit one behind the other are
+-- placed as one.
 use mathlib.Core.Path.{◌≡◌, refl, sym, ap, ap₂, subst, ◌∙◌}
 use mathlib.Core.Bool.{Bool, true, false}
-use mathlib.Core.List.{List, [], ◌++◌, append_assoc}
-use Prim.Native.Nat.{ℕ, ◌+◌, ◌-◌, ◌≤◌}
+use mathlib.Core.List.{List, [], ◌∷◌, ◌++◌, append_assoc}
+use Prim.Native.Nat.{ℕ, suc, ◌+◌, ◌-◌, ◌<◌, ◌≤◌}
 use native.Mathlib.Omega.{arith}
 use borrow.Author.Tests.{leb-true, leb-false}
 use lib.Dec.{leb}
-use lib.ListN.{length, take, drop, length-append, length-take, length-drop, take-append-drop}
-use lib.Seq.{take-length, take-take, take-add, take-append-le, drop-append-le, drop-append-add, take-append_seam, drop-append_seam, drop-drop, length-take-le}
+use lib.ListN.{length, take, drop, get_or, set, length-append, length-take, length-drop, take-append-drop}
+use lib.Seq.{take-length, take-take, take-add, take-append-le, drop-append-le, drop-append-add, take-append_seam, drop-append_seam, drop-drop, drop-cons, set_at, length-take-le}
 use Rattle.memory.specs.Placed.{placed}
-use Rattle.memory.proofs.Laws.{placed_fits, placed_not}
+use Rattle.memory.proofs.Laws.{placed_fits, placed_not, placed_behind}
 
 -- a fact of the memory after it, by whether the octets fit
 by_fit : (P : List ℕ → Type 0) (memory : List ℕ) (place : ℕ) (octets : List ℕ) → (place + length octets ≤ length memory → P (placed memory place octets))
@@ -108,3 +109,33 @@ placed_own memory place m =
 -- no octets placed
 pub placed_none : (memory : List ℕ) (place : ℕ) → placed memory place [] ≡ memory
 placed_none memory place = placed_own memory place 0
+
+-- parts placed one behind the other, where they fit
+module _ (row : List ℕ) (at : ℕ) where
+  module _ (d : List ℕ) (h : at + length d ≤ length row) where
+    pub length_front : length (take at row ++ d) ≡ at + length d
+    length_front = length-append (take at row) d ∙ ap (λ (k : ℕ). k + length d) (length-take-le at row (omega arith))
+
+    -- octets behind octets
+    pub placed_on : (e : List ℕ) → at + length d + length e ≤ length row → placed (placed row at d) (at + length d) e ≡ placed row at (d ++ e)
+    placed_on e k =
+        let m : placed row at d ≡ take at row ++ d ++ drop (length (take at row ++ d)) row =
+        placed_fits row at d h ∙ ap (λ (i : ℕ). take at row ++ d ++ drop i row) (sym length_front) in
+        let a : length (d ++ e) ≡ length d + length e = length-append d e in
+        let b : length (take at row ++ d ++ e) ≡ at + length (d ++ e) = length-append (take at row ++ d) e ∙ omega (arith, length_front) in
+        placed_behind row (take at row ++ d) e (placed row at d) (at + length d) m (sym length_front) k
+        ∙ ap₂ (λ (s : List ℕ) (i : ℕ). s ++ drop i row) (append_assoc (take at row) d e) b
+        ∙ sym (placed_fits row at (d ++ e) (omega arith))
+
+    -- one octet more behind them
+    pub placed_octet : (x : ℕ) → at + length d < length row → set (placed row at d) (at + length d) x ≡ placed row at (d ++ (x ∷ []))
+    placed_octet x k =
+        let front = take at row ++ d in
+        let behind = drop (suc (at + length d)) row in
+        let a : length (d ++ (x ∷ [])) ≡ length d + 1 = length-append d (x ∷ []) in
+        let b : suc (at + length d) ≡ at + length (d ++ (x ∷ [])) = omega arith in
+        ap (λ (t : List ℕ). set t (at + length d) x) (placed_fits row at d h ∙ ap (λ (t : List ℕ). front ++ t) (drop-cons row (at + length d) 0 k))
+        ∙ set_at front (get_or row (at + length d) 0) behind x (at + length d) length_front
+        ∙ sym (append_assoc front (x ∷ []) behind)
+        ∙ ap₂ (λ (s : List ℕ) (i : ℕ). s ++ drop i row) (append_assoc (take at row) d (x ∷ [])) b
+        ∙ sym (placed_fits row at (d ++ (x ∷ [])) (omega arith))
