@@ -54,6 +54,7 @@ fn empty_sent_queue(mut work: Work) -> Work
 }
 
 // A type-BC frame purged gives the Negative Confirm of its directive.
+#[tactic(auto, using(crate::proofs::Ways::deny_none, crate::proofs::Ways::deny_some))]
 fn deny_control(work: Work, control: Option<Control>) -> Work
     ensures { result ≡ deny_control control work }
 {
