@@ -3,4 +3,4 @@ pub mod Test
 pub mod Ways
 pub mod Lent
 pub mod Trace
-mod Numbers
+mod Numbered

@@ -4,7 +4,7 @@ use Prim.Native.Nat.{◌-◌}
 use native.Mathlib.Omega.{arith}
 use Rattle.base.proofs.Tests.{tests}
 use Rattle.fop.specs.Table.{place_numbered}
-use Rattle.fop.proofs.Numbers.{some_at, none_at}
+use Rattle.fop.proofs.Numbered.{some_at, none_at}
 use Rattle.fop.proofs.Event.numbered.Goals as goal
 
 pub returns-in-1-to-46 : goal.returns-in-1-to-46
