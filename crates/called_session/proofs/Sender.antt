@@ -2,13 +2,11 @@
 -- into octets (`call_is`); the octets of the next state and of the answer tell what the step has (`after_is`, `answer_is`); so what crate our_session
 -- proves of the step holds of the call, whatever store is lent (`next_any`, `answers_any`; `state_well`: of all octets that are a state).
 -- What the lent output and the answer's buffer held is not looked at (`output_free`, `answer_buffer_free`).
-use Rattle.std.specs.Prelude as code
-use Rattle.std.specs.Prelude.{Some, None, Result, Ok}
+use Rattle.std.specs.Prelude.{Result, Ok}
 use Prim.Native.Nat.{ℕ, ◌+◌, ◌<◌}
 use mathlib.Core.Path.{◌≡◌, refl, sym, ap, subst, ◌∙◌}
 use mathlib.Core.Bool.{Bool, true, false}
 use mathlib.Core.List.{List, ◌++◌, append-nil}
-use mathlib.Core.Option.{Option}
 use native.Mathlib.Omega.{arith}
 use borrow.Author.Tests.{le-leb}
 use lib.Dec.{leb}
@@ -26,8 +24,6 @@ use Rattle.sender_values.specs.declared.SenderState.{SenderState}
 use Rattle.store.specs.Places.{places}
 use Rattle.sender_values.specs.Start.{begun}
 use Rattle.sender_view.specs.View.{responses_of}
-use Rattle.fop.specs.Table.{event_of}
-use Rattle.fop.specs.declared.Event.{Event as FopEvent}
 use Rattle.fop.specs.declared.Lower.{Lower}
 use Rattle.sender_rows_view.specs.State.{Good}
 use Rattle.sender_frames.specs.Limits.{need_of}
@@ -39,7 +35,7 @@ use Rattle.sender.specs.Start.{restored_of}
 use Rattle.sender.specs.Answers.{Step, refused_step}
 use Rattle.sender.specs.Events.{request_ad_of, request_bd_of, directive_of, tick_of, lower_layer_of, control_word_of}
 use Rattle.sender_octets.specs.Kept.{number_octets, state_octets, octets_of, state_in, is_state, sender_in}
-use Rattle.sender_octets.specs.Answer.{answer_octets, number_if, octets_of_answer, Told, told_by, answer_in}
+use Rattle.sender_octets.specs.Answer.{answer_octets, octets_of_answer, Told, told_by, answer_in}
 use Rattle.sender_octets.proofs.Pairs.{length_from}
 use Rattle.sender_octets.proofs.Judged.{length_octets}
 use Rattle.sender_octets.proofs.Back.{Sized, read_back, octets_back, state_only}
@@ -49,7 +45,6 @@ use Rattle.our_session.specs.Ours.{Held, step_of, held_after, event_told, handed
 use Rattle.session.specs.Ends.{Brought}
 use Rattle.fop.specs.Store as judged
 use Rattle.our_session.specs.Does.{Does, Well}
-use Rattle.our_session.proofs.Numbers.{number_event}
 use Rattle.our_session.proofs.Theorem.{demand2_ours, keeps_good, session_next, session_answer}
 use Rattle.our_session.proofs.Widened.{good_well, well_good}
 use Rattle.our_session.proofs.Output.{output_content_free}
@@ -70,12 +65,6 @@ placed_whole memory octets e =
 pub reached : (o : List ℕ) → is_state o ≡ true → sender_in o ≡ Ok (record { fop = state_in o })
 unfolding sender_in is_state restored_of
 reached o e = yes _ _ _ e ∙ yes _ _ _ (both_right (same o (octets_of (state_in o))) (well_formed (state_in o)) e)
-
--- an event by its number
-event_back : (e : code.Option FopEvent) → event_of (number_if e) ≡ event_told e
-unfolding event_of
-event_back None = refl
-event_back (Some e) = number_event e
 
 -- a call by its event
 module _ (x : Kept) (is : is_state x.state ≡ true) (output : List ℕ) where
@@ -160,9 +149,9 @@ module _ (x : Kept) (is : is_state x.state ≡ true) (output : List ℕ) where
   unfolding answer_called
   answer_is e =
       let y : Step = step_of e output (held_in x) in
-      let told : Option FopEvent → Told → Answer = λ event t. record {
+      let told : Told → Answer = λ t. record {
         refusal = y.answer.refusal;
-        event = event;
+        event = event_told t.event;
         state = t.state;
         down = handed_down t.down y.output;
         abort = t.abort;
@@ -172,8 +161,7 @@ module _ (x : Kept) (is : is_state x.state ≡ true) (output : List ℕ) where
         confirmed = t.confirmed;
         denied = t.denied;
       } in
-      ap answer_called (call_is e) ∙ ap (λ (t : Told). told (event_of t.event) t) (told_is y.answer (fits s x.store output y (way e)))
-      ∙ ap (λ (event : Option FopEvent). told event (told_by y.answer)) (event_back y.answer.event)
+      ap answer_called (call_is e) ∙ ap told (told_is y.answer (fits s x.store output y (way e)))
 
 -- nor is what the output held
 pub output_free : (x : Kept) → is_state x.state ≡ true → (e : SenderEvent) (a b : List ℕ) → length a ≡ length b

@@ -9,7 +9,6 @@ use Rattle.fop.specs.Events.{SenderEvent, request_ad, request_bd, tick, lower, d
 use Rattle.fop.specs.declared.Lower.{Lower}
 use Rattle.fop.specs.Answers.{Answer}
 use Rattle.sender_view.specs.View.{responses_of}
-use Rattle.fop.specs.Table.{event_of}
 use Rattle.receiver_octets.specs.Kept.{octets_of as receiver_octets}
 use Rattle.session.specs.Receiver.{ReceiverEvent, frame_arrives, release_buffer, ReceiverAnswer, WordAnswer}
 pub use Rattle.session.specs.Receiver.{event_numbered}
@@ -19,7 +18,7 @@ use Rattle.sender_octets.specs.Kept.{is_state, state_in}
 use Rattle.sender_octets.specs.Answer.{answer_octets, answer_in}
 use Rattle.pondreszi_sender.specs.Senders.{Called, called_by, request_ad_call, request_bd_call, tick_call, word_call, lower_call, directive_call}
 use Rattle.pondreszi_receiver.specs.Receivers as receiver
-use Rattle.our_session.specs.Ours.{Held, Begins, handed_down, lent_output}
+use Rattle.our_session.specs.Ours.{Held, Begins, event_told, handed_down, lent_output}
 
 -- what a caller keeps of a sender: the octets of its state, and its store
 pub record Kept : Type 0 where
@@ -62,7 +61,7 @@ kept_after called = record { state = called.state; store = called.store }
 unfoldable pub answer_called : Called → Answer
 answer_called called = record {
   refusal = called.number;
-  event = event_of (answer_in called.answer).event;
+  event = event_told (answer_in called.answer).event;
   state = (answer_in called.answer).state;
   down = handed_down (answer_in called.answer).down called.output;
   abort = (answer_in called.answer).abort;

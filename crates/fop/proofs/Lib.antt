@@ -1,4 +1,5 @@
 pub mod Choices
+pub mod Numbers
 pub mod Test
 pub mod Ways
 pub mod Lent

@@ -1,4 +1,3 @@
-pub mod Numbers
 pub mod Meets
 pub mod Bypass
 pub mod Writing

@@ -1,7 +1,7 @@
 -- The octets of an answer lose nothing: what they tell is what the answer tells (`answer_back`). Each number has its inverse, and the frame
 -- handed down is never larger than the two octets of its length can tell (`down_fits`).
 use Rattle.std.specs.Prelude.{Option, None, Some}
-use mathlib.Core.Path.{◌≡◌, refl}
+use mathlib.Core.Path.{◌≡◌, refl, ap}
 use mathlib.Core.Bool.{Bool, true, false}
 use mathlib.Core.List.{List, [], ◌∷◌}
 use Prim.Native.Nat.{ℕ, ◌+◌, ◌*◌, ◌/◌, ◌%◌, ◌≤◌}
@@ -17,9 +17,11 @@ use Rattle.base.specs.Outcome as outcome
 use Rattle.frame.specs.Frame.{raw_frame, raw_writing, unlock_command, set_vr_command}
 use Rattle.frame.proofs.Lengths.{length_frame}
 use Rattle.sender_values.specs.Limits.{largest_responses}
+use Rattle.fop.specs.Table.{event_of}
 use Rattle.fop.specs.declared.Event.{Event as FopEvent}
 use Rattle.fop.specs.declared.Alert.{Alert}
 use Rattle.fop.specs.declared.Alert.TheVariants as alert
+use Rattle.fop.proofs.Numbers.{number_event}
 use Rattle.sender_values.specs.declared.Handed.{Handed}
 use Rattle.sender_values.specs.declared.Handed.TheVariants as handed
 use Rattle.sender_values.specs.declared.SenderState.{SenderState}
@@ -30,7 +32,7 @@ use Rattle.sender_frames.specs.Frames.{handed_writing}
 use Rattle.sender.specs.declared.Answer.{Answer}
 use Rattle.sender.specs.declared.FrameKind.{FrameKind}
 use Rattle.sender.specs.declared.FrameKind.TheVariants as kind
-use Rattle.sender_octets.specs.Answer.{alert_number, alert_numbered, kind_number, kind_numbered, octets_of_answer, told_by, answer_in}
+use Rattle.sender_octets.specs.Answer.{alert_number, alert_numbered, kind_number, kind_numbered, number_if, event_if, event_numbered, octets_of_answer, told_by, answer_in}
 use Rattle.sender_octets.proofs.Back.{state_back}
 
 -- what the answer's struct and the frame's limit see to: four responses, and a frame of largest_frame octets at the most. That the other numbers
@@ -57,6 +59,11 @@ kind_back (Some kind.Bd) = refl
 kind_back (Some kind.Unlock) = refl
 kind_back (Some kind.SetVr) = refl
 
+event_back : (x : Option FopEvent) → event_numbered (number_if x) ≡ x
+unfolding event_of
+event_back None = refl
+event_back (Some e) = ap event_if (number_event e)
+
 bit_back : (b : Bool) → is_set (bit_of b) 1 ≡ b
 bit_back true = refl
 bit_back false = refl
@@ -77,6 +84,7 @@ pub answer_back : (a : Answer) → Fits a → answer_in (octets_of_answer a) ≡
 unfolding octets_of_answer answer_in
 answer_back a h =
     simp (
+      event_back a.event,
       state_back a.state,
       down_back a.down h.down,
       bit_back a.abort,

@@ -8,13 +8,14 @@
 -- a directive. The alerts: 1 synch, 2 CLCW, 3 limit, 4 NN(R), 5 lockout, 6 T1, 7 term, 8 LLIF; 0 none.
 -- The kinds: 1 AD, 2 BD, 3 Unlock, 4 Set V(R); 0 none.
 use Rattle.std.specs.Prelude.{ℕ, ◌/◌, ◌%◌, Bool, List, [], ◌∷◌, Option, None, Some, eqb, take, drop, get_or}
+use Rattle.std.proofs.Math.Option as maybe
 use Rattle.base.specs.Choice.{pick}
 use Rattle.base.specs.Flags.{bit_of, is_set}
 use Rattle.sender_values.specs.Limits.{largest_responses}
 use Rattle.fop.specs.declared.Alert.{Alert}
 use Rattle.fop.specs.declared.Alert.TheVariants as alert
 use Rattle.fop.specs.declared.Event.{Event as FopEvent}
-use Rattle.fop.specs.Table.{event_number}
+use Rattle.fop.specs.Table.{event_number, event_of}
 use Rattle.sender_values.specs.declared.Responses.{Responses}
 use Rattle.fop.specs.declared.Run.{Run}
 use Rattle.fop.specs.declared.State.{State as FopState}
@@ -67,6 +68,15 @@ abbrev pub number_if : Option FopEvent → ℕ
 number_if None = 0
 number_if (Some e) = event_number e
 
+-- the table's event as the code has it
+abbrev pub event_if : maybe.Option FopEvent → Option FopEvent
+event_if maybe.none = None
+event_if (maybe.some e) = Some e
+
+-- and back; any other number as none
+abbrev pub event_numbered : ℕ → Option FopEvent
+event_numbered n = event_if (event_of n)
+
 -- an answer as octets
 unfoldable pub octets_of_answer : Answer → List ℕ
 octets_of_answer a =
@@ -77,7 +87,7 @@ octets_of_answer a =
 -- document 01, "Each event's answer gives ..": all that an answer tells; the next state's own octets are another buffer's (specs/Kept)
 pub record Told : Type 0 where
   pub refusal : ℕ
-  pub event : ℕ
+  pub event : Option FopEvent
   pub state : FopState
   pub down : ℕ
   pub abort : Bool
@@ -92,7 +102,7 @@ pub record Told : Type 0 where
 abbrev pub told_by : Answer → Told
 told_by a = record {
   refusal = a.refusal;
-  event = number_if a.event;
+  event = a.event;
   state = a.state;
   down = a.down;
   abort = a.abort;
@@ -108,7 +118,7 @@ told_by a = record {
 unfoldable pub answer_in : List ℕ → Told
 answer_in o = record {
   refusal = get_or o 0 0;
-  event = get_or o 1 0;
+  event = event_numbered (get_or o 1 0);
   state = state_numbered (get_or o 2 0);
   down = pair_at o 3;
   abort = is_set (get_or o 5 0) 1;
