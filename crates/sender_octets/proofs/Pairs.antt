@@ -1,11 +1,11 @@
 -- Numbers as two octets each: at each place, and read back.
 use mathlib.Core.Path.{◌≡◌, refl, sym, ap, ap₂, ◌∙◌}
 use mathlib.Core.List.{List, [], ◌∷◌, ◌++◌, append-nil}
-use Prim.Native.Nat.{ℕ, zero, suc, ◌+◌, ◌*◌, ◌/◌, ◌%◌, ◌≤◌, ◌<◌}
+use Prim.Native.Nat.{ℕ, zero, suc, ◌+◌, ◌-◌, ◌*◌, ◌/◌, ◌%◌, ◌≤◌, ◌<◌}
 use native.Mathlib.Nat.{le_of_suc-le-suc, not-suc-le-zero}
 use native.Mathlib.Omega.{arith}
-use lib.ListN.{length, take, drop, get_or, set, length-append, drop_of_length-le}
-use lib.Seq.{take_all, get_or-drop, drop-drop, paste, paste-suc}
+use lib.ListN.{length, take, drop, get_or, set, length-append, get_or-append, drop_of_length-le}
+use lib.Seq.{take_all, get_or-append-add, get_or-drop, drop-drop, paste, paste-suc}
 use Rattle.base.specs.Octets.{Octets}
 use Rattle.base.proofs.Lists.{next, octets_at_lem}
 use Rattle.memory.specs.Placed.{placed}
@@ -30,6 +30,28 @@ odd (x ∷ s) (suc i) =
     let e : suc (2 * suc i) ≡ suc (suc (suc (2 * i))) = omega arith in
     ap (λ (n : ℕ). get_or (pairs (x ∷ s)) n 0) e ∙ odd s i
 
+-- the octet at a place: the first or the second of the number there
+module _ (s : List ℕ) (place r : ℕ) where
+  pub first_octet : place % 2 ≡ 0 → r ≡ get_or s (place / 2) 0 / 256 → r ≡ get_or (pairs s) place 0
+  first_octet h e =
+      let p : 2 * (place / 2) ≡ place = omega arith in
+      e ∙ sym (even s (place / 2)) ∙ ap (λ (n : ℕ). get_or (pairs s) n 0) p
+
+  pub second_octet : (place % 2 ≡ 0 → ⊥) → r ≡ get_or s (place / 2) 0 % 256 → r ≡ get_or (pairs s) place 0
+  second_octet h e =
+      let p : suc (2 * (place / 2)) ≡ place = omega arith in
+      e ∙ sym (odd s (place / 2)) ∙ ap (λ (n : ℕ). get_or (pairs s) n 0) p
+
+-- the octet at a place of the numbers joined to the lengths
+module _ (numbers lengths : List ℕ) (place : ℕ) where
+  pub octet_before : place < length numbers → get_or numbers place 0 ≡ get_or (numbers ++ pairs lengths) place 0
+  octet_before h = sym (get_or-append numbers (pairs lengths) 0 place h)
+
+  pub octet_behind : (n r : ℕ) → length numbers ≡ n → n ≤ place → r ≡ get_or (pairs lengths) (place - n) 0 → r ≡ get_or (numbers ++ pairs lengths) place 0
+  octet_behind n r l h e =
+      let p : length numbers + (place - n) ≡ place = omega arith in
+      e ∙ sym (get_or-append-add numbers (pairs lengths) (place - n) 0) ∙ ap (λ (k : ℕ). get_or (numbers ++ pairs lengths) k 0) p
+
 -- the two octets of one number more, stored behind a place
 module _ (m : List ℕ) (at : ℕ) (s : List ℕ) (i : ℕ) where
   pub two_stored : {o : List ℕ} {high low : ℕ} → o ≡ paste m at (pairs s) (2 * i) → high ≡ get_or s i 0 / 256 → low ≡ get_or s i 0 % 256 → i < length s
@@ -53,6 +75,9 @@ placed_joined m front behind h =
 -- a list filled to its end
 pub filled : (c d o : List ℕ) (i : ℕ) → o ≡ take i c ++ drop i d → length c ≤ i → length d ≤ i → o ≡ c
 filled c d o i e h k = e ∙ ap₂ ◌++◌ (take_all i c h) (drop_of_length-le d k) ∙ append-nil c
+
+pub length_joined : (numbers lengths : List ℕ) → length (numbers ++ pairs lengths) ≡ length numbers + 2 * length lengths
+length_joined numbers lengths = simp (length-append, length_pairs)
 
 -- numbers read from place i on
 pub length_from : (o : List ℕ) (i n : ℕ) → length (pairs_from o i n) ≡ n

@@ -9,7 +9,7 @@ ghost use Rattle.sender_octets.specs.Kept.{octets_of, sender_in};
 ghost use Rattle.sender_octets.specs.Answer.{alert_number, kind_number, number_if, octets_of_answer};
 
 use crate::reader::state_in;
-use crate::writer::{numbers_of, put_state, state_number};
+use crate::writer::{join, numbers_of, state_number};
 use base::Refusal;
 use fop::{Alert, Event};
 use sender::{Answer, FrameKind, Sender};
@@ -29,9 +29,7 @@ pub const ANSWER_OCTETS: usize = 18;
 pub fn octets_of(state: sender_values::SenderState) -> [u8; STATE_OCTETS]
     ensures { result ≡ octets_of state }
 {
-    let mut octets = [0u8; STATE_OCTETS];
-    put_state(&mut octets, state);
-    octets
+    join(numbers_of(state), state.lengths)
 }
 
 // A sender from octets; 12 where they are no state. Any two octets are those of a length, so that the numbers alone are compared.

@@ -122,6 +122,15 @@ fn put_parts(octets: &mut [u8], numbers: &[u8; NUMBER_OCTETS], lengths: &[u16; P
     put_lengths(octets, lengths);
 }
 
+// The numbers and flags, then the lengths.
+pub fn join(numbers: [u8; NUMBER_OCTETS], lengths: [u16; PLACES]) -> [u8; STATE_OCTETS]
+    ensures { result ≡ numbers ++ pairs lengths }
+{
+    let mut octets = [0u8; STATE_OCTETS];
+    put_parts(&mut octets, &numbers, &lengths);
+    octets
+}
+
 // Puts a state at the front of lent octets; changes nothing where it does not fit.
 pub fn put_state(octets: &mut [u8], state: SenderState)
     ensures { octets.new ≡ placed octets.old 0 (octets_of state) }
