@@ -1,14 +1,14 @@
 -- What writing comes to, by whether the room is enough.
 use mathlib.Core.Path.{◌≡◌, refl, sym, ap, ap₂, ◌∙◌}
 use mathlib.Core.List.{List}
-use Prim.Native.Nat.{ℕ, ◌≤◌}
+use Prim.Native.Nat.{ℕ, ◌<◌, ◌≤◌}
 use native.Mathlib.Omega.{arith}
-use borrow.Author.Tests.{le-leb}
+use borrow.Author.Tests.{le-leb, lt-leb}
 use lib.Seq.{take_at}
 use lib.ListN.{length, take, drop, length-append}
 use Rattle.std.specs.Prelude.{Result, Ok, Err, IsOkAnd}
 use Rattle.base.specs.declared.Refusal.{Refusal}
-use Rattle.base.specs.Outcome.{Outcome, Outcome.done, answer, after, number_of, count_of}
+use Rattle.base.specs.Outcome.{Outcome, Outcome.done, Outcome.refused, answer, after, number_of, count_of}
 use Rattle.base.specs.Refusals.{written_answer}
 use Rattle.base.proofs.Refusals.{some_number}
 use Rattle.text.specs.Answers.{written}
@@ -16,6 +16,10 @@ use Rattle.text.specs.Answers.{written}
 pub written_done : (text : List ℕ) (room : ℕ) → length text ≤ room → written text room ≡ done text tt
 unfolding written
 written_done text room h = simp (le-leb (length text) room h)
+
+pub written_short : (text : List ℕ) (room : ℕ) → room < length text → written text room ≡ refused 11 0
+unfolding written
+written_short text room h = simp (lt-leb (length text) room h)
 
 -- an outcome that is done is told as no refusal
 pub ok_done : (o : Outcome (Unit {0})) (octets : List ℕ) (w : Result ℕ Refusal) → written_answer w ≡ answer o → o ≡ done octets tt → w ≡ Ok (length octets)

@@ -1,10 +1,10 @@
 -- The definitions over what is left of a text from place i on, as a loop meets them.
-use mathlib.Core.Path.{◌≡◌, refl, sym, ap, ◌∙◌}
+use mathlib.Core.Path.{◌≡◌, refl, sym, ap, ap₂, ◌∙◌}
 use mathlib.Core.Bool.{Bool, true, false, cond, not}
 use mathlib.Core.Logic.{◌⊎◌, ⊎_elim}
 use mathlib.Core.List.{List}
 use Prim.Native.Nat.{ℕ, suc, ◌+◌, ◌-◌, ◌*◌, ◌<◌, ◌≤◌}
-use borrow.Author.Tests.{le-leb, lt-leb, ltb-false}
+use borrow.Author.Tests.{le-leb, lt-leb, eq-eqb, ne_eqb, ltb-false}
 use lib.ListN.{length, drop, get_or, drop_of_length-le}
 use native.Mathlib.Omega.{arith}
 use lib.Dec.{eqb, ltb}
@@ -14,11 +14,35 @@ use Rattle.std.specs.List.{position_or_len}
 use Rattle.std.proofs.lemmas.List.Recursion.{is_position_or_len}
 use Rattle.std.proofs.lemmas.List.Sums.{prefix_len-le-length}
 use Rattle.base.specs.Choice.{pick}
+use Rattle.base.specs.Octets.{same}
 use Rattle.base.proofs.Tests.{both_false}
 use Rattle.base.proofs.Lists.{next}
 use Rattle.text.specs.Decimal.{digit_zero, value_within}
 use Rattle.text.specs.Fields.{tab}
 use Rattle.text.specs.Cut.{cut_of}
+
+module _ (s : List ℕ) (i : ℕ) where
+  pub cut_here : i < length s → get_or s i 0 ≡ tab → cut_of (drop i s) ≡ 0
+  unfolding cut_of
+  cut_here h e = ap cut_of (next s i h) ∙ simp (eq-eqb (get_or s i 0) tab e)
+
+  pub cut_on : i < length s → (get_or s i 0 ≡ tab → ⊥) → cut_of (drop i s) ≡ suc (cut_of (drop (i + 1) s))
+  unfolding cut_of
+  cut_on h e = ap cut_of (next s i h) ∙ simp (ne_eqb (get_or s i 0) tab e)
+
+  pub cut_end : length s ≤ i → cut_of (drop i s) ≡ 0
+  unfolding cut_of
+  cut_end h = ap cut_of (drop_of_length-le s h)
+
+module _ (s t : List ℕ) (i : ℕ) where
+  pub same_on : i < length s → i < length t → get_or s i 0 ≡ get_or t i 0 → same (drop i s) (drop i t) ≡ same (drop (i + 1) s) (drop (i + 1) t)
+  same_on h k e = ap₂ same (next s i h) (next t i k) ∙ simp (eq-eqb (get_or s i 0) (get_or t i 0) e)
+
+  pub same_differ : i < length s → i < length t → (get_or s i 0 ≡ get_or t i 0 → ⊥) → same (drop i s) (drop i t) ≡ false
+  same_differ h k e = ap₂ same (next s i h) (next t i k) ∙ simp (ne_eqb (get_or s i 0) (get_or t i 0) e)
+
+  pub same_end : length s ≤ i → length t ≤ i → same (drop i s) (drop i t) ≡ true
+  same_end h k = ap₂ same (drop_of_length-le s h) (drop_of_length-le t k)
 
 -- the first tab as the library's search finds it
 cut_position : (s : List ℕ) → cut_of s ≡ position_or_len (λ c. eqb c tab) s
