@@ -5,12 +5,13 @@ use Prim.Native.Nat.{ℕ, zero, suc, ◌+◌, ◌-◌, ◌<◌, ◌≤◌}
 use native.Mathlib.Nat.{zero-add}
 use native.Mathlib.Numerals.{add-one}
 use native.Mathlib.Omega.{arith}
-use lib.ListN.{length, get_or, take, drop, length-drop, length-take}
+use lib.ListN.{length, get_or, take, drop, length-drop, length-take, take-append-drop}
 use lib.Seq.{paste, length-take-le, take-length, take-take}
 use Rattle.memory.specs.Placed.{placed}
 use Rattle.memory.proofs.Laws.{placed_fits}
 use Rattle.memory.proofs.Parts.{placed_own, placed_none}
 use Rattle.store.specs.Places.{place_offset, unit_at, unit_put, moved_down, without}
+use Rattle.store.proofs.Front.{placed_front}
 
 -- what `copy_within` leaves: the octets placed
 pub copied_within : (s : List ℕ) (from to count : ℕ) → to + count ≤ length s → from + count ≤ length s
@@ -20,6 +21,13 @@ copied_within s from to count h k =
     let l : length (take count (drop from s)) ≡ count = length-take-le count (drop from s) (rw (length-drop from s) (omega arith)) in
     ap (paste s to (drop from s)) n
     ∙ sym (placed_fits s to (take count (drop from s)) (omega arith) ∙ ap (λ (j : ℕ). take to s ++ take count (drop from s) ++ drop (to + j) s) l)
+
+-- octets placed in front of where they stand
+pub placed_down : (s octets : List ℕ) (from to : ℕ) → to + length octets ≤ from → from ≤ length s
+    → placed (take from s) to octets ++ drop from s ≡ placed s to octets
+placed_down s octets from to h k =
+    let l : length (take from s) ≡ from = length-take-le from s k in
+    sym (placed_front (take from s) (drop from s) to octets (omega (arith, l))) ∙ ap (λ (x : List ℕ). placed x to octets) (take-append-drop from s)
 
 -- a part that is cut where the list ends is as long as what is left of it
 part_own : (m : ℕ) (xs : List ℕ) → take (length (take m xs)) xs ≡ take m xs
