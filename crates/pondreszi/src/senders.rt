@@ -6,8 +6,7 @@ use base::Refusal;
 use pondreszi_numbers::narrow_u16;
 use pondreszi_sender::{event_call, lower_numbered, narrow_number, started};
 use sender::Event;
-use sender_octets::STATE_OCTETS;
-use sender_octets::writer::put_state;
+use sender_octets::{STATE_OCTETS, octets_of};
 
 // The last answer of the lower layer.
 const LAST_LOWER: u32 = 6;
@@ -152,11 +151,11 @@ pub extern "C" fn pondreszi_sender_new(
         store,
     );
     match start {
-        Ok(sender) if state.len() >= STATE_OCTETS => {
-            put_state(state, sender.state());
+        Ok(_) if state.len() < STATE_OCTETS => Refusal::Room.number(),
+        Ok(sender) => {
+            memory::put(state, 0, &octets_of(sender.state()));
             0
         }
-        Ok(_) => Refusal::Room.number(),
         Err(refusal) => refusal.number(),
     }
 }
