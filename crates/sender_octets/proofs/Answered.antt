@@ -17,7 +17,7 @@ use Rattle.base.specs.Outcome as outcome
 use Rattle.frame.specs.Frame.{raw_frame, raw_writing, unlock_command, set_vr_command}
 use Rattle.frame.proofs.Lengths.{length_frame}
 use Rattle.sender_values.specs.Limits.{largest_responses}
-use Rattle.fop.specs.Table.{event_of}
+use Rattle.fop.specs.Table.{event_of, as_code}
 use Rattle.fop.specs.declared.Event.{Event as FopEvent}
 use Rattle.fop.specs.declared.Alert.{Alert}
 use Rattle.fop.specs.declared.Alert.TheVariants as alert
@@ -32,7 +32,7 @@ use Rattle.sender_frames.specs.Frames.{handed_writing}
 use Rattle.sender.specs.declared.Answer.{Answer}
 use Rattle.sender.specs.declared.FrameKind.{FrameKind}
 use Rattle.sender.specs.declared.FrameKind.TheVariants as kind
-use Rattle.sender_octets.specs.Answer.{alert_number, alert_numbered, kind_number, kind_numbered, number_if, event_if, event_numbered, octets_of_answer, told_by, answer_in}
+use Rattle.sender_octets.specs.Answer.{alert_number, alert_numbered, kind_number, kind_numbered, number_if, event_numbered, octets_of_answer, told_by, answer_in}
 use Rattle.sender_octets.proofs.Back.{state_back}
 
 -- what the answer's struct and the frame's limit see to: four responses, and a frame of largest_frame octets at the most. That the other numbers
@@ -62,7 +62,7 @@ kind_back (Some kind.SetVr) = refl
 event_back : (x : Option FopEvent) → event_numbered (number_if x) ≡ x
 unfolding event_of
 event_back None = refl
-event_back (Some e) = ap event_if (number_event e)
+event_back (Some e) = ap as_code (number_event e)
 
 bit_back : (b : Bool) → is_set (bit_of b) 1 ≡ b
 bit_back true = refl

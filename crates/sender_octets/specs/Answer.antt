@@ -8,14 +8,13 @@
 -- a directive. The alerts: 1 synch, 2 CLCW, 3 limit, 4 NN(R), 5 lockout, 6 T1, 7 term, 8 LLIF; 0 none.
 -- The kinds: 1 AD, 2 BD, 3 Unlock, 4 Set V(R); 0 none.
 use Rattle.std.specs.Prelude.{ℕ, ◌/◌, ◌%◌, Bool, List, [], ◌∷◌, Option, None, Some, eqb, take, drop, get_or}
-use Rattle.std.proofs.Math.Option as maybe
 use Rattle.base.specs.Choice.{pick}
 use Rattle.base.specs.Flags.{bit_of, is_set}
 use Rattle.sender_values.specs.Limits.{largest_responses}
 use Rattle.fop.specs.declared.Alert.{Alert}
 use Rattle.fop.specs.declared.Alert.TheVariants as alert
 use Rattle.fop.specs.declared.Event.{Event as FopEvent}
-use Rattle.fop.specs.Table.{event_number, event_of}
+use Rattle.fop.specs.Table.{event_number, event_of, as_code}
 use Rattle.sender_values.specs.declared.Responses.{Responses}
 use Rattle.fop.specs.declared.Run.{Run}
 use Rattle.fop.specs.declared.State.{State as FopState}
@@ -68,14 +67,9 @@ abbrev pub number_if : Option FopEvent → ℕ
 number_if None = 0
 number_if (Some e) = event_number e
 
--- the table's event as the code has it
-abbrev pub event_if : maybe.Option FopEvent → Option FopEvent
-event_if maybe.none = None
-event_if (maybe.some e) = Some e
-
 -- and back; any other number as none
 abbrev pub event_numbered : ℕ → Option FopEvent
-event_numbered n = event_if (event_of n)
+event_numbered n = as_code (event_of n)
 
 -- an answer as octets
 unfoldable pub octets_of_answer : Answer → List ℕ
