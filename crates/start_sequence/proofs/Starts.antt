@@ -94,6 +94,11 @@ starts_by s i h hx hy =
     ∙ starts_wrong (get_or s i 0) (get_or s (i + 1) 0) (drop (suc (suc i)) s)
     ∙ ap (λ (n : ℕ). leb n 1) (sym (at_once (get_or s i 0) (get_or s (i + 1) 0) hx hy))
 
+-- and of octets from their front on
+pub starts_by_octets : (s : List ℕ) → 2 ≤ length s → get_or s 0 0 < 256 → get_or s 1 0 < 256
+    → starts s ≡ leb (ones (bit_xor (get_or s 0 0 * 0x100 + get_or s 1 0) 0xEB90)) 1
+starts_by_octets s h hx hy = starts_by s 0 (omega arith) hx hy
+
 -- less than two octets start nothing
 pub starts_short : (s : List ℕ) → length s < 2 → starts s ≡ false
 unfolding starts recognized octet_bits bits_of

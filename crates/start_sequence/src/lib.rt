@@ -5,6 +5,7 @@ ghost use Rattle.std.specs.Prelude.{◌≡◌, ◌<◌, ℕ, true, false, drop, 
 ghost use Rattle.start_sequence.specs.StartSequence.{starts, start_of};
 
 // Whether octets begin with a start sequence: its sixteen bits are compared at once, and those that differ are counted.
+#[tactic(auto, using(crate::proofs::Starts::starts_short, crate::proofs::Starts::starts_by_octets))]
 fn starts_with_it(octets: &[u8]) -> bool
     ensures { result ≡ starts octets.now }
 {
