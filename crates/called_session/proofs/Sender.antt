@@ -151,7 +151,7 @@ module _ (x : Kept) (is : is_state x.state ≡ true) (output : List ℕ) where
       let y : Step = step_of e output (held_in x) in
       let told : Told → Answer = λ t. record {
         refusal = y.answer.refusal;
-        event = event_told t.event;
+        event = event_told t.met;
         state = t.state;
         down = handed_down t.down y.output;
         abort = t.abort;

@@ -61,7 +61,7 @@ kept_after called = record { state = called.state; store = called.store }
 unfoldable pub answer_called : Called → Answer
 answer_called called = record {
   refusal = called.number;
-  event = event_told (answer_in called.answer).event;
+  event = event_told (answer_in called.answer).met;
   state = (answer_in called.answer).state;
   down = handed_down (answer_in called.answer).down called.output;
   abort = (answer_in called.answer).abort;

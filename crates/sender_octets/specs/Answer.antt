@@ -78,10 +78,12 @@ octets_of_answer a =
     ∷ a.responses.count ∷ get_or a.responses.numbers 0 0 ∷ get_or a.responses.numbers 1 0 ∷ get_or a.responses.numbers 2 0 ∷ get_or a.responses.numbers 3 0
     ∷ a.confirmed.number ∷ a.confirmed.count ∷ a.denied.number ∷ a.denied.count ∷ kind_number a.kind ∷ []
 
--- document 01, "Each event's answer gives ..": all that an answer tells; the next state's own octets are another buffer's (specs/Kept)
+-- document 01, "Each event's answer gives ..": all that an answer tells; the next state's own octets are another buffer's (specs/Kept). The event
+-- stands in it by its number, as the octet has it, and itself, `met`.
 pub record Told : Type 0 where
   pub refusal : ℕ
-  pub event : Option FopEvent
+  pub event : ℕ
+  pub met : Option FopEvent
   pub state : FopState
   pub down : ℕ
   pub abort : Bool
@@ -96,7 +98,8 @@ pub record Told : Type 0 where
 abbrev pub told_by : Answer → Told
 told_by a = record {
   refusal = a.refusal;
-  event = a.event;
+  event = number_if a.event;
+  met = a.event;
   state = a.state;
   down = a.down;
   abort = a.abort;
@@ -112,7 +115,8 @@ told_by a = record {
 unfoldable pub answer_in : List ℕ → Told
 answer_in o = record {
   refusal = get_or o 0 0;
-  event = event_numbered (get_or o 1 0);
+  event = get_or o 1 0;
+  met = event_numbered (get_or o 1 0);
   state = state_numbered (get_or o 2 0);
   down = pair_at o 3;
   abort = is_set (get_or o 5 0) 1;
