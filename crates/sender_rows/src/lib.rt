@@ -9,7 +9,7 @@ ghost use Rattle.sender_table.specs.Cells.{unless_suspended};
 
 use crate::actions::perform;
 use fop::{Action, Event};
-use sender_table::cell;
+use sender_table::filled_cell;
 use sender_values::Work;
 use sender_values::values::to_state;
 
@@ -41,7 +41,7 @@ pub fn row(work: Work, event: Option<Event>, value: u16) -> Work
         return work;
     };
     let chosen = unless_suspended(event, work.variables.suspend_state);
-    let asked = cell(chosen, work.state);
+    let asked = filled_cell(chosen, work.state);
     to_state(perform_all(work, &asked.actions, value), asked.next)
 }
 

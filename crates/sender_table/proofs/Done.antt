@@ -16,7 +16,7 @@ use Rattle.sender_values.specs.declared.Work.{Work}
 use Rattle.sender_values.specs.Actions.{to_state}
 use Rattle.sender_table.specs.declared.CellAsked.{CellAsked}
 use Rattle.sender_table.specs.Rows.{done, done_all, done_cell, row_of}
-use Rattle.sender_table.specs.Cells.{most_actions, filled_up, asked_by, place_of, unless_suspended}
+use Rattle.sender_table.specs.Cells.{Asked, most_actions, filled_up, asked_by, filled_by, place_of, unless_suspended}
 use Rattle.sender_table.proofs.Places.{event_there, place_below}
 use Rattle.sender_table.proofs.Cells.{six, of_six}
 
@@ -40,10 +40,10 @@ abbrev chosen : Bool → FopEvent → FopEvent
 chosen free e = pick (eqb (event_number e) 35) (pick free e E40) e
 
 -- what the row chosen asks, and what the event's own row asks
-abbrev by_chosen : Bool → FopEvent → State → CellAsked
+abbrev by_chosen : Bool → FopEvent → State → Asked
 by_chosen free e s = asked_by (cell78 (table78 (chosen free e)) s) s
 
-abbrev by_own : Bool → FopEvent → State → CellAsked
+abbrev by_own : Bool → FopEvent → State → Asked
 by_own free e s = asked_by (decided free (cell78 (table78 e) s)) s
 
 alike : (free : Bool) → map (λ e. six (by_chosen free e)) events ≡ map (λ e. six (by_own free e)) events
@@ -62,16 +62,16 @@ filled_done (suc k) [] n w = filled_done k [] n w
 filled_done (suc k) (a ∷ more) n w = filled_done k more n (done a n w)
 
 module _ (n : ℕ) (w : Work) where
-  abbrev pub asked_done : CellAsked → Work
+  abbrev pub asked_done : Asked → Work
   asked_done a = to_state a.next (done_all a.actions n w)
 
   -- a cell of the state that the work is in
   cell_done : (free : Bool) (c : Cell) → eqb w.variables.suspend_state 0 ≡ free → asked_done (asked_by (decided free c) w.state) ≡ done_cell c n w
-  unfolding asked_by done_cell done done_all to_state
+  unfolding asked_by done_cell done_all to_state
   cell_done free NotApplicable b = refl
-  cell_done free (cell acts t) b = ap (to_state t) (filled_done most_actions acts n w)
-  cell_done true (if_not_suspended acts others t) b = rw b (ap (to_state t) (filled_done most_actions acts n w))
-  cell_done false (if_not_suspended acts others t) b = rw b (ap (to_state t) (filled_done most_actions others n w))
+  cell_done free (cell acts t) b = refl
+  cell_done true (if_not_suspended acts others t) b = rw b refl
+  cell_done false (if_not_suspended acts others t) b = rw b refl
 
   -- the row chosen, done, is the event's row
   pub cell_row : (e : FopEvent) → asked_done (asked_by (cell78 (table78 (unless_suspended e w.variables.suspend_state)) w.state) w.state) ≡ row_of e n w
@@ -79,3 +79,13 @@ module _ (n : ℕ) (w : Work) where
   cell_row e =
       let free = eqb w.variables.suspend_state 0 in
       ap asked_done (chosen_asks free e w.state) ∙ cell_done free (cell78 (table78 e) w.state) refl
+
+  -- the same of five actions, filled up with Ignore
+  abbrev pub filled_asked_done : CellAsked → Work
+  filled_asked_done a = to_state a.next (done_all a.actions n w)
+
+  pub filled_row : (e : FopEvent) → filled_asked_done (filled_by (cell78 (table78 (unless_suspended e w.variables.suspend_state)) w.state) w.state) ≡ row_of e n w
+  unfolding filled_by
+  filled_row e =
+      let asked = asked_by (cell78 (table78 (unless_suspended e w.variables.suspend_state)) w.state) w.state in
+      ap (to_state asked.next) (filled_done most_actions asked.actions n w) ∙ cell_row e

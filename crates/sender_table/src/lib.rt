@@ -1,13 +1,16 @@
-// Table 7-8 as data, in the module `table`; that it is the standard's, cell by cell, is proofs/Cells.
+// Table 7-8 as data, in two forms that proofs/Cells holds to the standard, cell by cell: in the module `table` a cell's actions as the standard lists
+// them, in the module `filled` five actions and no address, which is what the sender reads.
 #![tactic(auto)]
 
+pub mod filled;
 pub mod table;
 
 ghost use Rattle.std.specs.Prelude.{◌≡◌};
 ghost use Rattle.fop.specs.Table.{event_of, as_code, table78, cell78};
-ghost use Rattle.sender_table.specs.Cells.{place_of, column_of, asked_in, asked_by, cell_if, Tells};
+ghost use Rattle.sender_table.specs.Cells.{place_of, column_of, asked_in, asked_by, filled_in, filled_by, cell_if, Tells, TellsFilled};
 
-use crate::table::{NOT_APPLICABLE, ROWS, TableCell};
+use crate::filled::{FilledCell, NOT_APPLICABLE};
+use crate::table::TableCell;
 use fop::{Action, Event, State};
 
 // What a cell of table 7-8 asks in a state: its actions in their order, five, filled up with Ignore, and the next state.
@@ -32,9 +35,24 @@ fn column(state: State) -> usize
     state as usize
 }
 
-// What a cell of the data asks in a state.
-fn asked(cell: TableCell, state: State) -> CellAsked
-    ensures { result ≡ asked_in cell state }
+// The cell of an event in a state, by rows that say what the table says; that the data's do is computed once, where they are passed.
+fn cell_in(rows: &[[TableCell; 6]; 50], event: Event, state: State) -> TableCell
+    requires { Tells rows.now }
+    ensures { asked_in result state ≡ asked_by (cell78 (table78 event) state) state }
+{
+    rows[place(event)][column(state)]
+}
+
+// The cell of an event in a state: "Not Applicable" has no action, "Ignore" has one.
+pub fn cell(event: Event, state: State) -> TableCell
+    ensures { asked_in result state ≡ asked_by (cell78 (table78 event) state) state }
+{
+    cell_in(table::ROWS, event, state)
+}
+
+// What a filled cell of the data asks in a state.
+fn asked(cell: FilledCell, state: State) -> CellAsked
+    ensures { result ≡ filled_in cell state }
 {
     let (first, second, third, fourth, fifth) = cell.actions;
     let actions = [first, second, third, fourth, fifth];
@@ -42,19 +60,19 @@ fn asked(cell: TableCell, state: State) -> CellAsked
     CellAsked { actions, next }
 }
 
-// The cell of an event in a state, by rows that say what the table says; that the data's do is computed once, where they are passed.
-fn cell_in(rows: &[[TableCell; 6]; 50], event: Event, state: State) -> CellAsked
-    requires { Tells rows.now }
-    ensures { result ≡ asked_by (cell78 (table78 event) state) state }
+// The filled cell of an event in a state, by rows that say what the table says, as for `cell_in`.
+fn filled_cell_in(rows: &[[FilledCell; 6]; 50], event: Event, state: State) -> CellAsked
+    requires { TellsFilled rows.now }
+    ensures { result ≡ filled_by (cell78 (table78 event) state) state }
 {
     asked(rows[place(event)][column(state)], state)
 }
 
-// The cell of an event in a state.
-pub fn cell(event: Event, state: State) -> CellAsked
-    ensures { result ≡ asked_by (cell78 (table78 event) state) state }
+// What the cell of an event asks in a state, filled up to five actions.
+pub fn filled_cell(event: Event, state: State) -> CellAsked
+    ensures { result ≡ filled_by (cell78 (table78 event) state) state }
 {
-    cell_in(ROWS, event, state)
+    filled_cell_in(filled::ROWS, event, state)
 }
 
 // The cell of the event with a number; a number that is no event's asks nothing and keeps the state.
@@ -62,7 +80,70 @@ pub fn cell_numbered(number: u8, state: State) -> CellAsked
     ensures { result ≡ cell_if (as_code (event_of number)) state }
 {
     match Event::numbered(number) {
-        Some(event) => cell(event, state),
+        Some(event) => filled_cell(event, state),
         None => asked(NOT_APPLICABLE, state),
+    }
+}
+
+#[cfg(test)]
+mod tests {
+    use super::*;
+
+    // Table 7-8, E1 in S1 and S4, E2 in S4, E8 and E9 in S1, E27 in S6: actions and next state.
+    #[test]
+    fn cells_as_listed(rt: HostRuntime) {
+        let listed = [
+            (Event::E1, State::S1, 1),
+            (Event::E1, State::S4, 2),
+            (Event::E2, State::S4, 0),
+            (Event::E8, State::S1, 3),
+            (Event::E9, State::S1, 1),
+            (Event::E27, State::S6, 5),
+        ];
+        for (event, state, actions) in listed {
+            assert_eq!(rt; cell(event, state).actions.len(), actions, "{event:?}");
+        }
+        assert!(rt; matches!(cell(Event::E1, State::S1).actions, [Action::Ignore]));
+        assert!(rt;
+            matches!(
+                cell(Event::E1, State::S4).actions,
+                [Action::Confirm, Action::CancelTimer]
+            )
+        );
+        assert!(rt; matches!(cell(Event::E1, State::S4).next, Some(State::S1)));
+        assert!(rt; cell(Event::E2, State::S4).next.is_none());
+    }
+
+    // Filled up, the two words ask alike.
+    #[test]
+    fn cells_filled_up(rt: HostRuntime) {
+        let ignored = filled_cell(Event::E1, State::S1);
+        let not_applicable = filled_cell(Event::E2, State::S4);
+        assert!(rt;
+            matches!(
+                ignored.actions,
+                [
+                    Action::Ignore,
+                    Action::Ignore,
+                    Action::Ignore,
+                    Action::Ignore,
+                    Action::Ignore
+                ]
+            )
+        );
+        assert!(rt;
+            matches!(
+                not_applicable.actions,
+                [
+                    Action::Ignore,
+                    Action::Ignore,
+                    Action::Ignore,
+                    Action::Ignore,
+                    Action::Ignore
+                ]
+            )
+        );
+        assert!(rt; matches!(ignored.next, State::S1));
+        assert!(rt; matches!(not_applicable.next, State::S4));
     }
 }

@@ -9,292 +9,271 @@ use fop::Action::{
 use fop::Alert::{Clcw, Limit, Llif, Lockout, Nnr, Synch, T1, Term};
 use fop::State::{self, S1, S2, S3, S4, S5, S6};
 
-// A cell: its actions in their order, filled up with Ignore, and the next state; None keeps the state. No cell holds an address, so the
-// library keeps no variables, wherever it is loaded.
+// A cell: its actions in their order, and the next state; None keeps the state.
 #[derive(Clone, Copy)]
 pub struct TableCell {
-    pub actions: (Action, Action, Action, Action, Action),
+    pub actions: &'static [Action],
     pub next: Option<State>,
 }
 
 // "Not Applicable".
-pub const NOT_APPLICABLE: TableCell = TableCell {
-    actions: (Ignore, Ignore, Ignore, Ignore, Ignore),
+const NOT_APPLICABLE: TableCell = TableCell {
+    actions: &[],
     next: None,
 };
 
 // "Ignore", where the state stays.
 const IGNORED: TableCell = TableCell {
-    actions: (Ignore, Ignore, Ignore, Ignore, Ignore),
+    actions: &[Ignore],
     next: None,
 };
 
 const TO_ALERT_SYNCH: TableCell = TableCell {
-    actions: (Alert(Synch), Ignore, Ignore, Ignore, Ignore),
+    actions: &[Alert(Synch)],
     next: Some(S6),
 };
 
 const TO_ALERT_CLCW: TableCell = TableCell {
-    actions: (Alert(Clcw), Ignore, Ignore, Ignore, Ignore),
+    actions: &[Alert(Clcw)],
     next: Some(S6),
 };
 
 const TO_ALERT_LIMIT: TableCell = TableCell {
-    actions: (Alert(Limit), Ignore, Ignore, Ignore, Ignore),
+    actions: &[Alert(Limit)],
     next: Some(S6),
 };
 
 const TO_ALERT_NNR: TableCell = TableCell {
-    actions: (Alert(Nnr), Ignore, Ignore, Ignore, Ignore),
+    actions: &[Alert(Nnr)],
     next: Some(S6),
 };
 
 const TO_ALERT_LOCKOUT: TableCell = TableCell {
-    actions: (Alert(Lockout), Ignore, Ignore, Ignore, Ignore),
+    actions: &[Alert(Lockout)],
     next: Some(S6),
 };
 
 const TO_ALERT_T1: TableCell = TableCell {
-    actions: (Alert(T1), Ignore, Ignore, Ignore, Ignore),
+    actions: &[Alert(T1)],
     next: Some(S6),
 };
 
 const TO_ALERT_LLIF: TableCell = TableCell {
-    actions: (Alert(Llif), Ignore, Ignore, Ignore, Ignore),
+    actions: &[Alert(Llif)],
     next: Some(S6),
 };
 
 const CHECKED: TableCell = TableCell {
-    actions: (Confirm, CancelTimer, Ignore, Ignore, Ignore),
+    actions: &[Confirm, CancelTimer],
     next: Some(S1),
 };
 
 const CARRIED_OUT: TableCell = TableCell {
-    actions: (Confirm, ReleaseBcFrame, CancelTimer, Ignore, Ignore),
+    actions: &[Confirm, ReleaseBcFrame, CancelTimer],
     next: Some(S1),
 };
 
 const ALL_ACKNOWLEDGED: TableCell = TableCell {
-    actions: (
-        RemoveAcknowledgedFrames,
-        CancelTimer,
-        LookForFdu,
-        Ignore,
-        Ignore,
-    ),
+    actions: &[RemoveAcknowledgedFrames, CancelTimer, LookForFdu],
     next: Some(S1),
 };
 
 const SOME_ACKNOWLEDGED: TableCell = TableCell {
-    actions: (RemoveAcknowledgedFrames, LookForFdu, Ignore, Ignore, Ignore),
+    actions: &[RemoveAcknowledgedFrames, LookForFdu],
     next: Some(S1),
 };
 
 const ACKNOWLEDGED_LIMIT: TableCell = TableCell {
-    actions: (
-        RemoveAcknowledgedFrames,
-        Alert(Limit),
-        Ignore,
-        Ignore,
-        Ignore,
-    ),
+    actions: &[RemoveAcknowledgedFrames, Alert(Limit)],
     next: Some(S6),
 };
 
 const ACKNOWLEDGED_AGAIN: TableCell = TableCell {
-    actions: (
+    actions: &[
         RemoveAcknowledgedFrames,
         InitiateAdRetransmission,
         LookForFdu,
-        Ignore,
-        Ignore,
-    ),
+    ],
     next: Some(S2),
 };
 
 const ACKNOWLEDGED_WAIT: TableCell = TableCell {
-    actions: (RemoveAcknowledgedFrames, Ignore, Ignore, Ignore, Ignore),
+    actions: &[RemoveAcknowledgedFrames],
     next: Some(S3),
 };
 
+const AGAIN_TO_S2: TableCell = TableCell {
+    actions: &[InitiateAdRetransmission, LookForFdu],
+    next: Some(S2),
+};
+
 const AGAIN: TableCell = TableCell {
-    actions: (InitiateAdRetransmission, LookForFdu, Ignore, Ignore, Ignore),
+    actions: &[InitiateAdRetransmission, LookForFdu],
     next: None,
 };
 
-const AGAIN_TO_S2: TableCell = TableCell {
-    next: Some(S2),
-    ..AGAIN
-};
-
 const AGAIN_BC: TableCell = TableCell {
-    actions: (
-        InitiateBcRetransmission,
-        LookForDirective,
-        Ignore,
-        Ignore,
-        Ignore,
-    ),
+    actions: &[InitiateBcRetransmission, LookForDirective],
     next: None,
 };
 
 const TO_S2: TableCell = TableCell {
-    actions: (Ignore, Ignore, Ignore, Ignore, Ignore),
+    actions: &[Ignore],
     next: Some(S2),
 };
 
 const TO_S3: TableCell = TableCell {
-    actions: (Ignore, Ignore, Ignore, Ignore, Ignore),
+    actions: &[Ignore],
     next: Some(S3),
 };
 
 const SUSPEND_1: TableCell = TableCell {
-    actions: (SetSuspendState(1), Suspend, Ignore, Ignore, Ignore),
+    actions: &[SetSuspendState(1), Suspend],
     next: Some(S6),
 };
 
 const SUSPEND_2: TableCell = TableCell {
-    actions: (SetSuspendState(2), Suspend, Ignore, Ignore, Ignore),
+    actions: &[SetSuspendState(2), Suspend],
     next: Some(S6),
 };
 
 const SUSPEND_3: TableCell = TableCell {
-    actions: (SetSuspendState(3), Suspend, Ignore, Ignore, Ignore),
+    actions: &[SetSuspendState(3), Suspend],
     next: Some(S6),
 };
 
 const SUSPEND_4: TableCell = TableCell {
-    actions: (SetSuspendState(4), Suspend, Ignore, Ignore, Ignore),
+    actions: &[SetSuspendState(4), Suspend],
     next: Some(S6),
 };
 
 const ADD_AND_LOOK: TableCell = TableCell {
-    actions: (AddToWaitQueue, LookForFdu, Ignore, Ignore, Ignore),
+    actions: &[AddToWaitQueue, LookForFdu],
     next: None,
 };
 
 const ADD: TableCell = TableCell {
-    actions: (AddToWaitQueue, Ignore, Ignore, Ignore, Ignore),
+    actions: &[AddToWaitQueue],
     next: None,
 };
 
 const REJECTED_AD: TableCell = TableCell {
-    actions: (RejectAd, Ignore, Ignore, Ignore, Ignore),
+    actions: &[RejectAd],
     next: None,
 };
 
 const SEND_BD: TableCell = TableCell {
-    actions: (TransmitBd, Ignore, Ignore, Ignore, Ignore),
+    actions: &[TransmitBd],
     next: None,
 };
 
 const REJECTED_BD: TableCell = TableCell {
-    actions: (RejectBd, Ignore, Ignore, Ignore, Ignore),
+    actions: &[RejectBd],
     next: None,
 };
 
 const REJECTED: TableCell = TableCell {
-    actions: (Reject, Ignore, Ignore, Ignore, Ignore),
+    actions: &[Reject],
     next: None,
 };
 
 const INITIATE: TableCell = TableCell {
-    actions: (Accept, Initialise, Confirm, Ignore, Ignore),
+    actions: &[Accept, Initialise, Confirm],
     next: Some(S1),
 };
 
 const INITIATE_CHECK: TableCell = TableCell {
-    actions: (Accept, Initialise, StartTimer, Ignore, Ignore),
+    actions: &[Accept, Initialise, StartTimer],
     next: Some(S4),
 };
 
 const INITIATE_UNLOCK: TableCell = TableCell {
-    actions: (Accept, Initialise, TransmitUnlock, Ignore, Ignore),
+    actions: &[Accept, Initialise, TransmitUnlock],
     next: Some(S5),
 };
 
 const INITIATE_SET_VR: TableCell = TableCell {
-    actions: (Accept, Initialise, SetVs, SetNnr, TransmitSetVr),
+    actions: &[Accept, Initialise, SetVs, SetNnr, TransmitSetVr],
     next: Some(S5),
 };
 
 const TERMINATE: TableCell = TableCell {
-    actions: (Accept, Alert(Term), Confirm, Ignore, Ignore),
+    actions: &[Accept, Alert(Term), Confirm],
     next: Some(S6),
 };
 
 const TERMINATED: TableCell = TableCell {
-    actions: (Accept, Confirm, Ignore, Ignore, Ignore),
+    actions: &[Accept, Confirm],
     next: None,
 };
 
 const RESUME_1: TableCell = TableCell {
-    actions: (Accept, Resume, Confirm, Ignore, Ignore),
+    actions: &[Accept, Resume, Confirm],
     next: Some(S1),
 };
 
 const RESUME_2: TableCell = TableCell {
-    actions: (Accept, Resume, Confirm, Ignore, Ignore),
+    actions: &[Accept, Resume, Confirm],
     next: Some(S2),
 };
 
 const RESUME_3: TableCell = TableCell {
-    actions: (Accept, Resume, Confirm, Ignore, Ignore),
+    actions: &[Accept, Resume, Confirm],
     next: Some(S3),
 };
 
 const RESUME_4: TableCell = TableCell {
-    actions: (Accept, Resume, Confirm, Ignore, Ignore),
+    actions: &[Accept, Resume, Confirm],
     next: Some(S4),
 };
 
 const NUMBERS_SET: TableCell = TableCell {
-    actions: (Accept, SetVs, SetNnr, Confirm, Ignore),
+    actions: &[Accept, SetVs, SetNnr, Confirm],
     next: None,
 };
 
 const K_SET: TableCell = TableCell {
-    actions: (Accept, SetK, Confirm, Ignore, Ignore),
+    actions: &[Accept, SetK, Confirm],
     next: None,
 };
 
 const T1_SET: TableCell = TableCell {
-    actions: (Accept, SetT1Initial, Confirm, Ignore, Ignore),
+    actions: &[Accept, SetT1Initial, Confirm],
     next: None,
 };
 
 const LIMIT_SET: TableCell = TableCell {
-    actions: (Accept, SetTransmissionLimit, Confirm, Ignore, Ignore),
+    actions: &[Accept, SetTransmissionLimit, Confirm],
     next: None,
 };
 
 const TIMEOUT_TYPE_SET: TableCell = TableCell {
-    actions: (Accept, SetTimeoutType, Confirm, Ignore, Ignore),
+    actions: &[Accept, SetTimeoutType, Confirm],
     next: None,
 };
 
 const AD_READY_LOOK: TableCell = TableCell {
-    actions: (AdOutReady, LookForFdu, Ignore, Ignore, Ignore),
+    actions: &[AdOutReady, LookForFdu],
     next: None,
 };
 
 const AD_READY: TableCell = TableCell {
-    actions: (AdOutReady, Ignore, Ignore, Ignore, Ignore),
+    actions: &[AdOutReady],
     next: None,
 };
 
 const BC_READY_LOOK: TableCell = TableCell {
-    actions: (BcOutReady, LookForDirective, Ignore, Ignore, Ignore),
+    actions: &[BcOutReady, LookForDirective],
     next: None,
 };
 
 const BC_READY: TableCell = TableCell {
-    actions: (BcOutReady, Ignore, Ignore, Ignore, Ignore),
+    actions: &[BcOutReady],
     next: None,
 };
 
 const BD_READY: TableCell = TableCell {
-    actions: (BdOutReady, AcceptBd, Ignore, Ignore, Ignore),
+    actions: &[BdOutReady, AcceptBd],
     next: None,
 };
 

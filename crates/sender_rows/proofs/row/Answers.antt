@@ -5,8 +5,8 @@ use Rattle.fop.specs.declared.Event.{Event as FopEvent}
 use Rattle.fop.specs.Table.{table78, cell78}
 use Rattle.sender_values.specs.Actions.{to_state}
 use Rattle.sender_table.specs.Rows.{row_if}
-use Rattle.sender_table.specs.Cells.{asked_by}
-use Rattle.sender_table.proofs.Done.{asked_done, cell_row}
+use Rattle.sender_table.specs.Cells.{filled_by}
+use Rattle.sender_table.proofs.Done.{filled_asked_done, filled_row}
 use Rattle.sender_rows.proofs.row.Goals as goal
 
 pub returns-in_default : goal.returns-in_default
@@ -19,7 +19,7 @@ returns c =
     let a = c.args in
     let w = a.work in
     c.to_state.ensures
-    ∙ ap (to_state c.cell-asked.result.next) c.perform_all.ensures
-    ∙ ap (asked_done a.value w) (c.cell-asked.ensures ∙ ap (λ (e : FopEvent). asked_by (cell78 (table78 e) w.state) w.state) c.unless_suspended-chosen.ensures)
-    ∙ cell_row a.value w c.in-Some.event
+    ∙ ap (to_state c.filled_cell-asked.result.next) c.perform_all.ensures
+    ∙ ap (filled_asked_done a.value w) (c.filled_cell-asked.ensures ∙ ap (λ (e : FopEvent). filled_by (cell78 (table78 e) w.state) w.state) c.unless_suspended-chosen.ensures)
+    ∙ filled_row a.value w c.in-Some.event
     ∙ ap (λ (e : Option FopEvent). row_if e a.value w) (sym c.in-Some.is)
