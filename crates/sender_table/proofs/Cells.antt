@@ -50,7 +50,7 @@ module _ {C A : Type 0} (asks : C → State → A) (by_event : FopEvent → Stat
       ∙ get_or-map g events p E1 (f []) (place_below e)
       ∙ ap g (event_there e))
 
--- what the row of an event asks
+-- what the row of an event asks, as listed and filled up, and that the rows of the data ask the same
 abbrev by_event : FopEvent → State → Asked
 by_event e s = asked_by (cell78 (table78 e) s) s
 

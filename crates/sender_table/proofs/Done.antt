@@ -21,7 +21,7 @@ use Rattle.sender_table.proofs.Places.{event_there, place_below}
 use Rattle.sender_table.proofs.Cells.{six, of_six}
 
 -- two facts of all events, computed alike, are alike of each
-at_event : {A : Type 0} (f g : FopEvent → A) → map f events ≡ map g events → (e : FopEvent) → f e ≡ g e
+pub at_event : {A : Type 0} (f g : FopEvent → A) → map f events ≡ map g events → (e : FopEvent) → f e ≡ g e
 at_event f g alike e =
     let p = place_of e in
     ap f (sym (event_there e))
@@ -82,7 +82,7 @@ module _ (n : ℕ) (w : Work) where
 
   -- the same of five actions, filled up with Ignore
   abbrev pub filled_asked_done : CellAsked → Work
-  filled_asked_done a = to_state a.next (done_all a.actions n w)
+  filled_asked_done a = asked_done (record { actions = a.actions; next = a.next })
 
   pub filled_row : (e : FopEvent) → filled_asked_done (filled_by (cell78 (table78 (unless_suspended e w.variables.suspend_state)) w.state) w.state) ≡ row_of e n w
   unfolding filled_by

@@ -24,6 +24,12 @@ asked_by NotApplicable s = record { actions = []; next = s }
 asked_by (cell acts next) s = record { actions = acts; next = next }
 asked_by (if_not_suspended acts others next) s = record { actions = acts; next = next }
 
+-- the next state that a cell names, if it names one: "Not Applicable" does not
+unfoldable pub next_named : Cell → Option State
+next_named NotApplicable = None
+next_named (cell acts next) = Some next
+next_named (if_not_suspended acts others next) = Some next
+
 -- a cell of the table has at most five actions
 abbrev pub most_actions : ℕ
 most_actions = 5

@@ -7,7 +7,7 @@ pub mod table;
 
 ghost use Rattle.std.specs.Prelude.{◌≡◌};
 ghost use Rattle.fop.specs.Table.{event_of, as_code, table78, cell78};
-ghost use Rattle.sender_table.specs.Cells.{place_of, column_of, asked_in, asked_by, filled_in, filled_by, cell_if, Tells, TellsFilled};
+ghost use Rattle.sender_table.specs.Cells.{place_of, column_of, asked_in, asked_by, next_named, filled_in, filled_by, cell_if, Tells, TellsFilled};
 
 use crate::filled::{FilledCell, NOT_APPLICABLE};
 use crate::table::TableCell;
@@ -43,11 +43,18 @@ fn cell_in(rows: &[[TableCell; 6]; 50], event: Event, state: State) -> TableCell
     rows[place(event)][column(state)]
 }
 
-// The cell of an event in a state: "Not Applicable" has no action, "Ignore" has one.
+// The cell of an event in a state. "Not Applicable" has no action and names no next state; "Ignore" has one action, and the next state is named
+// where it is the state itself too.
 pub fn cell(event: Event, state: State) -> TableCell
-    ensures { asked_in result state ≡ asked_by (cell78 (table78 event) state) state }
+    ensures asked { asked_in result state ≡ asked_by (cell78 (table78 event) state) state }
+    ensures next { result.next ≡ next_named (cell78 (table78 event) state) }
 {
-    cell_in(table::ROWS, event, state)
+    let cell = cell_in(table::ROWS, event, state);
+    let next = match cell.actions {
+        [] => None,
+        _ => Some(cell.next.unwrap_or(state)),
+    };
+    TableCell { next, ..cell }
 }
 
 // What a filled cell of the data asks in a state.
@@ -89,7 +96,7 @@ pub fn cell_numbered(number: u8, state: State) -> CellAsked
 mod tests {
     use super::*;
 
-    // Table 7-8, E1 in S1 and S4, E2 in S4, E8 and E9 in S1, E27 in S6: actions and next state.
+    // Table 7-8: how many actions a cell lists, none where it is Not Applicable; for some of them which, and the next state.
     #[test]
     fn cells_as_listed(rt: HostRuntime) {
         let listed = [
@@ -104,6 +111,7 @@ mod tests {
             assert_eq!(rt; cell(event, state).actions.len(), actions, "{event:?}");
         }
         assert!(rt; matches!(cell(Event::E1, State::S1).actions, [Action::Ignore]));
+        assert!(rt; matches!(cell(Event::E1, State::S1).next, Some(State::S1)));
         assert!(rt;
             matches!(
                 cell(Event::E1, State::S4).actions,
@@ -111,38 +119,29 @@ mod tests {
             )
         );
         assert!(rt; matches!(cell(Event::E1, State::S4).next, Some(State::S1)));
+        assert!(rt; matches!(cell(Event::E9, State::S1).next, Some(State::S3)));
         assert!(rt; cell(Event::E2, State::S4).next.is_none());
     }
 
-    // Filled up, the two words ask alike.
+    // Filled up, "Ignore" and "Not Applicable" ask alike, and each keeps its state.
     #[test]
     fn cells_filled_up(rt: HostRuntime) {
         let ignored = filled_cell(Event::E1, State::S1);
         let not_applicable = filled_cell(Event::E2, State::S4);
-        assert!(rt;
-            matches!(
-                ignored.actions,
-                [
-                    Action::Ignore,
-                    Action::Ignore,
-                    Action::Ignore,
-                    Action::Ignore,
-                    Action::Ignore
-                ]
-            )
-        );
-        assert!(rt;
-            matches!(
-                not_applicable.actions,
-                [
-                    Action::Ignore,
-                    Action::Ignore,
-                    Action::Ignore,
-                    Action::Ignore,
-                    Action::Ignore
-                ]
-            )
-        );
+        for asked in [ignored, not_applicable] {
+            assert!(rt;
+                matches!(
+                    asked.actions,
+                    [
+                        Action::Ignore,
+                        Action::Ignore,
+                        Action::Ignore,
+                        Action::Ignore,
+                        Action::Ignore
+                    ]
+                )
+            );
+        }
         assert!(rt; matches!(ignored.next, State::S1));
         assert!(rt; matches!(not_applicable.next, State::S4));
     }
